@@ -1,0 +1,6 @@
+pub mod Bytes
+pub mod Text
+pub mod Line
+pub mod Reading
+pub mod Layout
+pub mod Writing

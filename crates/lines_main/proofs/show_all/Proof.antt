@@ -1,0 +1,99 @@
+-- `lines_main::show_all` ends: each text moves the place on within the input. Assumes nothing.
+use borrow.Author.Needs.{needs}
+use Prim.Native.Nat.{_-_, _≤_}
+use lib.ListN.{length}
+use Rattle.lines_main.proofs.show_all.Statement.{statement}
+use Rattle.lines_main.proofs.show_all.Tie as tie
+
+abbrev Inv-loop : tie.InvT-loop
+Inv-loop input at₀ t6 t7 at = at ≤ length input
+
+abbrev μ-loop : tie.MeasureT-loop
+μ-loop input at₀ t6 t7 at = length input - at
+
+loop-holds : tie.Need-loop-holds Inv-loop μ-loop
+loop-holds c = search needs
+
+part-end-requires : tie.Need-part-end-requires Inv-loop μ-loop
+part-end-requires c κs = search needs
+
+slice-aggregate-write-all : tie.Need-slice-aggregate-write-all Inv-loop μ-loop
+slice-aggregate-write-all c = search needs
+
+write-all-requires : tie.Need-write-all-requires Inv-loop μ-loop
+write-all-requires c κs = search needs
+
+sub-write-all : tie.Need-sub-write-all Inv-loop μ-loop
+sub-write-all c = search needs
+
+part-write-all-start : tie.Need-part-write-all-start Inv-loop μ-loop
+part-write-all-start c = search needs
+
+part-write-all-end : tie.Need-part-write-all-end Inv-loop μ-loop
+part-write-all-end c = search needs
+
+write-all-requires-2 : tie.Need-write-all-requires-2 Inv-loop μ-loop
+write-all-requires-2 c κs = search needs
+
+slice-aggregate-write-all-2 : tie.Need-slice-aggregate-write-all-2 Inv-loop μ-loop
+slice-aggregate-write-all-2 c = search needs
+
+write-all-requires-3 : tie.Need-write-all-requires-3 Inv-loop μ-loop
+write-all-requires-3 c κs = search needs
+
+after-requires : tie.Need-after-requires Inv-loop μ-loop
+after-requires c κs = search needs
+
+part-end-requires-2 : tie.Need-part-end-requires-2 Inv-loop μ-loop
+part-end-requires-2 c κs = search needs
+
+sub-show-text : tie.Need-sub-show-text Inv-loop μ-loop
+sub-show-text c = search needs
+
+part-show-text-start : tie.Need-part-show-text-start Inv-loop μ-loop
+part-show-text-start c = search needs
+
+part-show-text-end : tie.Need-part-show-text-end Inv-loop μ-loop
+part-show-text-end c = search needs
+
+show-text-requires : tie.Need-show-text-requires Inv-loop μ-loop
+show-text-requires c κs = search needs
+
+after-requires-2 : tie.Need-after-requires-2 Inv-loop μ-loop
+after-requires-2 c κs = search needs
+
+loop-less : tie.Need-loop-less Inv-loop μ-loop
+loop-less c = search needs
+
+loop-again : tie.Need-loop-again Inv-loop μ-loop
+loop-again c = search needs
+
+returns : tie.Need-returns Inv-loop μ-loop
+returns c = search needs
+
+pub show-all-spec : {M : Type 1} → statement M
+show-all-spec =
+    tie.close
+    (tie.spec
+    Inv-loop
+    μ-loop
+    loop-holds
+    part-end-requires
+    slice-aggregate-write-all
+    write-all-requires
+    sub-write-all
+    part-write-all-start
+    part-write-all-end
+    write-all-requires-2
+    slice-aggregate-write-all-2
+    write-all-requires-3
+    after-requires
+    part-end-requires-2
+    sub-show-text
+    part-show-text-start
+    part-show-text-end
+    show-text-requires
+    after-requires-2
+    loop-less
+    loop-again
+    returns)
