@@ -1,0 +1,108 @@
+-- A value that passes its kind is read as what it means, and a drift lies between -9999 and 9999. Assumes nothing.
+use mathlib.Core.Path.{_≡_, refl, sym, ap}
+use mathlib.Core.Bool.{Bool, true, false, _&&_, false≢true}
+use mathlib.Core.List.{List, [], _∷_}
+use Prim.Native.Nat.{ℕ, zero, suc, _+_, _≤_, zero-le}
+use native.Mathlib.Omega.{arith}
+use borrow.Author.Tests.{le-leb, ne-eqb}
+use lib.Dec.{leb, le→leb}
+use lib.IntN.{ℤ, pos, negsuc, negℤ, natAbs}
+use lib.Signed.{_≤ℤ_, leZ-yes}
+use lib.ListN.{length, take, drop, length-take, length-drop}
+use Rattle.lines.proofs.Bools.{and-left, and-right}
+use Rattle.kinds.specs.Kind.{N, D, Deriva, Revs, DataPrimaImm}
+use Rattle.kinds.specs.Digits.{isDigit, allDigits, number, numberFrom}
+use Rattle.kinds.specs.Value.{isNumber, isFixed, pointPlace, isYear, isGregorian, isDay, isFirstDate, isFirstDay, startsWith, isDrift, areDigits, dayOf, monthOf, yearOf, kindOk}
+use Rattle.kinds.specs.Meaning.{numberRead, hundredths, signed, drift, driftRead, revs, revsRead, dayNumber, dayRead}
+use Rattle.kinds.specs.declared.NumberRead.the-variants as NumberRead
+use Rattle.kinds.specs.declared.DriftRead.{DriftRead}
+use Rattle.kinds.specs.declared.DriftRead.the-variants as DriftRead
+use Rattle.kinds.specs.declared.RevsRead.the-variants as RevsRead
+use Rattle.kinds.proofs.Laws.{digit, FixedPoint, fixed-point, number-long, number-short, number-all, by-test}
+
+module _ (v : List ℕ) where
+  pub number-reads : (w : ℕ) → w ≤ 9 → kindOk (N w) v ≡ true → numberRead v ≡ NumberRead.Of (number v)
+  unfolding kindOk numberRead isNumber
+  number-reads w h e = rw (le-leb 1 (length v) (number-long w v e), le-leb (length v) 9 (omega (arith, number-short w v e)), number-all w v e)
+
+  pub drift-reads : kindOk Deriva v ≡ true → driftRead v ≡ DriftRead.Of (drift v)
+  unfolding kindOk driftRead
+  drift-reads e = rw e
+
+  pub revs-reads : kindOk Revs v ≡ true → revsRead v ≡ RevsRead.Of (revs v)
+  unfolding kindOk revsRead
+  revs-reads e = rw e
+
+  pub first-day-reads : kindOk DataPrimaImm v ≡ true → dayRead v ≡ NumberRead.Of (dayNumber v)
+  unfolding kindOk dayRead
+  first-day-reads e = rw e
+
+-- a Gregorian day is not day 00
+gregorian-first : (d m y : ℕ) → isGregorian d m y ≡ true → isFirstDate d m y ≡ true
+unfolding isFirstDate isGregorian
+gregorian-first zero m y e =
+    let f = and-right (leb m 12) _ (and-right (leb 1 m) _ (and-right (isYear y) _ e)) in
+    absurd (false≢true f)
+gregorian-first (suc d) m y e = rw (ne-eqb (suc d) 0 (λ q. omega arith)) e
+
+-- a D is a DataPrimaImm too
+pub day-first-day : (v : List ℕ) → kindOk D v ≡ true → kindOk DataPrimaImm v ≡ true
+unfolding kindOk isDay isFirstDay
+day-first-day v e =
+    rw (and-left (areDigits 8 v) _ e) (gregorian-first (dayOf v) (monthOf v) (yearOf v) (and-right (areDigits 8 v) _ e))
+
+pub day-reads : (v : List ℕ) → kindOk D v ≡ true → dayRead v ≡ NumberRead.Of (dayNumber v)
+day-reads v e = first-day-reads v (day-first-day v e)
+
+-- at most two digits are at most 99
+two-digits : (l : List ℕ) → length l ≤ 2 → allDigits l ≡ true → number l ≤ 99
+unfolding allDigits numberFrom
+two-digits [] h e = omega arith
+two-digits (a ∷ []) h e = omega (arith, digit a (and-left (isDigit a) true e))
+two-digits (a ∷ b ∷ []) h e =
+    omega (arith, digit a (and-left (isDigit a) _ e), digit b (and-left (isDigit b) true (and-right (isDigit a) (isDigit b && true) e)))
+two-digits (a ∷ b ∷ x ∷ l) h e = absurd (omega arith)
+
+hundredths-most : (v : List ℕ) → isFixed 2 5 v ≡ true → hundredths v ≤ 9999
+unfolding hundredths
+hundredths-most v e =
+    let f : FixedPoint 2 5 v = fixed-point 2 5 v e in
+    let p : ℕ = pointPlace 2 v in
+    let a : number (take p v) ≤ 99 = two-digits (take p v) (simp length-take (omega (arith, f))) (f .before) in
+    let b : number (drop (p + 1) v) ≤ 99 = two-digits (drop (p + 1) v) (simp length-drop (omega (arith, f))) (f .after) in
+    omega arith
+
+abs-signed : (m : Bool) (n : ℕ) → natAbs (signed m n) ≡ n
+unfolding signed
+abs-signed true zero = refl
+abs-signed true (suc n) = refl
+abs-signed false n = refl
+
+-- the size of a drift
+pub drift-size : (v : List ℕ) → kindOk Deriva v ≡ true → natAbs (drift v) ≤ 9999
+unfolding kindOk isDrift drift
+drift-size v e =
+    by-test (startsWith 45 v)
+    (λ h. rw (h, abs-signed true (hundredths (drop 1 v))) (hundredths-most (drop 1 v) (rw h at e)))
+    (λ h. rw (h, abs-signed false (hundredths v)) (hundredths-most v (rw h at e)))
+
+-- what a reader answered
+abbrev hundredthsOf : DriftRead → ℤ
+hundredthsOf (DriftRead.Of z) = z
+hundredthsOf DriftRead.Wrong = pos 0
+
+-- a drift that reads
+pub drift-read-size : (v : List ℕ) (z : ℤ) → driftRead v ≡ DriftRead.Of z → natAbs z ≤ 9999
+unfolding driftRead kindOk
+drift-read-size v z e =
+    by-test (isDrift v)
+    (λ h. rw (sym (ap hundredthsOf (rw h at e))) (drift-size v h))
+    (λ h. rw (sym (ap hundredthsOf (rw h at e))) (zero-le))
+
+-- a drift that reads is -9999 to 9999
+pub drift-ends : (v : List ℕ) (z : ℤ) → driftRead v ≡ DriftRead.Of z → (negℤ (pos 9999) ≤ℤ z) × (z ≤ℤ pos 9999)
+drift-ends v z e = ends z (drift-read-size v z e)
+  where
+    ends : (z : ℤ) → natAbs z ≤ 9999 → (negℤ (pos 9999) ≤ℤ z) × (z ≤ℤ pos 9999)
+    ends (pos n) h = (leZ-yes tt, leZ-yes (le→leb n 9999 h))
+    ends (negsuc n) h = (leZ-yes (le→leb n 9998 (omega arith)), leZ-yes tt)

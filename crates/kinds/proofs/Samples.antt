@@ -1,0 +1,50 @@
+-- Samples of 01, Established samples, by computation. Assumes nothing.
+use mathlib.Core.Path.{_≡_, refl}
+use mathlib.Core.Bool.{true, false}
+use lib.IntN.{pos, negℤ}
+use Rattle.lines.specs.Text.{bytes}
+use Rattle.kinds.specs.Kind.{D, H, Deriva, Revs, DataPrimaImm}
+use Rattle.kinds.specs.Digits.{allDigits, numberFrom}
+use Rattle.kinds.specs.Value.{isNumber, isFixed, isLeap, daysIn, isYear, isGregorian, areDigits, isDay, isTime, startsWith, isDrift, isRevs, isFirstDate, isFirstDay, kindOk}
+use Rattle.kinds.specs.Meaning.{hundredths, signed, drift, driftRead}
+use Rattle.kinds.specs.declared.DriftRead.the-variants as DriftRead
+
+-- `-5.00` is -500; `99.99` is 9999; `100.00` no Deriva
+module _ where
+  pub drift-minus : driftRead (bytes "-5.00") ≡ DriftRead.Of (negℤ (pos 500))
+  unfolding driftRead isDrift drift startsWith isFixed hundredths signed allDigits numberFrom
+  drift-minus = refl
+
+  pub drift-most : driftRead (bytes "99.99") ≡ DriftRead.Of (pos 9999)
+  unfolding driftRead isDrift drift startsWith isFixed hundredths signed allDigits numberFrom
+  drift-most = refl
+
+  pub drift-three : kindOk Deriva (bytes "100.00") ≡ false
+  unfolding kindOk isDrift startsWith isFixed allDigits
+  drift-three = refl
+
+-- 00031994 yes, 02001997 no; 29022000 yes, 29021900 no
+pub first-day-unknown : kindOk DataPrimaImm (bytes "00031994") ≡ true
+unfolding kindOk isFirstDay areDigits isFirstDate isYear allDigits numberFrom
+first-day-unknown = refl
+
+pub first-month-unknown : kindOk DataPrimaImm (bytes "02001997") ≡ false
+unfolding kindOk isFirstDay areDigits isFirstDate isGregorian isYear daysIn isLeap allDigits numberFrom
+first-month-unknown = refl
+
+pub leap-2000 : kindOk D (bytes "29022000") ≡ true
+unfolding kindOk isDay areDigits isGregorian isYear daysIn isLeap allDigits numberFrom
+leap-2000 = refl
+
+pub leap-1900 : kindOk D (bytes "29021900") ≡ false
+unfolding kindOk isDay areDigits isGregorian isYear daysIn isLeap allDigits numberFrom
+leap-1900 = refl
+
+-- 240000 no H; `#850` revs
+pub hour-24 : kindOk H (bytes "240000") ≡ false
+unfolding kindOk isTime areDigits allDigits numberFrom
+hour-24 = refl
+
+pub revs-by-hand : kindOk Revs (bytes "#850") ≡ true
+unfolding kindOk isRevs startsWith isNumber allDigits
+revs-by-hand = refl

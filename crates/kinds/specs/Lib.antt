@@ -1,0 +1,4 @@
+pub mod Kind
+pub mod Digits
+pub mod Value
+pub mod Meaning

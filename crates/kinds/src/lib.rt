@@ -1,0 +1,614 @@
+// Kinds of value (01, Kinds of value): judges and readers of a value's own bytes.
+ghost use mathlib.Core.Path.{_≡_};
+ghost use mathlib.Core.Bool.{true};
+ghost use Prim.Native.Nat.{_+_, _≤_, _<_, _^_};
+ghost use lib.ListN.{length, take, drop};
+ghost use Rattle.kinds.specs.Kind.{kindOf, words, vehicleTypes, categories, yesNo, petrolDirectives, brakeControls, links, gasLinks, counterLinks};
+ghost use Rattle.kinds.specs.Digits.{isDigit, allDigits, number as Digits·number};
+ghost use Rattle.kinds.specs.Value.{isString, isExact, isNumber, isFixed, isLeap, daysIn, isYear, isGregorian, areDigits, isDay, isTime, wordIndex, isWordAt, isWord, wordsOf, startsWith, isDrift, isRevs, isFirstDate, isFirstDay, isSorN, allSorN, isPositions, kindOk, kindKept};
+ghost use Rattle.kinds.specs.Meaning.{numberRead, hundredths as Meaning·hundredths, signed as Meaning·signed, signedRead, driftRead, unmarkedRead, revsRead, dayNumber, dayRead};
+
+// A number, or that the value is no such number.
+pub enum NumberRead {
+    Of(u32),
+    Wrong,
+}
+
+// A drift in hundredths of a metre per kilometre.
+pub enum DriftRead {
+    Of(i32),
+    Wrong,
+}
+
+pub struct Revs {
+    pub number: u32,
+}
+
+pub enum RevsRead {
+    Of(Revs),
+    Wrong,
+}
+
+pub fn is_digit(c: u8) -> bool
+    ensures { λ r. ⌜ r ≡ isDigit c ⌝ }
+{
+    match c {
+        b'0'..=b'9' => true,
+        _ => false,
+    }
+}
+
+pub fn all_digits(part: &[u8]) -> bool
+    ensures { λ r. ⌜ r ≡ allDigits (now (part .entry)) ⌝ }
+{
+    let mut i = 0;
+    while i < part.len() {
+        if !is_digit(part[i]) {
+            return false;
+        }
+        i += 1;
+    }
+    true
+}
+
+// The number that digits spell: nine of them fit.
+fn number(part: &[u8]) -> u32
+    requires { ⌜ (length (now part) ≤ 9) × (allDigits (now part) ≡ true) ⌝ }
+    ensures { λ r. ⌜ (r ≡ Digits·number (now (part .entry))) × (r < 10 ^ length (now (part .entry))) ⌝ }
+{
+    let mut n: u32 = 0;
+    let mut i = 0;
+    while i < part.len() {
+        n = n * 10 + ((part[i] - b'0') as u32);
+        i += 1;
+    }
+    n
+}
+
+// S w
+pub fn is_string(value: &[u8], width: usize) -> bool
+    ensures { λ r. ⌜ r ≡ isString width (now (value .entry)) ⌝ }
+{
+    if value.len() < 1 {
+        return false;
+    }
+    if value.len() > width {
+        return false;
+    }
+    lines::all_printable(value)
+}
+
+// C w
+pub fn is_exact(value: &[u8], width: usize) -> bool
+    ensures { λ r. ⌜ r ≡ isExact width (now (value .entry)) ⌝ }
+{
+    if value.len() < 1 {
+        return false;
+    }
+    if value.len() != width {
+        return false;
+    }
+    lines::all_printable(value)
+}
+
+// N w
+pub fn is_number(value: &[u8], width: usize) -> bool
+    ensures { λ r. ⌜ r ≡ isNumber width (now (value .entry)) ⌝ }
+{
+    if value.len() < 1 {
+        return false;
+    }
+    if value.len() > width {
+        return false;
+    }
+    all_digits(value)
+}
+
+// N(d) w
+fn is_fixed(value: &[u8], decimals: usize, width: usize) -> bool
+    requires { ⌜ decimals < 16 ⌝ }
+    ensures { λ r. ⌜ r ≡ isFixed decimals width (now (value .entry)) ⌝ }
+{
+    let n = value.len();
+    if n < decimals + 2 {
+        return false;
+    }
+    if n > width {
+        return false;
+    }
+    let p = n - decimals - 1;
+    if value[p] != b'.' {
+        return false;
+    }
+    if !all_digits(&value[..p]) {
+        return false;
+    }
+    all_digits(&value[p + 1..])
+}
+
+fn is_leap(year: u32) -> bool
+    ensures { λ r. ⌜ r ≡ isLeap year ⌝ }
+{
+    if year % 4 != 0 {
+        return false;
+    }
+    if year % 100 != 0 {
+        return true;
+    }
+    year % 400 == 0
+}
+
+fn days_in(year: u32, month: u32) -> u32
+    ensures { λ r. ⌜ r ≡ daysIn year month ⌝ }
+{
+    match month {
+        2 => if is_leap(year) { 29 } else { 28 },
+        4 | 6 | 9 | 11 => 30,
+        _ => 31,
+    }
+}
+
+fn is_year(year: u32) -> bool
+    ensures { λ r. ⌜ r ≡ isYear year ⌝ }
+{
+    match year {
+        1900..=2099 => true,
+        _ => false,
+    }
+}
+
+fn is_gregorian(day: u32, month: u32, year: u32) -> bool
+    ensures { λ r. ⌜ r ≡ isGregorian day month year ⌝ }
+{
+    if !is_year(year) {
+        return false;
+    }
+    match month {
+        1..=12 => {
+            if day < 1 {
+                return false;
+            }
+            day <= days_in(year, month)
+        }
+        _ => false,
+    }
+}
+
+// Exactly `count` digits.
+pub fn are_digits(value: &[u8], count: usize) -> bool
+    ensures { λ r. ⌜ r ≡ areDigits count (now (value .entry)) ⌝ }
+{
+    if value.len() != count {
+        return false;
+    }
+    all_digits(value)
+}
+
+// The number that `count` digits spell, from place `at` on.
+fn number_at(value: &[u8], at: usize, count: usize) -> u32
+    requires { ⌜ (at + count ≤ length (now value)) × (count ≤ 9) × (allDigits (now value) ≡ true) ⌝ }
+    ensures { λ r. ⌜ (r ≡ Digits·number (take count (drop at (now (value .entry))))) × (r < 10 ^ count) ⌝ }
+{
+    number(&value[at..at + count])
+}
+
+// D
+pub fn is_day(value: &[u8]) -> bool
+    ensures { λ r. ⌜ r ≡ isDay (now (value .entry)) ⌝ }
+{
+    if !are_digits(value, 8) {
+        return false;
+    }
+    is_gregorian(
+        number_at(value, 0, 2),
+        number_at(value, 2, 2),
+        number_at(value, 4, 4),
+    )
+}
+
+// H
+pub fn is_time(value: &[u8]) -> bool
+    ensures { λ r. ⌜ r ≡ isTime (now (value .entry)) ⌝ }
+{
+    if !are_digits(value, 6) {
+        return false;
+    }
+    let hour = number_at(value, 0, 2);
+    let minute = number_at(value, 2, 2);
+    let second = number_at(value, 4, 2);
+    if hour > 23 {
+        return false;
+    }
+    if minute > 59 {
+        return false;
+    }
+    second <= 59
+}
+
+// A day of DataPrimaImm: 00 is a day that is not known, and with it month 00 one that is not known.
+fn is_first_date(day: u32, month: u32, year: u32) -> bool
+    ensures { λ r. ⌜ r ≡ isFirstDate day month year ⌝ }
+{
+    if day == 0 {
+        if !is_year(year) {
+            return false;
+        }
+        match month {
+            0..=12 => true,
+            _ => false,
+        }
+    } else {
+        is_gregorian(day, month, year)
+    }
+}
+
+// DataPrimaImm
+pub fn is_first_day(value: &[u8]) -> bool
+    ensures { λ r. ⌜ r ≡ isFirstDay (now (value .entry)) ⌝ }
+{
+    if !are_digits(value, 8) {
+        return false;
+    }
+    is_first_date(
+        number_at(value, 0, 2),
+        number_at(value, 2, 2),
+        number_at(value, 4, 4),
+    )
+}
+
+fn starts_with(value: &[u8], mark: u8) -> bool
+    ensures { λ r. ⌜ r ≡ startsWith mark (now (value .entry)) ⌝ }
+{
+    if value.len() < 1 {
+        return false;
+    }
+    value[0] == mark
+}
+
+// Deriva
+pub fn is_drift(value: &[u8]) -> bool
+    ensures { λ r. ⌜ r ≡ isDrift (now (value .entry)) ⌝ }
+{
+    if starts_with(value, b'-') {
+        is_fixed(&value[1..], 2, 5)
+    } else {
+        is_fixed(value, 2, 5)
+    }
+}
+
+// revs
+pub fn is_revs(value: &[u8]) -> bool
+    ensures { λ r. ⌜ r ≡ isRevs (now (value .entry)) ⌝ }
+{
+    if starts_with(value, b'#') {
+        is_number(&value[1..], 5)
+    } else {
+        is_number(value, 5)
+    }
+}
+
+fn is_s_or_n(c: u8) -> bool
+    ensures { λ r. ⌜ r ≡ isSorN c ⌝ }
+{
+    match c {
+        b'S' | b'N' => true,
+        _ => false,
+    }
+}
+
+fn all_s_or_n(part: &[u8]) -> bool
+    ensures { λ r. ⌜ r ≡ allSorN (now (part .entry)) ⌝ }
+{
+    let mut i = 0;
+    while i < part.len() {
+        if !is_s_or_n(part[i]) {
+            return false;
+        }
+        i += 1;
+    }
+    true
+}
+
+// PosAssiStaz
+pub fn is_positions(value: &[u8]) -> bool
+    ensures { λ r. ⌜ r ≡ isPositions (now (value .entry)) ⌝ }
+{
+    if value.len() != 9 {
+        return false;
+    }
+    all_s_or_n(value)
+}
+
+// Whether a value is the word at place k of its list: a function for each list, and past the list's end none.
+fn is_vehicle_type_at(k: usize, value: &[u8]) -> bool
+    ensures { λ r. ⌜ r ≡ isWordAt (words vehicleTypes) k (now (value .entry)) ⌝ }
+{
+    match k {
+        0 => lines::equal(value, b"LEGGERO"),
+        1 => lines::equal(value, b"PESANTE"),
+        2 => lines::equal(value, b"MOTOVEICOLO"),
+        _ => false,
+    }
+}
+
+fn is_category_at(k: usize, value: &[u8]) -> bool
+    ensures { λ r. ⌜ r ≡ isWordAt (words categories) k (now (value .entry)) ⌝ }
+{
+    match k {
+        0 => lines::equal(value, b"M1"),
+        1 => lines::equal(value, b"M2"),
+        2 => lines::equal(value, b"M3"),
+        3 => lines::equal(value, b"N1"),
+        4 => lines::equal(value, b"N2"),
+        5 => lines::equal(value, b"N3"),
+        6 => lines::equal(value, b"O1"),
+        7 => lines::equal(value, b"O2"),
+        8 => lines::equal(value, b"O3"),
+        9 => lines::equal(value, b"O4"),
+        10 => lines::equal(value, b"L1e"),
+        11 => lines::equal(value, b"L2e"),
+        12 => lines::equal(value, b"L3e"),
+        13 => lines::equal(value, b"L4e"),
+        14 => lines::equal(value, b"L5e"),
+        15 => lines::equal(value, b"L6e"),
+        16 => lines::equal(value, b"L7e"),
+        _ => false,
+    }
+}
+
+fn is_yes_no_at(k: usize, value: &[u8]) -> bool
+    ensures { λ r. ⌜ r ≡ isWordAt (words yesNo) k (now (value .entry)) ⌝ }
+{
+    match k {
+        0 => lines::equal(value, b"S"),
+        1 => lines::equal(value, b"N"),
+        _ => false,
+    }
+}
+
+fn is_petrol_directive_at(k: usize, value: &[u8]) -> bool
+    ensures { λ r. ⌜ r ≡ isWordAt (words petrolDirectives) k (now (value .entry)) ⌝ }
+{
+    match k {
+        0 => lines::equal(value, b"NESSUNA"),
+        1 => lines::equal(value, b"RT1902"),
+        2 => lines::equal(value, b"91/441/CEE"),
+        3 => lines::equal(value, b"98/69/CE"),
+        _ => false,
+    }
+}
+
+fn is_brake_control_at(k: usize, value: &[u8]) -> bool
+    ensures { λ r. ⌜ r ≡ isWordAt (words brakeControls) k (now (value .entry)) ⌝ }
+{
+    match k {
+        0 => lines::equal(value, b"MANO"),
+        1 => lines::equal(value, b"PEDALE"),
+        2 => lines::equal(value, b"ELETTRICO"),
+        3 => lines::equal(value, b"NON PRESENTE"),
+        _ => false,
+    }
+}
+
+fn is_link_at(k: usize, value: &[u8]) -> bool
+    ensures { λ r. ⌜ r ≡ isWordAt (words links) k (now (value .entry)) ⌝ }
+{
+    match k {
+        0 => lines::equal(value, b"DIR"),
+        1 => lines::equal(value, b"RETE"),
+        _ => false,
+    }
+}
+
+fn is_gas_link_at(k: usize, value: &[u8]) -> bool
+    ensures { λ r. ⌜ r ≡ isWordAt (words gasLinks) k (now (value .entry)) ⌝ }
+{
+    match k {
+        0 => lines::equal(value, b"DIR"),
+        1 => lines::equal(value, b"RETE"),
+        2 => lines::equal(value, b"RS SENZA ESITO"),
+        _ => false,
+    }
+}
+
+fn is_counter_link_at(k: usize, value: &[u8]) -> bool
+    ensures { λ r. ⌜ r ≡ isWordAt (words counterLinks) k (now (value .entry)) ⌝ }
+{
+    match k {
+        0 => lines::equal(value, b"ESTERNO"),
+        1 => lines::equal(value, b"INTEGRATO"),
+        _ => false,
+    }
+}
+
+fn is_word_at(list: u8, k: usize, value: &[u8]) -> bool
+    ensures { λ r. ⌜ r ≡ isWordAt (wordsOf list) k (now (value .entry)) ⌝ }
+{
+    match list {
+        0 => is_vehicle_type_at(k, value),
+        1 => is_category_at(k, value),
+        2 => is_yes_no_at(k, value),
+        3 => is_petrol_directive_at(k, value),
+        4 => is_brake_control_at(k, value),
+        5 => is_link_at(k, value),
+        6 => is_gas_link_at(k, value),
+        7 => is_counter_link_at(k, value),
+        _ => false,
+    }
+}
+
+fn word_count(list: u8) -> usize
+    ensures { λ r. ⌜ r ≡ length (wordsOf list) ⌝ }
+{
+    match list {
+        0 => 3,
+        1 => 17,
+        2 => 2,
+        3 => 4,
+        4 => 4,
+        5 => 2,
+        6 => 3,
+        7 => 2,
+        _ => 0,
+    }
+}
+
+// The place of a value among the words of a list, by the list's number; their count where it is none of them.
+pub fn word_index(list: u8, value: &[u8]) -> usize
+    ensures { λ r. ⌜ r ≡ wordIndex (wordsOf list) (now (value .entry)) ⌝ }
+{
+    let count = word_count(list);
+    let mut k = 0;
+    while k < count {
+        if is_word_at(list, k, value) {
+            return k;
+        }
+        k += 1;
+    }
+    count
+}
+
+// a word
+pub fn is_word(list: u8, value: &[u8]) -> bool
+    ensures { λ r. ⌜ r ≡ isWord (wordsOf list) (now (value .entry)) ⌝ }
+{
+    word_index(list, value) < word_count(list)
+}
+
+// The judge of a value by the number of its kind; a number that no kind has lets no value in.
+pub fn kind_ok(kind: u8, value: &[u8]) -> bool
+    ensures { λ r. ⌜ r ≡ kindOk (kindOf kind) (now (value .entry)) ⌝ }
+{
+    match kind {
+        0 => is_string(value, 10),
+        1 => is_string(value, 64),
+        2 => is_string(value, 92),
+        3 => is_string(value, 320),
+        4 => is_exact(value, 4),
+        5 => is_exact(value, 5),
+        6 => is_exact(value, 172),
+        7 => is_number(value, 1),
+        8 => is_number(value, 2),
+        9 => is_number(value, 3),
+        10 => is_number(value, 5),
+        11 => is_fixed(value, 3, 5),
+        12 => is_fixed(value, 2, 5),
+        13 => is_day(value),
+        14 => is_time(value),
+        15 => is_drift(value),
+        16 => is_revs(value),
+        17 => is_first_day(value),
+        18 => are_digits(value, 4),
+        19 => is_positions(value),
+        20 => is_word(0, value),
+        21 => is_word(1, value),
+        22 => is_word(2, value),
+        23 => is_word(3, value),
+        24 => is_word(4, value),
+        25 => is_word(5, value),
+        26 => is_word(6, value),
+        27 => is_word(7, value),
+        _ => false,
+    }
+}
+
+// Whether a value is empty, or filled and of its kind.
+pub fn kind_kept(kind: u8, value: &[u8]) -> bool
+    ensures { λ r. ⌜ r ≡ kindKept (kindOf kind) (now (value .entry)) ⌝ }
+{
+    if value.len() == 0 {
+        return true;
+    }
+    kind_ok(kind, value)
+}
+
+// A number of 1 to 9 digits.
+pub fn read_number(value: &[u8]) -> NumberRead
+    ensures { λ r. ⌜ r ≡ numberRead (now (value .entry)) ⌝ }
+{
+    if is_number(value, 9) {
+        return NumberRead::Of(number(value));
+    }
+    NumberRead::Wrong
+}
+
+// The hundredths that one or two digits, a point and two digits spell.
+fn hundredths(value: &[u8]) -> u32
+    requires { ⌜ isFixed 2 5 (now value) ≡ true ⌝ }
+    ensures { λ r. ⌜ (r ≡ Meaning·hundredths (now (value .entry))) × (r < 10000) ⌝ }
+{
+    let p = value.len() - 2 - 1;
+    let whole = number(&value[..p]);
+    let rest = number(&value[p + 1..]);
+    whole * 100 + rest
+}
+
+fn signed(minus: bool, n: u32) -> i32
+    requires { ⌜ n < 10000 ⌝ }
+    ensures { λ r. ⌜ r ≡ Meaning·signed minus n ⌝ }
+{
+    if minus { 0 - (n as i32) } else { n as i32 }
+}
+
+// A drift without its sign, and whether a minus stood before it.
+fn read_signed(minus: bool, value: &[u8]) -> DriftRead
+    ensures { λ r. ⌜ r ≡ signedRead minus (now (value .entry)) ⌝ }
+{
+    if is_fixed(value, 2, 5) {
+        return DriftRead::Of(signed(minus, hundredths(value)));
+    }
+    DriftRead::Wrong
+}
+
+// A drift as hundredths of a metre per kilometre.
+pub fn read_drift(value: &[u8]) -> DriftRead
+    ensures { λ r. ⌜ r ≡ driftRead (now (value .entry)) ⌝ }
+{
+    if starts_with(value, b'-') {
+        read_signed(true, &value[1..])
+    } else {
+        read_signed(false, value)
+    }
+}
+
+fn read_unmarked(value: &[u8]) -> RevsRead
+    ensures { λ r. ⌜ r ≡ unmarkedRead (now (value .entry)) ⌝ }
+{
+    if is_number(value, 5) {
+        return RevsRead::Of(Revs {
+            number: number(value),
+        });
+    }
+    RevsRead::Wrong
+}
+
+// The revolutions per minute, without the mark of an entry by hand.
+pub fn read_revs(value: &[u8]) -> RevsRead
+    ensures { λ r. ⌜ r ≡ revsRead (now (value .entry)) ⌝ }
+{
+    if starts_with(value, b'#') {
+        read_unmarked(&value[1..])
+    } else {
+        read_unmarked(value)
+    }
+}
+
+// A day of D or DataPrimaImm as the number yyyymmdd.
+pub fn read_day(value: &[u8]) -> NumberRead
+    ensures { λ r. ⌜ r ≡ dayRead (now (value .entry)) ⌝ }
+{
+    if !is_first_day(value) {
+        return NumberRead::Wrong;
+    }
+    NumberRead::Of(day_number(value))
+}
+
+fn day_number(value: &[u8]) -> u32
+    requires { ⌜ areDigits 8 (now value) ≡ true ⌝ }
+    ensures { λ r. ⌜ r ≡ dayNumber (now (value .entry)) ⌝ }
+{
+    let day = number_at(value, 0, 2);
+    let month = number_at(value, 2, 2);
+    let year = number_at(value, 4, 4);
+    year * 10000 + month * 100 + day
+}
