@@ -1,0 +1,128 @@
+-- What entries hang on, by place and by file number; and that each name stands in its file's table. Assumes nothing.
+use Prim.Native.Nat.{ℕ, zero, suc, _≤_}
+use mathlib.Core.Path.{_≡_, refl, sym, _∙_}
+use mathlib.Core.Bool.{Bool, true, _&&_}
+use mathlib.Core.List.{List, [], _∷_, map}
+use lib.Dec.{ltb}
+use lib.ListN.{length, List·getD-eq-default, length-map}
+use Rattle.lines.specs.Bytes.{sameBytes}
+use Rattle.tables.specs.Section.{entriesOf}
+use Rattle.tables.specs.Entries.{
+  newBooking,
+  oldBooking,
+  sixteen,
+  tester,
+  protocol,
+  measurement,
+  analysis,
+  analyser,
+  counter,
+  speedTest,
+  allKeyDates,
+  allKeyBodies,
+  fuelAnalysis,
+}
+use Rattle.tables.specs.File.{File, ac2, acc, drift, suspension, gas, fileNumber, ofNumber, entries, sections, fixedSections, axleSections, axlesFrom}
+use Rattle.kinds.specs.Value.{wordIndex}
+use Rattle.tables.specs.Row.{names, indexOf}
+use Rattle.tables.specs.Value.{placeOf, isEntry}
+use Rattle.due.specs.Booking.{bookingIn}
+use Rattle.due.specs.Conditions.{linksIn, withLinks, conditionsOf, gasValues, gasValuesIn}
+use Rattle.due.specs.Due.{NamedCondition, exceptions, conditionOf, conditionAt, conditionIn, dueOf, dueIn}
+use Rattle.due.specs.declared.Conditions.{Conditions}
+use Rattle.due.specs.declared.Condition.the-variants.{Always}
+
+-- ---- names
+
+abbrev pub allAmong : List (List ℕ) → List NamedCondition → Bool
+allAmong ns [] = true
+allAmong ns (x ∷ xs) = ltb (indexOf (x .0) ns) (length ns) && allAmong ns xs
+
+-- each name that is not simply due stands in its file's table
+pub exceptions-stand : (f : File) → allAmong (names (entries f 0)) (exceptions f) ≡ true
+unfolding exceptions wordIndex sameBytes entries entriesOf sections fixedSections axleSections axlesFrom newBooking oldBooking sixteen tester protocol measurement analysis analyser counter speedTest allKeyDates allKeyBodies fuelAnalysis
+exceptions-stand ac2 = refl
+exceptions-stand acc = refl
+exceptions-stand drift = refl
+exceptions-stand suspension = refl
+exceptions-stand gas = refl
+
+-- and so does each name that conditions are made from
+pub condition-names :
+    (isEntry ac2 "CategoriaInternazionale" ≡ true)
+    × (isEntry ac2 "TargaNominale" ≡ true)
+    × (isEntry ac2 "Alimentazione_1" ≡ true)
+    × (isEntry ac2 "DirettivaEmissioniGasBenzinaAuto" ≡ true)
+    × (isEntry ac2 "DirettivaEmissioniGasMotociclo" ≡ true)
+    × (isEntry gas "TipoCollegamento" ≡ true)
+    × (isEntry gas "TipoCollegamentoContagiri" ≡ true)
+    × (isEntry gas "NumVersioneProtocollo" ≡ true)
+    × (isEntry gas "NumVersioneProtocolloContagiri" ≡ true)
+    × (isEntry gas "NumVersioneProtocolloProvaVelocita" ≡ true)
+unfolding placeOf wordIndex sameBytes entries entriesOf sections fixedSections axleSections newBooking protocol measurement analysis analyser counter speedTest allKeyDates allKeyBodies fuelAnalysis
+condition-names = (refl, refl, refl, refl, refl, refl, refl, refl, refl, refl)
+
+-- ---- places
+
+-- an entry past the fixed sections, an axle's, is always due
+pub past-fixed : (f : File) (i : ℕ) → length (entries f 0) ≤ i → Always ≡ conditionAt f i
+unfolding conditionAt
+past-fixed f i h =
+    let ns : List (List ℕ) = names (entries f 0) in
+    let e : length (map (conditionOf (exceptions f)) ns) ≡ length (entries f 0) = length-map ns (conditionOf (exceptions f)) ∙ length-map (entries f 0) (λ e. e .name) in
+    sym (List·getD-eq-default (map (conditionOf (exceptions f)) ns) Always (rw e h))
+
+-- suspension has drift's sixteen
+pub suspension-as-drift : (i : ℕ) → conditionAt suspension i ≡ conditionAt drift i
+unfolding conditionAt exceptions conditionOf sameBytes entries entriesOf sections fixedSections axleSections axlesFrom sixteen tester protocol measurement
+suspension-as-drift i = refl
+
+-- ---- file numbers
+
+-- what no file's number has
+pub no-file : {A : Type 0} (d : A) (g : File → A) (n : ℕ) → (n ≡ 1 → ⊥) → (n ≡ 2 → ⊥) → (n ≡ 3 → ⊥) → (n ≡ 4 → ⊥) → (n ≡ 5 → ⊥) → ofNumber d g n ≡ d
+unfolding ofNumber
+no-file d g zero h1 h2 h3 h4 h5 = refl
+no-file d g (suc zero) h1 h2 h3 h4 h5 = absurd (h1 refl)
+no-file d g (suc (suc zero)) h1 h2 h3 h4 h5 = absurd (h2 refl)
+no-file d g (suc (suc (suc zero))) h1 h2 h3 h4 h5 = absurd (h3 refl)
+no-file d g (suc (suc (suc (suc zero)))) h1 h2 h3 h4 h5 = absurd (h4 refl)
+no-file d g (suc (suc (suc (suc (suc zero))))) h1 h2 h3 h4 h5 = absurd (h5 refl)
+no-file d g (suc (suc (suc (suc (suc (suc n)))))) h1 h2 h3 h4 h5 = refl
+
+-- a number that is not gas's leaves gas's values out
+pub not-gas : (n : ℕ) (own : List (List ℕ)) → (n ≡ 5 → ⊥) → gasValuesIn n own ≡ []
+unfolding gasValuesIn ofNumber
+not-gas zero own h = refl
+not-gas (suc zero) own h = refl
+not-gas (suc (suc zero)) own h = refl
+not-gas (suc (suc (suc zero))) own h = refl
+not-gas (suc (suc (suc (suc zero)))) own h = refl
+not-gas (suc (suc (suc (suc (suc zero))))) own h = absurd (h refl)
+not-gas (suc (suc (suc (suc (suc (suc n)))))) own h = refl
+
+-- by a file's number is by the file
+pub condition-file : (f : File) (i : ℕ) → conditionIn (fileNumber f) i ≡ conditionAt f i
+unfolding conditionIn ofNumber
+condition-file ac2 i = refl
+condition-file acc i = refl
+condition-file drift i = refl
+condition-file suspension i = refl
+condition-file gas i = refl
+
+pub due-file : (f : File) (i : ℕ) (c : Conditions) → dueIn (fileNumber f) i c ≡ dueOf f i c
+unfolding dueIn dueOf
+due-file f i c = rw (condition-file f i)
+
+pub gas-values-file : (f : File) (own : List (List ℕ)) → gasValuesIn (fileNumber f) own ≡ gasValues f own
+unfolding gasValuesIn ofNumber
+gas-values-file ac2 own = refl
+gas-values-file acc own = refl
+gas-values-file drift own = refl
+gas-values-file suspension own = refl
+gas-values-file gas own = refl
+
+-- what `conditions_of` answers for a file, over values
+pub conditions-file : (f : File) (a own : List (List ℕ)) → withLinks (bookingIn a) (linksIn (gasValuesIn (fileNumber f) own)) ≡ conditionsOf a (gasValues f own)
+unfolding conditionsOf
+conditions-file f a own = rw (gas-values-file f own)

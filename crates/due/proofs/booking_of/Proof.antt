@@ -1,0 +1,79 @@
+-- Each of the four values is the one that the definition names, by the place of its entry in the table. Assumes nothing.
+use borrow.Author.Needs.{needs}
+use mathlib.Core.Path.{_≡_, sym, _∙_}
+use lib.Dec.{lit<}
+use lib.ListN.{length}
+use Rattle.lines.specs.Bytes.{sameBytes}
+use Rattle.lines.specs.Text.{bytes}
+use Rattle.kinds.specs.Value.{wordIndex, wordsOf}
+use Rattle.places.specs.Places.{startOf, lengthOf}
+use Rattle.due.specs.Booking.{fuelIn, isLate}
+use Rattle.due.proofs.Values.{valueOf, value-length, ac2-pair, booking-at}
+use Rattle.due.proofs.booking_of.Statement.{statement}
+use Rattle.due.proofs.booking_of.Tie as tie
+
+value-of-requires : tie.Need-value-of-requires
+value-of-requires c κs =
+    let s = c .before .before in
+    ac2-pair (s .args .text .now) (s .args .places .now) 2 (s .pre .0) (s .pre .1) (lit< tt)
+
+word-index-requires : tie.Need-word-index-requires
+word-index-requires c κs = search needs
+
+value-of-requires-2 : tie.Need-value-of-requires-2
+value-of-requires-2 c κs =
+    let s = c .before .before .before .before in
+    ac2-pair (s .args .text .now) (s .args .places .now) 5 (s .pre .0) (s .pre .1) (lit< tt)
+
+fuel-of-requires : tie.Need-fuel-of-requires
+fuel-of-requires c κs = search needs
+
+value-of-requires-3 : tie.Need-value-of-requires-3
+value-of-requires-3 c κs =
+    let s = c .before .before .before .before .before .before in
+    ac2-pair (s .args .text .now) (s .args .places .now) 8 (s .pre .0) (s .pre .1) (lit< tt)
+
+is-late-requires : tie.Need-is-late-requires
+is-late-requires c κs = search needs
+
+value-of-requires-4 : tie.Need-value-of-requires-4
+value-of-requires-4 c κs =
+    let s = c .before .before .before .before .before .before .before .before in
+    ac2-pair (s .args .text .now) (s .args .places .now) 9 (s .pre .0) (s .pre .1) (lit< tt)
+
+slice-aggregate-equal : tie.Need-slice-aggregate-equal
+slice-aggregate-equal c = search needs
+
+equal-requires : tie.Need-equal-requires
+equal-requires c κs = search needs
+
+length-of-requires : tie.Need-length-of-requires
+length-of-requires c κs = search needs
+
+returns : tie.Need-returns
+returns c =
+    let s = c .before .before .before .before .before .before .before .before .before .before .before .before in
+    let t = s .args .text .now in
+    let p = s .args .places .now in
+    let q2 : c .before .before .before .before .before .before .before .before .word-index .result ≡ wordIndex (wordsOf 1) (valueOf t p 2) = rw (c .before .before .before .before .before .before .before .before .before .value-of .ensures) at (c .before .before .before .before .before .before .before .before .word-index .ensures) in
+    let q5 : c .before .before .before .before .before .before .fuel-of .result ≡ fuelIn (valueOf t p 5) = rw (c .before .before .before .before .before .before .before .value-of2 .ensures) at (c .before .before .before .before .before .before .fuel-of .ensures) in
+    let q8 : c .before .before .before .before .is-late .result ≡ isLate (valueOf t p 8) = rw (c .before .before .before .before .before .value-of3 .ensures) at (c .before .before .before .before .is-late .ensures) in
+    let q9 : c .before .equal .result ≡ sameBytes (valueOf t p 9) (bytes "NESSUNA") = rw (c .before .before .before .value-of4 .ensures) at (c .before .equal .ensures) in
+    let q0 : c .length-of .result ≡ length (valueOf t p 0) = c .length-of .ensures ∙ sym (value-length t (startOf p 0, lengthOf p 0) (ac2-pair t p 0 (s .pre .0) (s .pre .1) (lit< tt) .1)) in
+    rw (q2, q5, q8, q9, q0) (sym (booking-at t p))
+
+pub booking-of-spec : {M : Type 1} → statement M
+booking-of-spec =
+    tie.close
+    (tie.spec
+    value-of-requires
+    word-index-requires
+    value-of-requires-2
+    fuel-of-requires
+    value-of-requires-3
+    is-late-requires
+    value-of-requires-4
+    slice-aggregate-equal
+    equal-requires
+    length-of-requires
+    returns)

@@ -1,0 +1,568 @@
+// Due entries (01, Due entries): conditions made from values, and what they ask of each entry.
+ghost use mathlib.Core.Path.{_≡_};
+ghost use mathlib.Core.Bool.{_&&_};
+ghost use Prim.Native.Nat.{_+_, _*_, _<_, _≤_};
+ghost use lib.Dec.{ltb};
+ghost use lib.ListN.{length};
+ghost use Rattle.places.specs.Places.{placeSize, startOf, lengthOf, pairsAt, valueAt, valuesAt, Within};
+ghost use Rattle.tables.specs.File.{ac2, drift, gas, acc, firstPair, room};
+ghost use Rattle.due.specs.Booking.{fuelIn, isLate, isPetrol, isDiesel, isO, bookingIn};
+ghost use Rattle.due.specs.Conditions.{is200, is210, versionIn, linksIn, withLinks, gasValuesIn};
+ghost use Rattle.due.specs.Due.{conditionAt, conditionIn, isMoped, isMotorcycle, isMorN, conditionP, when, holdsIn, dueIn, filledPairs, asDue, firstNotAsDueFrom};
+
+pub enum Fuel {
+    Petrol,
+    Diesel,
+    OtherFuel,
+}
+
+// What the rules ask of AC2, each reduced to the few cases that matter: the category's place in 01's list, whether
+// TargaNominale has six bytes, the fuel, whether DirettivaEmissioniGasBenzinaAuto is 91/441/CEE or later, and whether
+// DirettivaEmissioniGasMotociclo is NESSUNA.
+pub struct Booking {
+    pub category: usize,
+    pub six: bool,
+    pub fuel: Fuel,
+    pub late: bool,
+    pub nessuna: bool,
+}
+
+pub enum Version {
+    V200,
+    V210,
+    OtherVersion,
+}
+
+// What due entries ask of gas: whether TipoCollegamento is RS SENZA ESITO, whether TipoCollegamentoContagiri is ESTERNO,
+// and the protocol version of each device.
+pub struct Links {
+    pub serial: bool,
+    pub external: bool,
+    pub analyser: Version,
+    pub counter: Version,
+    pub speedtest: Version,
+}
+
+// All that due entries depend on: a booking's five and gas's five.
+pub struct Conditions {
+    pub category: usize,
+    pub six: bool,
+    pub fuel: Fuel,
+    pub late: bool,
+    pub nessuna: bool,
+    pub serial: bool,
+    pub external: bool,
+    pub analyser: Version,
+    pub counter: Version,
+    pub speedtest: Version,
+}
+
+// What is asked of an entry: filled, empty, or nothing.
+pub enum Due {
+    IsDue,
+    NotDue,
+    IsFree,
+}
+
+// What an entry hangs on, in 01's order. DieselEntry: Turbo and CorrettorePressione. SpeedTest: condition P.
+// The last six: the key and the checksum of each device.
+pub enum Condition {
+    Always,
+    Free,
+    CodiceCIC,
+    Alimentazione,
+    DieselEntry,
+    CarDirective,
+    MotorcycleDirective,
+    COMinAcc,
+    ExternalCounter,
+    SpeedTest,
+    AnalyserKey,
+    AnalyserChecksum,
+    CounterKey,
+    CounterChecksum,
+    SpeedTestKey,
+    SpeedTestChecksum,
+}
+
+// AC2, in entry order.
+const AC2: [Condition; 12] = [
+    Condition::Always,
+    Condition::Always,
+    Condition::Always,
+    Condition::CodiceCIC,
+    Condition::Always,
+    Condition::Alimentazione,
+    Condition::DieselEntry,
+    Condition::DieselEntry,
+    Condition::CarDirective,
+    Condition::MotorcycleDirective,
+    Condition::Always,
+    Condition::Always,
+];
+
+// ACC.
+const ACC: [Condition; 6] = [
+    Condition::Always,
+    Condition::Always,
+    Condition::Always,
+    Condition::Free,
+    Condition::Always,
+    Condition::Always,
+];
+
+// The sixteen entries of drift and of suspension.
+const SIXTEEN: [Condition; 16] = [
+    Condition::Always,
+    Condition::Always,
+    Condition::Always,
+    Condition::Always,
+    Condition::Always,
+    Condition::Always,
+    Condition::Free,
+    Condition::Always,
+    Condition::Always,
+    Condition::Always,
+    Condition::Always,
+    Condition::Free,
+    Condition::Always,
+    Condition::Always,
+    Condition::Always,
+    Condition::Always,
+];
+
+// Both sections of gas.
+const GAS: [Condition; 53] = [
+    Condition::Always,
+    Condition::Always,
+    Condition::Always,
+    Condition::Always,
+    Condition::Always,
+    Condition::Always,
+    Condition::Always,
+    Condition::Always,
+    Condition::Always,
+    Condition::Always,
+    Condition::Always,
+    Condition::Always,
+    Condition::Always,
+    Condition::ExternalCounter,
+    Condition::SpeedTest,
+    Condition::SpeedTest,
+    Condition::SpeedTest,
+    Condition::SpeedTest,
+    Condition::SpeedTest,
+    Condition::SpeedTest,
+    Condition::SpeedTest,
+    Condition::Free,
+    Condition::Always,
+    Condition::Always,
+    Condition::Always,
+    Condition::Always,
+    Condition::AnalyserKey,
+    Condition::AnalyserKey,
+    Condition::CounterKey,
+    Condition::CounterKey,
+    Condition::SpeedTestKey,
+    Condition::SpeedTestKey,
+    Condition::AnalyserChecksum,
+    Condition::AnalyserKey,
+    Condition::AnalyserKey,
+    Condition::CounterChecksum,
+    Condition::CounterKey,
+    Condition::CounterKey,
+    Condition::SpeedTestChecksum,
+    Condition::SpeedTestKey,
+    Condition::SpeedTestKey,
+    Condition::Free,
+    Condition::Always,
+    Condition::Always,
+    Condition::Always,
+    Condition::Always,
+    Condition::Always,
+    Condition::Always,
+    Condition::Always,
+    Condition::Always,
+    Condition::Always,
+    Condition::Always,
+    Condition::COMinAcc,
+];
+
+fn ac2_condition(entry: usize) -> Condition
+    ensures { λ r. ⌜ r ≡ conditionAt ac2 entry ⌝ }
+{
+    if entry < 12 {
+        return AC2[entry];
+    }
+    Condition::Always
+}
+
+fn acc_condition(entry: usize) -> Condition
+    ensures { λ r. ⌜ r ≡ conditionAt acc entry ⌝ }
+{
+    if entry < 6 {
+        return ACC[entry];
+    }
+    Condition::Always
+}
+
+// Of drift, and so of suspension.
+fn drift_condition(entry: usize) -> Condition
+    ensures { λ r. ⌜ r ≡ conditionAt drift entry ⌝ }
+{
+    if entry < 16 {
+        return SIXTEEN[entry];
+    }
+    Condition::Always
+}
+
+fn gas_condition(entry: usize) -> Condition
+    ensures { λ r. ⌜ r ≡ conditionAt gas entry ⌝ }
+{
+    if entry < 53 {
+        return GAS[entry];
+    }
+    Condition::Always
+}
+
+// What an entry hangs on, by its file's number and its place in entry order.
+pub fn condition_at(file: u32, entry: usize) -> Condition
+    ensures { λ r. ⌜ r ≡ conditionIn file entry ⌝ }
+{
+    match file {
+        1 => ac2_condition(entry),
+        2 => acc_condition(entry),
+        3 => drift_condition(entry),
+        4 => drift_condition(entry),
+        5 => gas_condition(entry),
+        _ => Condition::Always,
+    }
+}
+
+// L1e, L2e, L6e
+pub fn is_moped(category: usize) -> bool
+    ensures { λ r. ⌜ r ≡ isMoped category ⌝ }
+{
+    match category {
+        10 | 11 | 15 => true,
+        _ => false,
+    }
+}
+
+// L3e, L4e, L5e, L7e
+pub fn is_motorcycle(category: usize) -> bool
+    ensures { λ r. ⌜ r ≡ isMotorcycle category ⌝ }
+{
+    match category {
+        12 | 13 | 14 | 16 => true,
+        _ => false,
+    }
+}
+
+pub fn is_o(category: usize) -> bool
+    ensures { λ r. ⌜ r ≡ isO category ⌝ }
+{
+    match category {
+        6..=9 => true,
+        _ => false,
+    }
+}
+
+// M or N
+pub fn is_m_or_n(category: usize) -> bool
+    ensures { λ r. ⌜ r ≡ isMorN category ⌝ }
+{
+    category < 6
+}
+
+pub fn is_petrol(fuel: Fuel) -> bool
+    ensures { λ r. ⌜ r ≡ isPetrol fuel ⌝ }
+{
+    match fuel {
+        Fuel::Petrol => true,
+        Fuel::Diesel => false,
+        Fuel::OtherFuel => false,
+    }
+}
+
+pub fn is_diesel(fuel: Fuel) -> bool
+    ensures { λ r. ⌜ r ≡ isDiesel fuel ⌝ }
+{
+    match fuel {
+        Fuel::Petrol => false,
+        Fuel::Diesel => true,
+        Fuel::OtherFuel => false,
+    }
+}
+
+pub fn condition_p(c: Conditions) -> bool
+    ensures { λ r. ⌜ r ≡ conditionP c ⌝ }
+{
+    if is_moped(c.category) {
+        return true;
+    }
+    c.nessuna
+}
+
+fn due_when(holds: bool) -> Due
+    ensures { λ r. ⌜ r ≡ when holds ⌝ }
+{
+    if holds {
+        return Due::IsDue;
+    }
+    Due::NotDue
+}
+
+fn due_when_both(a: bool, b: bool) -> Due
+    ensures { λ r. ⌜ r ≡ when (a && b) ⌝ }
+{
+    if a {
+        return due_when(b);
+    }
+    Due::NotDue
+}
+
+// Key ID, date, module, exponent.
+fn key_due(version: Version, device: bool) -> Due
+    ensures { λ r. ⌜ r ≡ when (is210 version && device) ⌝ }
+{
+    match version {
+        Version::V200 => Due::NotDue,
+        Version::V210 => due_when(device),
+        Version::OtherVersion => Due::NotDue,
+    }
+}
+
+fn checksum_due(version: Version, device: bool) -> Due
+    ensures { λ r. ⌜ r ≡ when (is200 version && device) ⌝ }
+{
+    match version {
+        Version::V200 => due_when(device),
+        Version::V210 => Due::NotDue,
+        Version::OtherVersion => Due::NotDue,
+    }
+}
+
+// What a condition asks of the entries that hang on it.
+pub fn holds_in(condition: Condition, c: Conditions) -> Due
+    ensures { λ r. ⌜ r ≡ holdsIn condition c ⌝ }
+{
+    let fuel = c.fuel;
+    let analyser = c.analyser;
+    let counter = c.counter;
+    let speedtest = c.speedtest;
+    match condition {
+        Condition::Always => Due::IsDue,
+        Condition::Free => Due::IsFree,
+        Condition::CodiceCIC => due_when_both(is_moped(c.category), c.six),
+        Condition::Alimentazione => due_when(!is_o(c.category)),
+        Condition::DieselEntry => due_when(is_diesel(fuel)),
+        Condition::CarDirective => due_when_both(is_petrol(fuel), is_m_or_n(c.category)),
+        Condition::MotorcycleDirective => due_when_both(is_petrol(fuel), is_motorcycle(c.category)),
+        Condition::COMinAcc => due_when(c.late),
+        Condition::ExternalCounter => due_when(c.external),
+        Condition::SpeedTest => due_when(condition_p(c)),
+        Condition::AnalyserKey => key_due(analyser, c.serial),
+        Condition::AnalyserChecksum => checksum_due(analyser, c.serial),
+        Condition::CounterKey => key_due(counter, c.external),
+        Condition::CounterChecksum => checksum_due(counter, c.external),
+        Condition::SpeedTestKey => key_due(speedtest, condition_p(c)),
+        Condition::SpeedTestChecksum => checksum_due(speedtest, condition_p(c)),
+    }
+}
+
+// What is asked of an entry, by its file's number and its place in entry order.
+pub fn due_of(file: u32, entry: usize, c: Conditions) -> Due
+    ensures { λ r. ⌜ r ≡ dueIn file entry c ⌝ }
+{
+    holds_in(condition_at(file, entry), c)
+}
+
+fn as_due(due: Due, filled: bool) -> bool
+    ensures { λ r. ⌜ r ≡ asDue due filled ⌝ }
+{
+    match due {
+        Due::IsDue => filled,
+        Due::NotDue => !filled,
+        Due::IsFree => true,
+    }
+}
+
+fn is_filled(places: &[u32], k: usize) -> bool
+    requires { ⌜ placeSize * k + 1 < length (now places) ⌝ }
+    ensures { λ r. ⌜ r ≡ ltb 0 (lengthOf (now (places .entry)) k) ⌝ }
+{
+    0 < places::length_of(places, k)
+}
+
+// Number 10: the first of a file's `count` entries that is filled and not due, or due and empty; `count` where none is.
+// The file's pairs stand from pair `first` on. Lengths alone decide: no value is looked at.
+pub fn first_not_as_due(
+    file: u32,
+    first: usize,
+    count: usize,
+    c: Conditions,
+    places: &[u32],
+) -> usize
+    requires { ⌜ placeSize * (first + count) ≤ length (now places) ⌝ }
+    ensures { λ r. ⌜ r ≡ firstNotAsDueFrom (λ i. dueIn file i c) 0 (filledPairs (pairsAt (now (places .entry)) first count)) ⌝ }
+{
+    let mut i = 0;
+    while i < count {
+        if !as_due(due_of(file, i, c), is_filled(places, first + i)) {
+            return i;
+        }
+        i += 1;
+    }
+    i
+}
+
+// The numbers of two lists of words in kinds.
+const CATEGORIES: u8 = 1;
+
+const PETROL_DIRECTIVES: u8 = 3;
+
+pub fn fuel_of(value: &[u8]) -> Fuel
+    ensures { λ r. ⌜ r ≡ fuelIn (now (value .entry)) ⌝ }
+{
+    if lines::equal(value, b"BENZINA") {
+        return Fuel::Petrol;
+    }
+    if lines::equal(value, b"DIESEL") {
+        return Fuel::Diesel;
+    }
+    Fuel::OtherFuel
+}
+
+pub fn version_of(value: &[u8]) -> Version
+    ensures { λ r. ⌜ r ≡ versionIn (now (value .entry)) ⌝ }
+{
+    if lines::equal(value, b"200") {
+        return Version::V200;
+    }
+    if lines::equal(value, b"210") {
+        return Version::V210;
+    }
+    Version::OtherVersion
+}
+
+// 91/441/CEE or later: by the place in the list of petrol directives, which is in order of time.
+pub fn is_late(value: &[u8]) -> bool
+    ensures { λ r. ⌜ r ≡ isLate (now (value .entry)) ⌝ }
+{
+    match kinds::word_index(PETROL_DIRECTIVES, value) {
+        2..=3 => true,
+        _ => false,
+    }
+}
+
+// The pairs of the values that conditions are made from, in AC2 and in gas.
+const TARGA_NOMINALE: usize = 0;
+
+const CATEGORIA_INTERNAZIONALE: usize = 2;
+
+const ALIMENTAZIONE_1: usize = 5;
+
+const DIRETTIVA_BENZINA_AUTO: usize = 8;
+
+const DIRETTIVA_MOTOCICLO: usize = 9;
+
+const TIPO_COLLEGAMENTO_CONTAGIRI: usize = 98;
+
+const NUM_VERSIONE_PROTOCOLLO_CONTAGIRI: usize = 99;
+
+const NUM_VERSIONE_PROTOCOLLO_PROVA_VELOCITA: usize = 105;
+
+const NUM_VERSIONE_PROTOCOLLO: usize = 108;
+
+const TIPO_COLLEGAMENTO: usize = 110;
+
+// The value that pair k names: it lies within the text, as reading the file has made sure.
+pub fn value_of<'a>(text: &'a [u8], places: &[u32], k: usize) -> &'a [u8]
+    requires { ⌜ (placeSize * k + 1 < length (now places)) × (startOf (now places) k + lengthOf (now places) k ≤ length (now text)) ⌝ }
+    ensures { λ r. ⌜ now r ≡ valueAt (now (text .entry)) (startOf (now (places .entry)) k, lengthOf (now (places .entry)) k) ⌝ }
+{
+    let start = places::start_of(places, k) as usize;
+    let end = start + places::length_of(places, k) as usize;
+    &text[start..end]
+}
+
+// What AC2 says. Its pairs lie within its text, as reading it has made sure.
+pub fn booking_of(text: &[u8], places: &[u32]) -> Booking
+    requires { ⌜ (278 ≤ length (now places)) × Within (now text) (pairsAt (now places) (firstPair ac2) (room ac2)) ⌝ }
+    ensures { λ r. ⌜ r ≡ bookingIn (valuesAt (now (text .entry)) (now (places .entry)) (firstPair ac2) (room ac2)) ⌝ }
+{
+    let category = kinds::word_index(CATEGORIES, value_of(text, places, CATEGORIA_INTERNAZIONALE));
+    let fuel = fuel_of(value_of(text, places, ALIMENTAZIONE_1));
+    let late = is_late(value_of(text, places, DIRETTIVA_BENZINA_AUTO));
+    let nessuna = lines::equal(value_of(text, places, DIRETTIVA_MOTOCICLO), b"NESSUNA");
+    Booking {
+        category,
+        six: places::length_of(places, TARGA_NOMINALE) == 6,
+        fuel,
+        late,
+        nessuna,
+    }
+}
+
+// What gas says. Its pairs lie within its text, as reading it has made sure.
+pub fn links_of(text: &[u8], places: &[u32]) -> Links
+    requires { ⌜ (278 ≤ length (now places)) × Within (now text) (pairsAt (now places) (firstPair gas) (room gas)) ⌝ }
+    ensures { λ r. ⌜ r ≡ linksIn (valuesAt (now (text .entry)) (now (places .entry)) (firstPair gas) (room gas)) ⌝ }
+{
+    let external = lines::equal(
+        value_of(text, places, TIPO_COLLEGAMENTO_CONTAGIRI),
+        b"ESTERNO",
+    );
+    let counter = version_of(value_of(text, places, NUM_VERSIONE_PROTOCOLLO_CONTAGIRI));
+    let speedtest = version_of(value_of(text, places, NUM_VERSIONE_PROTOCOLLO_PROVA_VELOCITA));
+    let analyser = version_of(value_of(text, places, NUM_VERSIONE_PROTOCOLLO));
+    let serial = lines::equal(value_of(text, places, TIPO_COLLEGAMENTO), b"RS SENZA ESITO");
+    Links {
+        serial,
+        external,
+        analyser,
+        counter,
+        speedtest,
+    }
+}
+
+fn with_links(booking: Booking, links: Links) -> Conditions
+    ensures { λ r. ⌜ r ≡ withLinks booking links ⌝ }
+{
+    let fuel = booking.fuel;
+    let analyser = links.analyser;
+    let counter = links.counter;
+    let speedtest = links.speedtest;
+    Conditions {
+        category: booking.category,
+        six: booking.six,
+        fuel,
+        late: booking.late,
+        nessuna: booking.nessuna,
+        serial: links.serial,
+        external: links.external,
+        analyser,
+        counter,
+        speedtest,
+    }
+}
+
+// The conditions for judging a file, from what AC2 says and the file's own text: gas's counts, another's is not looked at.
+// Gas's pairs lie within its text, as reading it has made sure.
+pub fn conditions_of(file: u32, booking: Booking, own: &[u8], places: &[u32]) -> Conditions
+    requires { ⌜ (278 ≤ length (now places)) × (file ≡ 5 → Within (now own) (pairsAt (now places) (firstPair gas) (room gas))) ⌝ }
+    ensures { λ r. ⌜ r ≡ withLinks booking (linksIn (gasValuesIn file (valuesAt (now (own .entry)) (now (places .entry)) (firstPair gas) (room gas)))) ⌝ }
+{
+    if file == 5 {
+        return with_links(booking, links_of(own, places));
+    }
+    let none = Links {
+        serial: false,
+        external: false,
+        analyser: Version::OtherVersion,
+        counter: Version::OtherVersion,
+        speedtest: Version::OtherVersion,
+    };
+    with_links(booking, none)
+}

@@ -1,0 +1,6 @@
+pub mod Rows
+pub mod Entries
+pub mod Numbers
+pub mod Steps
+pub mod Theorem
+pub mod Alone

@@ -1,0 +1,73 @@
+-- `files::read_text` meets its contract: 3, and then what the slots, empty at first, are read into. Assumes nothing.
+use borrow.Author.Needs.{needs}
+use Prim.Native.Nat.{_≤_}
+use native.Mathlib.Omega.{arith}
+use lib.ListN.{length-take}
+use denote.Ref.{now}
+use Rattle.tables.specs.File.{tableOf}
+use Rattle.tables.specs.Row.{rowCount}
+use Rattle.tables.proofs.Rows.{rows-few}
+use Rattle.files.proofs.Steps.{text-long, empty-part}
+use Rattle.files.proofs.read_text.Statement.{statement}
+use Rattle.files.proofs.read_text.Tie as tie
+
+few : (c : tie.After-row-count) → c .row-count .result ≤ 64
+few c = omega (arith, c .row-count .ensures, rows-few (c .before .before .before .before .before .args .file))
+
+returns : tie.Need-returns
+returns c =
+    let x = c .before .before .before .before .args in
+    text-long (x .file) (now (x .text)) (now (x .places)) (now (x .lines)) (c .if1 .taken)
+
+row-count-requires : tie.Need-row-count-requires
+row-count-requires c κs = search needs
+
+array-borrow-prefix-numbers : tie.Need-array-borrow-prefix-numbers
+array-borrow-prefix-numbers c = few c
+
+slice-aggregate-read-into : tie.Need-slice-aggregate-read-into
+slice-aggregate-read-into c = simp length-take (omega (arith, few (c .before)))
+
+array-borrow-prefix-starts : tie.Need-array-borrow-prefix-starts
+array-borrow-prefix-starts c = few (c .before)
+
+slice-aggregate-read-into-2 : tie.Need-slice-aggregate-read-into-2
+slice-aggregate-read-into-2 c = simp length-take (omega (arith, few (c .before .before)))
+
+array-borrow-prefix-lengths : tie.Need-array-borrow-prefix-lengths
+array-borrow-prefix-lengths c = few (c .before .before)
+
+slice-aggregate-read-into-3 : tie.Need-slice-aggregate-read-into-3
+slice-aggregate-read-into-3 c = simp length-take (omega (arith, few (c .before .before .before)))
+
+read-into-requires : tie.Need-read-into-requires
+read-into-requires c κs =
+    let x = c .before .before .before .before .before .before .before .before .before .before in
+    let n = c .before .before .before .before .before in
+    (c .before .before .before .before .before .before .if1 .left, empty-part (n .row-count .result) (rowCount (tableOf (x .args .file))) 64 (n .row-count .ensures) (rows-few (x .args .file)), x .pre .0, x .pre .1)
+
+same-length : tie.Need-same-length
+same-length c = search needs
+
+same-length-2 : tie.Need-same-length-2
+same-length-2 c = search needs
+
+returns-2 : tie.Need-returns-2
+returns-2 c = search needs
+
+pub read-text-spec : {M : Type 1} → statement M
+read-text-spec =
+    tie.close
+    (tie.spec
+    returns
+    row-count-requires
+    array-borrow-prefix-numbers
+    slice-aggregate-read-into
+    array-borrow-prefix-starts
+    slice-aggregate-read-into-2
+    array-borrow-prefix-lengths
+    slice-aggregate-read-into-3
+    read-into-requires
+    same-length
+    same-length-2
+    returns-2)

@@ -1,0 +1,60 @@
+-- `files::row_kept` meets its contract: an empty value, a heading's row, or a filled value by its kind. Assumes nothing.
+use borrow.Author.Needs.{needs}
+use native.Mathlib.Nat.{add-sub-cancel-left}
+use mathlib.Core.Path.{sym, _∙_}
+use denote.Ref.{now}
+use mathlib.Core.Option.{none}
+use lib.ListN.{getD}
+use Rattle.kinds.specs.Kind.{kindOf}
+use Rattle.tables.specs.File.{tableOf}
+use Rattle.reading.specs.Reading.{rowKinds}
+use Rattle.files.proofs.Rows.{heading-row, entry-row, empty-kept, filled-kept}
+use Rattle.files.proofs.row_kept.Statement.{statement}
+use Rattle.files.proofs.row_kept.Tie as tie
+
+returns : tie.Need-returns
+returns c =
+    let x = c .before .before .args in
+    empty-kept (getD (rowKinds (tableOf (x .file))) (x .row) none) (now (x .text)) (x .start) (x .size) (c .if1 .taken)
+
+row-kind-requires : tie.Need-row-kind-requires
+row-kind-requires c κs = search needs
+
+returns-2 : tie.Need-returns-2
+returns-2 c = rw (sym (c .before .row-kind .ensures) ∙ heading-row (c .before .row-kind .result) (c .if2 .taken))
+
+add-e : tie.Need-add-e
+add-e c = search needs
+
+sub-kind-ok : tie.Need-sub-kind-ok
+sub-kind-ok c = search needs
+
+part-kind-ok-start : tie.Need-part-kind-ok-start
+part-kind-ok-start c = search needs
+
+part-kind-ok-end : tie.Need-part-kind-ok-end
+part-kind-ok-end c = search needs
+
+kind-ok-requires : tie.Need-kind-ok-requires
+kind-ok-requires c κs = search needs
+
+returns-3 : tie.Need-returns-3
+returns-3 c =
+    let x = c .before .before .before .before .before .before .args in
+    let k = c .before .before .before .row-kind .result in
+    let e = rw add-sub-cancel-left at (c .kind-ok .ensures) in
+    e ∙ rw (sym (c .before .before .before .row-kind .ensures) ∙ entry-row k (c .before .before .if2 .left)) (filled-kept (kindOf k) (now (x .text)) (x .start) (x .size) (c .before .before .before .before .if1 .left) (c .before .before .before .before .before .before .pre))
+
+pub row-kept-spec : {M : Type 1} → statement M
+row-kept-spec =
+    tie.close
+    (tie.spec
+    returns
+    row-kind-requires
+    returns-2
+    add-e
+    sub-kind-ok
+    part-kind-ok-start
+    part-kind-ok-end
+    kind-ok-requires
+    returns-3)

@@ -1,0 +1,41 @@
+-- One file by its table (01, Judging): 3 to 9, and what it is to be the lines of values.
+use Prim.Native.Nat.{ℕ, _-_, _≤_}
+use mathlib.Core.Path.{_≡_}
+use mathlib.Core.Bool.{Bool, true, false, cond}
+use mathlib.Core.List.{List}
+use lib.Dec.{leb}
+use lib.ListN.{length}
+use Rattle.tables.specs.Section.{Section}
+use Rattle.tables.specs.File.{File, hasAxles, mostAxles, leastAxles, fixedSections, sections, allSections, leastSections, entries, ofNumber, tableOf}
+use Rattle.reading.specs.Fitting.{FitsText, EachKept}
+use Rattle.reading.specs.Reading.{Reading, refused, readText}
+
+-- 01, Lines: "A file is at most 16,384 bytes"
+abbrev pub mostBytes : ℕ
+mostBytes = 16384
+
+-- 3, then the first line with 4, 5 or 6, then 7, 8, all of 9
+unfoldable pub readBy : List Section → ℕ → List ℕ → Reading
+readBy t least s = cond (leb (length s) mostBytes) (readText t least s) (refused 3 0)
+
+abbrev pub readFile : File → List ℕ → Reading
+readFile f s = readBy (allSections f) (leastSections f) s
+
+-- the same of the file of a number
+abbrev pub readNumbered : ℕ → List ℕ → Reading
+readNumbered n s = readBy (tableOf n) (ofNumber 0 leastSections n) s
+
+-- the axles of a file of c sections
+abbrev pub axlesOf : File → ℕ → ℕ
+axlesOf f c = c - length (fixedSections f)
+
+-- 01, Judging: "axle counts (1 to 9 for a file given)"; a file without axles has none
+abbrev pub AxleCount : Bool → ℕ → Type 0
+AxleCount true n = (leastAxles ≤ n) × (n ≤ mostAxles)
+AxleCount false n = n ≡ 0
+
+-- the text s is the lines of file f with n axles and these values, and every filled value is of its kind
+pub record IsFile (f : File) (n : ℕ) (values : List (List ℕ)) (s : List ℕ) : Type 0 where
+  pub count : AxleCount (hasAxles f) n
+  pub fits : FitsText (sections f n) values s
+  pub kept : EachKept (entries f n) values

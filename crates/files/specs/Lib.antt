@@ -1,0 +1,3 @@
+pub mod Files
+pub mod Alone
+pub mod Steps

@@ -1,0 +1,64 @@
+-- What the steps of reading one file promise.
+use Prim.Native.Nat.{ℕ, _+_, _*_, _≤_}
+use mathlib.Core.Path.{_≡_}
+use mathlib.Core.List.{List}
+use lib.ListN.{length, take}
+use Rattle.refusals.specs.Refusals.{numberOf}
+use Rattle.refusals.specs.declared.RefusalKind.{RefusalKind}
+use Rattle.places.specs.Places.{Pair, setPairs, placeSize}
+use Rattle.tables.specs.Section.{Section, entriesOf}
+use Rattle.tables.specs.Row.{rowCount}
+use Rattle.orders.specs.AnyOrder.{zip}
+use Rattle.reading.specs.Scanning.{Ready}
+use Rattle.tables.specs.File.{firstPair, leastSections, ofNumber, tableOf}
+use Rattle.reading.specs.Reading.{Slots, Scan, stopped, scanned, Check, passes, fails, Reading, refused, read, readSlots, judgeSlots, sectionsFound, rowKinds, ofEntries, readText}
+use Rattle.files.specs.Files.{readNumbered}
+use Rattle.files.specs.declared.Outcome.{Outcome}
+use Rattle.files.specs.declared.Outcome.the-variants.{Passed, Failed}
+use Rattle.files.specs.declared.TextAnswer.{TextAnswer}
+use Rattle.files.specs.declared.TextAnswer.the-variants.{Sections, Faulty}
+
+abbrev pub failure : RefusalKind → ℕ → Outcome
+failure k l = Failed (record { kind = k; line = l })
+
+-- what the outcome of a scan says, with the slots that it leaves
+abbrev pub scanIs : Outcome → Slots → Scan
+scanIs Passed a = scanned a
+scanIs (Failed x) a = stopped (numberOf (x .kind)) (x .line)
+
+-- what the outcome of a check says
+abbrev pub checkIs : Outcome → Check
+checkIs Passed = passes
+checkIs (Failed x) = fails (numberOf (x .kind)) (x .line)
+
+-- what the answer says, with the slots that the text filled
+abbrev pub slotsRead : List Section → TextAnswer → Slots → Reading
+slotsRead t (Sections c) a = readSlots t a c
+slotsRead t (Faulty x) a = refused (numberOf (x .kind)) (x .line)
+
+pub record JudgesSlots (t : List Section) (least : ℕ) (s : List ℕ) (a : Slots) (r : TextAnswer) : Type 0 where
+  pub is : judgeSlots t least s a (sectionsFound t (a .lineNumbers)) ≡ slotsRead t r a
+
+-- The text s of the file of number n was read: places p before, q after, and in ls the lines of its entries.
+-- By cases of the answer, which has no room for the pairs: they are in the places.
+abbrev pub ReadsText : ℕ → List ℕ → TextAnswer → List ℕ → List ℕ → List ℕ → Type 0
+ReadsText n s (Faulty x) p q ls = (readNumbered n s ≡ refused (numberOf (x .kind)) (x .line)) × (q ≡ p)
+ReadsText n s (Sections c) p q ls =
+    (pairs : List Pair) × (readNumbered n s ≡ read c pairs (take (length pairs) ls)) × (q ≡ setPairs (ofNumber 0 firstPair n) pairs p)
+
+-- the entries of the first c sections have their place among the pairs and the lines
+pub record WriteReady (n c : ℕ) (a : Slots) (p ls : List ℕ) : Type 0 where
+  pub starts-are : length (a .starts) ≡ length (a .lineNumbers)
+  pub lengths-are : length (a .lengths) ≡ length (a .lineNumbers)
+  pub rows-are : length (a .lineNumbers) ≡ rowCount (tableOf n)
+  pub pairs-fit : placeSize * (ofNumber 0 firstPair n + length (entriesOf (take c (tableOf n)))) ≤ length p
+  pub lines-fit : length (entriesOf (take c (tableOf n))) ≤ length ls
+
+pub record WritesRead (n c : ℕ) (a : Slots) (p q ls : List ℕ) : Type 0 where
+  pub pairs : q ≡ setPairs (ofNumber 0 firstPair n) (ofEntries (rowKinds (take c (tableOf n))) (zip (a .starts) (a .lengths))) p
+  pub lines : take (length (ofEntries (rowKinds (take c (tableOf n))) (a .lineNumbers))) ls ≡ ofEntries (rowKinds (take c (tableOf n))) (a .lineNumbers)
+
+-- 4 to 9: the text is read from the slots that it leaves
+pub record ReadsSlots (n : ℕ) (s : List ℕ) (a : Slots) (r : TextAnswer) : Type 0 where
+  pub ready : Ready (tableOf n) s a
+  pub is : readText (tableOf n) (ofNumber 0 leastSections n) s ≡ slotsRead (tableOf n) r a

@@ -1,0 +1,456 @@
+// One file read by its table (01, Judging), for a set and alone.
+ghost use mathlib.Core.Path.{_≡_};
+ghost use mathlib.Core.Option.{none};
+ghost use Prim.Native.Nat.{_+_, _*_, _≤_};
+ghost use lib.ListN.{length, getD, take};
+ghost use Rattle.places.specs.Places.{valueAt, placeSize, setPairs};
+ghost use mathlib.Core.Bool.{true};
+ghost use Rattle.tables.specs.File.{tableOf, isFile, ofNumber, leastSections, leastPlaces};
+ghost use Rattle.tables.specs.Row.{rowCount};
+ghost use Rattle.orders.specs.AnyOrder.{zip};
+ghost use Rattle.reading.specs.Reading.{rowKinds, ofEntries, slots, emptySlots, sectionsFound, checkGap, checkAbsent, checkKinds, keptRow, ownerRow};
+ghost use Rattle.reading.specs.Scanning.{Took, Ready, Scanned};
+ghost use Rattle.files.specs.Steps.{failure, scanIs, checkIs, JudgesSlots, WriteReady, WritesRead, ReadsSlots, ReadsText};
+ghost use Rattle.files.specs.Alone.{refusedAs, ReadsCleared, ReadsAlone};
+use lines::Cursor;
+use lines::LineRead;
+use refusals::Refusal;
+use refusals::RefusalKind;
+use rows::HEADING;
+
+// What an accepted file says: its axle count, 0 for a file without axles.
+pub struct FileAcceptance {
+    pub axles: u32,
+}
+
+pub enum FileAnswer {
+    Accepted(FileAcceptance),
+    Refused(Refusal),
+}
+
+// A text that was read: how many sections it has, or the kind of its refusal with the line.
+pub enum TextAnswer {
+    Sections(usize),
+    Faulty(Fault),
+}
+
+pub struct Fault {
+    pub kind: RefusalKind,
+    pub line: u32,
+}
+
+// A check of a text.
+enum Outcome {
+    Passed,
+    Failed(Fault),
+}
+
+// A row that has no line yet takes this one, with its value's place.
+fn take_row(
+    numbers: &mut [u32],
+    starts: &mut [u32],
+    lengths: &mut [u32],
+    row: usize,
+    line: usize,
+    start: usize,
+    size: usize,
+) -> bool
+    requires { ⌜ (length (now starts) ≡ length (now numbers)) × (length (now lengths) ≡ length (now numbers)) × (line ≤ 16384) × (start + size ≤ 16384) ⌝ }
+    ensures { λ r. ⌜ Took (slots (now (numbers .entry)) (now (starts .entry)) (now (lengths .entry))) (slots (now (numbers .exit)) (now (starts .exit)) (now (lengths .exit))) row line start size r ⌝ }
+{
+    if numbers.len() <= row {
+        return false;
+    }
+    if numbers[row] != 0 {
+        return false;
+    }
+    numbers[row] = line as u32;
+    starts[row] = start as u32;
+    lengths[row] = size as u32;
+    true
+}
+
+fn failed(kind: RefusalKind, line: usize) -> Outcome
+    requires { ⌜ line ≤ 16384 ⌝ }
+    ensures { λ r. ⌜ r ≡ failure kind line ⌝ }
+{
+    Outcome::Failed(Fault {
+        kind: kind,
+        line: line as u32,
+    })
+}
+
+// All lines of the text, into the rows of the file's table: the first with 4, 5 or 6.
+fn scan_text(
+    file: u32,
+    text: &[u8],
+    numbers: &mut [u32],
+    starts: &mut [u32],
+    lengths: &mut [u32],
+) -> Outcome
+    requires { ⌜ Ready (tableOf file) (now text) (slots (now numbers) (now starts) (now lengths)) ⌝ }
+    ensures { λ r. ⌜ Scanned (tableOf file) (now (text .entry)) (slots (now (numbers .entry)) (now (starts .entry)) (now (lengths .entry))) (slots (now (numbers .exit)) (now (starts .exit)) (now (lengths .exit))) (scanIs r (slots (now (numbers .exit)) (now (starts .exit)) (now (lengths .exit)))) ⌝ }
+{
+    let none = tables::section_count(file);
+    let mut c = Cursor::new();
+    let mut cur = none;
+    loop {
+        match c.read_line(text) {
+            LineRead::End => {
+                return Outcome::Passed;
+            }
+            LineRead::Bad { line } => {
+                return failed(RefusalKind::LineForm, line);
+            }
+            LineRead::Heading { start, end, next } => {
+                let section = tables::find_section(file, &text[start..end]);
+                let row = tables::rows_before(file, section);
+                let line = next.line;
+                if !take_row(numbers, starts, lengths, row, line, 0, 0) {
+                    return failed(RefusalKind::HeadingNotExpected, line);
+                }
+                cur = section;
+                c = next;
+            }
+            LineRead::Entry {
+                start,
+                equals,
+                end,
+                next,
+            } => {
+                let line = next.line;
+                if none <= cur {
+                    return failed(RefusalKind::LineForm, line);
+                }
+                let entry = tables::find_entry(file, cur, &text[start..equals]);
+                let row = tables::row_at(file, cur, entry);
+                let from = equals + 1;
+                if !take_row(numbers, starts, lengths, row, line, from, end - from) {
+                    return failed(RefusalKind::EntryNotExpected, line);
+                }
+                c = next;
+            }
+        }
+    }
+}
+
+// How many sections were found, up to the first that was not.
+fn sections_found(file: u32, numbers: &[u32]) -> usize
+    requires { ⌜ length (now numbers) ≡ rowCount (tableOf file) ⌝ }
+    ensures { λ r. ⌜ r ≡ sectionsFound (tableOf file) (now (numbers .entry)) ⌝ }
+{
+    let n = tables::section_count(file);
+    let mut c = 0;
+    while c < n {
+        let row = tables::rows_before(file, c);
+        if numbers[row] == 0 {
+            return c;
+        }
+        c += 1;
+    }
+    c
+}
+
+// 7: a line of a section after one that was not found.
+fn check_gap(numbers: &[u32], rows: usize) -> Outcome
+    ensures { λ r. ⌜ checkIs r ≡ checkGap (now (numbers .entry)) rows ⌝ }
+{
+    let mut r = rows;
+    while r < numbers.len() {
+        if 0 < numbers[r] {
+            return Outcome::Failed(Fault {
+                kind: RefusalKind::SectionAbsent,
+                line: 0,
+            });
+        }
+        r += 1;
+    }
+    Outcome::Passed
+}
+
+// The row of the heading that a row stands under.
+fn owner_row(file: u32, row: usize) -> usize
+    ensures { λ r. ⌜ (r ≡ ownerRow (rowKinds (tableOf file)) row) × (r ≤ row) ⌝ }
+{
+    let mut r = row;
+    while 0 < r {
+        if HEADING <= rows::row_kind(file, r) {
+            return r;
+        }
+        r -= 1;
+    }
+    r
+}
+
+// 8: the first row that was not found.
+fn check_absent(file: u32, numbers: &[u32], rows: usize) -> Outcome
+    requires { ⌜ rows ≤ length (now numbers) ⌝ }
+    ensures { λ r. ⌜ checkIs r ≡ checkAbsent (rowKinds (tableOf file)) (now (numbers .entry)) rows ⌝ }
+{
+    let mut r = 0;
+    while r < rows {
+        if numbers[r] == 0 {
+            let heading = owner_row(file, r);
+            return Outcome::Failed(Fault {
+                kind: RefusalKind::EntryAbsent,
+                line: numbers[heading],
+            });
+        }
+        r += 1;
+    }
+    Outcome::Passed
+}
+
+// Whether the value of a row is empty or of its kind.
+fn row_kept(file: u32, text: &[u8], row: usize, start: u32, size: u32) -> bool
+    requires { ⌜ start + size ≤ length (now text) ⌝ }
+    ensures { λ r. ⌜ r ≡ keptRow (getD (rowKinds (tableOf file)) row none) (valueAt (now (text .entry)) (start, size)) ⌝ }
+{
+    if size == 0 {
+        return true;
+    }
+    let kind = rows::row_kind(file, row);
+    if HEADING <= kind {
+        return true;
+    }
+    let a = start as usize;
+    let e = a + (size as usize);
+    kinds::kind_ok(kind, &text[a..e])
+}
+
+// 9: the first row whose value is of the wrong kind.
+fn check_kinds(
+    file: u32,
+    text: &[u8],
+    numbers: &[u32],
+    starts: &[u32],
+    lengths: &[u32],
+    rows: usize,
+) -> Outcome
+    requires { ⌜ Ready (tableOf file) (now text) (slots (now numbers) (now starts) (now lengths)) × (rows ≤ length (now numbers)) ⌝ }
+    ensures { λ r. ⌜ checkIs r ≡ checkKinds (rowKinds (tableOf file)) (now (text .entry)) (slots (now (numbers .entry)) (now (starts .entry)) (now (lengths .entry))) rows ⌝ }
+{
+    let mut r = 0;
+    while r < rows {
+        if !row_kept(file, text, r, starts[r], lengths[r]) {
+            return Outcome::Failed(Fault {
+                kind: RefusalKind::WrongKind,
+                line: numbers[r],
+            });
+        }
+        r += 1;
+    }
+    Outcome::Passed
+}
+
+// 7, 8, 9, of a text that was scanned.
+fn judge_slots(
+    file: u32,
+    text: &[u8],
+    numbers: &[u32],
+    starts: &[u32],
+    lengths: &[u32],
+) -> TextAnswer
+    requires { ⌜ Ready (tableOf file) (now text) (slots (now numbers) (now starts) (now lengths)) ⌝ }
+    ensures { λ r. ⌜ JudgesSlots (tableOf file) (ofNumber 0 leastSections file) (now (text .entry)) (slots (now (numbers .entry)) (now (starts .entry)) (now (lengths .entry))) r ⌝ }
+{
+    let count = sections_found(file, numbers);
+    let rows = tables::rows_before(file, count);
+    if count < tables::least_sections(file) {
+        return TextAnswer::Faulty(Fault {
+            kind: RefusalKind::SectionAbsent,
+            line: 0,
+        });
+    }
+    if let Outcome::Failed(x) = check_gap(numbers, rows) {
+        return TextAnswer::Faulty(x);
+    }
+    if let Outcome::Failed(x) = check_absent(file, numbers, rows) {
+        return TextAnswer::Faulty(x);
+    }
+    if let Outcome::Failed(x) = check_kinds(file, text, numbers, starts, lengths, rows) {
+        return TextAnswer::Faulty(x);
+    }
+    TextAnswer::Sections(count)
+}
+
+// The pairs of the entries among the first rows, from a first pair on.
+fn write_pairs(
+    file: u32,
+    first: usize,
+    starts: &[u32],
+    lengths: &[u32],
+    rows: usize,
+    places: &mut [u32],
+)
+    requires { ⌜ (rows ≤ length (now starts)) × (length (now lengths) ≡ length (now starts)) × (rows ≤ length (rowKinds (tableOf file))) × (placeSize * (first + length (ofEntries (take rows (rowKinds (tableOf file))) (zip (now starts) (now lengths)))) ≤ length (now places)) ⌝ }
+    ensures { λ _. ⌜ now (places .exit) ≡ setPairs first (ofEntries (take rows (rowKinds (tableOf file))) (zip (now (starts .entry)) (now (lengths .entry)))) (now (places .entry)) ⌝ }
+{
+    let mut e = first;
+    let mut r = 0;
+    while r < rows {
+        if HEADING <= rows::row_kind(file, r) {
+            r += 1;
+        } else {
+            places::set_pair(places, e, starts[r], lengths[r]);
+            e += 1;
+            r += 1;
+        }
+    }
+}
+
+// The lines of the entries among the first rows.
+fn write_lines(file: u32, numbers: &[u32], rows: usize, lines: &mut [u32])
+    requires { ⌜ (rows ≤ length (now numbers)) × (rows ≤ length (rowKinds (tableOf file))) × (length (ofEntries (take rows (rowKinds (tableOf file))) (now numbers)) ≤ length (now lines)) ⌝ }
+    ensures { λ _. ⌜ take (length (ofEntries (take rows (rowKinds (tableOf file))) (now (numbers .entry)))) (now (lines .exit)) ≡ ofEntries (take rows (rowKinds (tableOf file))) (now (numbers .entry)) ⌝ }
+{
+    let mut e = 0;
+    let mut r = 0;
+    while r < rows {
+        if HEADING <= rows::row_kind(file, r) {
+            r += 1;
+        } else {
+            lines[e] = numbers[r];
+            e += 1;
+            r += 1;
+        }
+    }
+}
+
+// The pairs and lines of a text that was read, of its first sections.
+fn write_read(
+    file: u32,
+    sections: usize,
+    numbers: &[u32],
+    starts: &[u32],
+    lengths: &[u32],
+    places: &mut [u32],
+    lines: &mut [u32],
+)
+    requires { ⌜ WriteReady file sections (slots (now numbers) (now starts) (now lengths)) (now places) (now lines) ⌝ }
+    ensures { λ _. ⌜ WritesRead file sections (slots (now (numbers .entry)) (now (starts .entry)) (now (lengths .entry))) (now (places .entry)) (now (places .exit)) (now (lines .exit)) ⌝ }
+{
+    let rows = tables::rows_before(file, sections);
+    let first = tables::first_pair(file);
+    write_pairs(file, first, starts, lengths, rows, places);
+    write_lines(file, numbers, rows, lines);
+}
+
+// 4 to 9, into slots that are empty.
+fn read_slots(
+    file: u32,
+    text: &[u8],
+    numbers: &mut [u32],
+    starts: &mut [u32],
+    lengths: &mut [u32],
+) -> TextAnswer
+    requires { ⌜ (length (now text) ≤ 16384) × (slots (now numbers) (now starts) (now lengths) ≡ emptySlots (rowCount (tableOf file))) ⌝ }
+    ensures { λ r. ⌜ ReadsSlots file (now (text .entry)) (slots (now (numbers .exit)) (now (starts .exit)) (now (lengths .exit))) r ⌝ }
+{
+    if let Outcome::Failed(x) = scan_text(file, text, numbers, starts, lengths) {
+        return TextAnswer::Faulty(x);
+    }
+    judge_slots(file, text, numbers, starts, lengths)
+}
+
+// 4 to 9, into slots that are empty; the pairs and lines of what was read.
+fn read_into(
+    file: u32,
+    text: &[u8],
+    numbers: &mut [u32],
+    starts: &mut [u32],
+    lengths: &mut [u32],
+    places: &mut [u32],
+    lines: &mut [u32],
+) -> TextAnswer
+    requires { ⌜ (length (now text) ≤ 16384) × (slots (now numbers) (now starts) (now lengths) ≡ emptySlots (rowCount (tableOf file))) × (leastPlaces ≤ length (now places)) × (64 ≤ length (now lines)) ⌝ }
+    ensures { λ r. ⌜ ReadsText file (now (text .entry)) r (now (places .entry)) (now (places .exit)) (now (lines .exit)) ⌝ }
+{
+    let answer = read_slots(file, text, numbers, starts, lengths);
+    if let TextAnswer::Sections(count) = answer {
+        write_read(file, count, numbers, starts, lengths, places, lines);
+    }
+    answer
+}
+
+// 3 to 9 of one file: its pairs into the places, the lines of its entries, in entry order, into `lines`.
+pub fn read_text(file: u32, text: &[u8], places: &mut [u32], lines: &mut [u32]) -> TextAnswer
+    requires { ⌜ (leastPlaces ≤ length (now places)) × (64 ≤ length (now lines)) ⌝ }
+    ensures { λ r. ⌜ ReadsText file (now (text .entry)) r (now (places .entry)) (now (places .exit)) (now (lines .exit)) ⌝ }
+{
+    if 16384 < text.len() {
+        return TextAnswer::Faulty(Fault {
+            kind: RefusalKind::FileTooLong,
+            line: 0,
+        });
+    }
+    let mut numbers = [0u32; 64];
+    let mut starts = [0u32; 64];
+    let mut lengths = [0u32; 64];
+    let n = tables::row_count(file);
+    read_into(
+        file,
+        text,
+        &mut numbers[..n],
+        &mut starts[..n],
+        &mut lengths[..n],
+        places,
+        lines,
+    )
+}
+
+// How many places a caller lends at least.
+pub fn least_places() -> usize
+    ensures { λ r. ⌜ r ≡ leastPlaces ⌝ }
+{
+    278
+}
+
+fn refused(kind: RefusalKind, file: u32, line: u32) -> FileAnswer
+    ensures { λ r. ⌜ r ≡ refusedAs kind file line ⌝ }
+{
+    FileAnswer::Refused(Refusal {
+        kind: kind,
+        file: file,
+        line: line,
+    })
+}
+
+// One file alone, whose places are cleared: 11, then 3 to 9.
+fn read_cleared(file: u32, text: &[u8], places: &mut [u32]) -> FileAnswer
+    requires { ⌜ (leastPlaces ≤ length (now places)) × (isFile file ≡ true) ⌝ }
+    ensures { λ r. ⌜ ReadsCleared file (now (text .entry)) (now (places .entry)) (now (places .exit)) r ⌝ }
+{
+    if text.len() == 0 {
+        return refused(RefusalKind::SliceNotAsDue, file, 0);
+    }
+    let mut lines = [0u32; 64];
+    match read_text(file, text, places, &mut lines) {
+        TextAnswer::Faulty(x) => {
+            let kind = x.kind;
+            let line = x.line;
+            refused(kind, file, line)
+        }
+        TextAnswer::Sections(count) => {
+            let axles = count - tables::fixed_section_count(file);
+            FileAnswer::Accepted(FileAcceptance {
+                axles: axles as u32,
+            })
+        }
+    }
+}
+
+// One file read alone (01, Writing): 1, 16, 11, then 3 to 9.
+pub fn read_alone(file: u32, text: &[u8], places: &mut [u32]) -> FileAnswer
+    ensures { λ r. ⌜ ReadsAlone file (now (text .entry)) (now (places .entry)) (now (places .exit)) r ⌝ }
+{
+    let least = least_places();
+    if places.len() < least {
+        return refused(RefusalKind::PlacesTooShort, 0, 0);
+    }
+    places::clear(places, least);
+    if !tables::is_file(file) {
+        return refused(RefusalKind::FileOrAxles, file, 0);
+    }
+    read_cleared(file, text, places)
+}

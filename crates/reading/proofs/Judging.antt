@@ -1,0 +1,91 @@
+-- What the checks after a scan answer, one after the other, and with the scan before them. Assumes nothing.
+use Prim.Native.Nat.{ℕ, _+_, _<_, _≤_}
+use mathlib.Core.Path.{_≡_, ap, sym, _∙_}
+use mathlib.Core.Bool.{false, not}
+use mathlib.Core.Option.{none}
+use mathlib.Core.List.{List}
+use native.Mathlib.Omega.{arith}
+use lib.ListN.{length, getD, length-replicate}
+use borrow.Author.Tests.{le-leb, lt-leb}
+use Rattle.kinds.specs.Value.{kindKept}
+use Rattle.places.specs.Places.{valueAt}
+use Rattle.tables.specs.Section.{Section}
+use Rattle.tables.specs.Row.{entriesIn, entryAt, rowCount, rowsBefore}
+use Rattle.reading.specs.Tables.{mostBytes}
+use Rattle.reading.specs.Reading.{rowKinds, Slots, emptySlots, stopped, scanned, passes, fails, sectionsFound, checkGap, checkAbsent, isWrong, checkKinds, Reading, refused, readSlots, judgeSlots, readScan, readText}
+use Rattle.reading.specs.Scanning.{Ready, Scanned}
+use Rattle.reading.proofs.Lookup.{heading-kind, entry-kind}
+use Rattle.reading.proofs.Reduce.{empty-at}
+
+-- ---- the test of a row's value
+
+pub wrong-heading : (t : List Section) (s : List ℕ) (a : Slots) (c : ℕ) → c < length t → isWrong (rowKinds t) s a (rowsBefore t c) ≡ false
+wrong-heading t s a c l = rw (heading-kind t c l)
+
+pub wrong-entry : (t : List Section) (s : List ℕ) (a : Slots) (c i r : ℕ) → c < length t → i < length (entriesIn t c) → r ≡ rowsBefore t c + 1 + i
+    → isWrong (rowKinds t) s a r ≡ not (kindKept (entryAt t c i .kind) (valueAt s (getD (a .starts) r 0, getD (a .lengths) r 0)))
+wrong-entry t s a c i r l m e =
+    let k = ap (λ (n : ℕ). getD (rowKinds t) n none) e ∙ entry-kind t c i l m in
+    rw k
+
+-- ---- the checks in their order
+
+module _ (t : List Section) (least : ℕ) (s : List ℕ) (a : Slots) (c n : ℕ) (count : c ≡ sectionsFound t (a .lineNumbers)) (rows : n ≡ rowsBefore t c) where
+  abbrev judged : Reading
+  judged = judgeSlots t least s a (sectionsFound t (a .lineNumbers))
+
+  from : judged ≡ judgeSlots t least s a c
+  from = ap (λ (d : ℕ). judgeSlots t least s a d) (sym count)
+
+  pub judge-few : c < least → judged ≡ refused 7 0
+  judge-few l = from ∙ rw (lt-leb least c l)
+
+  module _ (l : least ≤ c) where
+    pub judge-gap : (k i : ℕ) → checkGap (a .lineNumbers) n ≡ fails k i → judged ≡ refused k i
+    judge-gap k i e =
+        let f = rw rows at e in
+        from ∙ rw (le-leb least c l, f)
+
+    module _ (g : checkGap (a .lineNumbers) n ≡ passes) where
+      pub judge-absent : (k i : ℕ) → checkAbsent (rowKinds t) (a .lineNumbers) n ≡ fails k i → judged ≡ refused k i
+      judge-absent k i e =
+          let f = rw rows at g in
+          let h = rw rows at e in
+          from ∙ rw (le-leb least c l, f, h)
+
+      module _ (b : checkAbsent (rowKinds t) (a .lineNumbers) n ≡ passes) where
+        pub judge-kinds : (k i : ℕ) → checkKinds (rowKinds t) s a n ≡ fails k i → judged ≡ refused k i
+        judge-kinds k i e =
+            let f = rw rows at g in
+            let h = rw rows at b in
+            let j = rw rows at e in
+            from ∙ rw (le-leb least c l, f, h, j)
+
+        pub judge-read : checkKinds (rowKinds t) s a n ≡ passes → judged ≡ readSlots t a c
+        judge-read e =
+            let f = rw rows at g in
+            let h = rw rows at b in
+            let j = rw rows at e in
+            from ∙ rw (le-leb least c l, f, h, j)
+
+-- ---- the scan, and what follows from it
+
+pub empty-ready : (t : List Section) (s : List ℕ) → length s ≤ mostBytes → Ready t s (emptySlots (rowCount t))
+empty-ready t s l =
+    let n = rowCount t in
+    record {
+      lines-are = length-replicate n 0;
+      starts-are = length-replicate n 0;
+      lengths-are = length-replicate n 0;
+      short = l;
+      within = λ (r : ℕ). omega (arith, empty-at n r);
+    }
+
+module _ (t : List Section) (least : ℕ) (s : List ℕ) (a : Slots) where
+  pub scan-refused : (k n : ℕ) → Scanned t s (emptySlots (rowCount t)) a (stopped k n) → readText t least s ≡ refused k n
+  unfolding readText
+  scan-refused k n h = ap (readScan t least s) (h .is)
+
+  pub scan-judged : Scanned t s (emptySlots (rowCount t)) a (scanned a) → readText t least s ≡ judgeSlots t least s a (sectionsFound t (a .lineNumbers))
+  unfolding readText
+  scan-judged h = ap (readScan t least s) (h .is)

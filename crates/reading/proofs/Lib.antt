@@ -1,0 +1,14 @@
+pub mod Lookup
+pub mod Reduce
+pub mod Checks
+pub mod Shape
+pub mod Formed
+pub mod Starts
+pub mod Theorem
+pub mod OneStart
+pub mod Written
+pub mod Tables
+pub mod Turns
+pub mod Judging
+pub mod Sections
+pub mod Samples

@@ -1,0 +1,210 @@
+// The rows of a file's table, each section's heading and then its entries, by their kinds.
+ghost use mathlib.Core.Path.{_≡_};
+ghost use mathlib.Core.Option.{none};
+ghost use lib.ListN.{getD};
+ghost use Rattle.tables.specs.File.{ac2, acc, drift, suspension, gas, allSections, tableOf};
+ghost use Rattle.reading.specs.Reading.{rowKinds};
+ghost use Rattle.rows.specs.Rows.{rowKind};
+
+// The number of a row that is a heading, or that the table has not: of no kind.
+pub const HEADING: u8 = 28;
+
+const AC2: [u8; 13] = [28, 0, 20, 21, 0, 17, 1, 22, 22, 23, 1, 24, 19];
+
+const ACC: [u8; 7] = [28, 1, 1, 18, 1, 1, 7];
+
+const DRIFT: [u8; 35] = [
+    28,
+    1,
+    1,
+    1,
+    1,
+    13,
+    1,
+    3,
+    9,
+    13,
+    25,
+    1,
+    1,
+    13,
+    14,
+    14,
+    1,
+    28,
+    15,
+    28,
+    15,
+    28,
+    15,
+    28,
+    15,
+    28,
+    15,
+    28,
+    15,
+    28,
+    15,
+    28,
+    15,
+    28,
+    15,
+];
+
+const SUSPENSION: [u8; 53] = [
+    28,
+    1,
+    1,
+    1,
+    1,
+    13,
+    1,
+    3,
+    9,
+    13,
+    25,
+    1,
+    1,
+    13,
+    14,
+    14,
+    1,
+    28,
+    8,
+    8,
+    8,
+    28,
+    8,
+    8,
+    8,
+    28,
+    8,
+    8,
+    8,
+    28,
+    8,
+    8,
+    8,
+    28,
+    8,
+    8,
+    8,
+    28,
+    8,
+    8,
+    8,
+    28,
+    8,
+    8,
+    8,
+    28,
+    8,
+    8,
+    8,
+    28,
+    8,
+    8,
+    8,
+];
+
+const GAS: [u8; 55] = [
+    28,
+    1,
+    1,
+    1,
+    1,
+    1,
+    13,
+    1,
+    1,
+    1,
+    1,
+    1,
+    13,
+    27,
+    9,
+    1,
+    1,
+    1,
+    1,
+    1,
+    9,
+    13,
+    3,
+    9,
+    13,
+    26,
+    1,
+    5,
+    13,
+    5,
+    13,
+    5,
+    13,
+    2,
+    6,
+    4,
+    2,
+    6,
+    4,
+    2,
+    6,
+    4,
+    1,
+    13,
+    14,
+    14,
+    1,
+    28,
+    11,
+    11,
+    12,
+    10,
+    12,
+    16,
+    11,
+];
+
+fn ac2_kind(row: usize) -> u8
+    ensures { λ r. ⌜ rowKind r ≡ getD (rowKinds (allSections ac2)) row none ⌝ }
+{
+    if row < 13 { AC2[row] } else { HEADING }
+}
+
+fn acc_kind(row: usize) -> u8
+    ensures { λ r. ⌜ rowKind r ≡ getD (rowKinds (allSections acc)) row none ⌝ }
+{
+    if row < 7 { ACC[row] } else { HEADING }
+}
+
+fn drift_kind(row: usize) -> u8
+    ensures { λ r. ⌜ rowKind r ≡ getD (rowKinds (allSections drift)) row none ⌝ }
+{
+    if row < 35 { DRIFT[row] } else { HEADING }
+}
+
+fn suspension_kind(row: usize) -> u8
+    ensures { λ r. ⌜ rowKind r ≡ getD (rowKinds (allSections suspension)) row none ⌝ }
+{
+    if row < 53 { SUSPENSION[row] } else { HEADING }
+}
+
+fn gas_kind(row: usize) -> u8
+    ensures { λ r. ⌜ rowKind r ≡ getD (rowKinds (allSections gas)) row none ⌝ }
+{
+    if row < 55 { GAS[row] } else { HEADING }
+}
+
+// The kind number of a row of the file of a number.
+pub fn row_kind(file: u32, row: usize) -> u8
+    ensures { λ r. ⌜ rowKind r ≡ getD (rowKinds (tableOf file)) row none ⌝ }
+{
+    match file {
+        1 => ac2_kind(row),
+        2 => acc_kind(row),
+        3 => drift_kind(row),
+        4 => suspension_kind(row),
+        5 => gas_kind(row),
+        _ => HEADING,
+    }
+}

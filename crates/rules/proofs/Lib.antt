@@ -1,0 +1,7 @@
+pub mod Pairs
+pub mod Tests
+pub mod Categories
+pub mod Rules
+pub mod Laws
+pub mod Names
+pub mod Samples

@@ -1,0 +1,52 @@
+-- `rules::first_broken` meets its contract: each file by its number; drift and gas have no rule. Assumes nothing.
+use mathlib.Core.Path.{sym, _∙_}
+use Rattle.tables.specs.File.{File, ac2, acc, suspension}
+use mathlib.Core.List.{[]}
+use Rattle.rules.specs.Rules.{firstBrokenAt}
+use Rattle.rules.specs.declared.RuleCheck.the-variants.{Kept}
+use Rattle.rules.proofs.Pairs.{of-number, of-others, number-held}
+use Rattle.rules.proofs.Rules.{new-rules, old-rules, axle-rules, drift-rules, gas-rules, new-any, old-any}
+use Rattle.rules.proofs.first_broken.Statement.{statement}
+use Rattle.rules.proofs.first_broken.Tie as tie
+
+check-new-booking-requires : tie.Need-check-new-booking-requires
+check-new-booking-requires c κs = new-any _ _ [] _ (number-held ac2 _ _ _ _ (c .match .keys1) (c .before .before .before .before .pre .2))
+
+check-old-booking-requires : tie.Need-check-old-booking-requires
+check-old-booking-requires c κs = (c .before .before .before .before .pre .1, old-any _ _ [] _ (number-held acc _ _ _ _ (c .match .keys2) (c .before .before .before .before .pre .2)))
+
+check-differences-requires : tie.Need-check-differences-requires
+check-differences-requires c κs = (c .before .before .before .before .pre .0, number-held suspension _ _ _ _ (c .match .keys3) (c .before .before .before .before .pre .2))
+
+returns : tie.Need-returns
+returns c =
+    let x = c .before .before .before .before .before .args in
+    c .check-new-booking .ensures ∙ sym (of-number Kept (λ (f : File). firstBrokenAt f (x .axles) (x .booking .now) (x .text .now) (x .places .now)) ac2 _ (c .before .match .keys1) ∙ new-rules _ _ _ _)
+
+returns-2 : tie.Need-returns-2
+returns-2 c =
+    let x = c .before .before .before .before .before .args in
+    c .check-old-booking .ensures ∙ sym (of-number Kept (λ (f : File). firstBrokenAt f (x .axles) (x .booking .now) (x .text .now) (x .places .now)) acc _ (c .before .match .keys2) ∙ old-rules _ _ _ _)
+
+returns-3 : tie.Need-returns-3
+returns-3 c =
+    let x = c .before .before .before .before .before .args in
+    c .check-differences .ensures ∙ sym (of-number Kept (λ (f : File). firstBrokenAt f (x .axles) (x .booking .now) (x .text .now) (x .places .now)) suspension _ (c .before .match .keys3) ∙ axle-rules _ _ _ _)
+
+returns-4 : tie.Need-returns-4
+returns-4 c =
+    let x = c .before .before .before .before .args in
+    let n = c .match .rest in
+    sym (of-others Kept (λ (f : File). firstBrokenAt f (x .axles) (x .booking .now) (x .text .now) (x .places .now)) _ (λ e. absurd (n .0 .0 .1 e)) (λ e. absurd (n .0 .1 e)) (λ e. drift-rules _ _ _ _) (λ e. absurd (n .1 e)) (λ e. gas-rules _ _ _ _))
+
+pub first-broken-spec : {M : Type 1} → statement M
+first-broken-spec =
+    tie.close
+    (tie.spec
+    check-new-booking-requires
+    check-old-booking-requires
+    check-differences-requires
+    returns
+    returns-2
+    returns-3
+    returns-4)

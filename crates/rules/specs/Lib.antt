@@ -1,0 +1,7 @@
+pub mod Values
+pub mod Rule
+pub mod Bookings
+pub mod Differences
+pub mod Rules
+pub mod Slices
+pub mod Answer

@@ -1,0 +1,141 @@
+-- Slice 6: the judge lets through exactly the identification answer of an address and gas's seven values. Assumes nothing.
+use Prim.Native.Nat.{ℕ, zero, suc, _<_, _≤_}
+use Prim.Native.String.{String}
+use native.Mathlib.Omega.{arith}
+use mathlib.Core.Path.{_≡_, refl, ap, sym, _∙_, subst}
+use mathlib.Core.Bool.{Bool, true, false, cond, true≢false}
+use mathlib.Core.List.{List, [], _∷_}
+use lib.Dec.{leb}
+use lib.ListN.{length, getD}
+use borrow.Author.Tests.{leb-true, le-leb, ltb-true, ne-eqb}
+use Rattle.lines.specs.Bytes.{sameBytes}
+use Rattle.lines.proofs.Bools.{clash}
+use Rattle.kinds.specs.Kind.{Kind, S, N, D}
+use Rattle.kinds.specs.Value.{kindKept, wordIndex, width}
+use Rattle.kinds.proofs.Values.{Filled, filled}
+use Rattle.tables.specs.Section.{Entry, entriesOf}
+use Rattle.tables.specs.Entries.{protocol, measurement, analysis, analyser, counter, speedTest, allKeyDates, allKeyBodies, fuelAnalysis}
+use Rattle.tables.specs.Row.{noEntry}
+use Rattle.tables.specs.File.{gas, entries, sections, fixedSections, axleSections}
+use Rattle.tables.specs.Value.{placeOf, isEntry, of}
+use Rattle.reading.specs.Fitting.{EachKept}
+use Rattle.reading.proofs.Written.{kept-length}
+use Rattle.due.specs.Conditions.{conditionsOf}
+use Rattle.due.specs.Due as U
+use Rattle.due.specs.Due.{conditionAt, conditionOf, exceptions}
+use Rattle.due.specs.declared.Condition.the-variants.{Always}
+use Rattle.due.proofs.FirstNotAsDue.{always-filled}
+use Rattle.rules.specs.Slices.{answerRight}
+use Rattle.rules.specs.Answer.{sevenOf, sameFields}
+use Rattle.rules.proofs.Laws.{fields-same, fields-refl}
+use Rattle.serial.specs.Answer.{answerOf, addressOk, fieldOk, allFieldsOk, sevenOk}
+use Rattle.serial.specs.Reading.{readAnswer, addressIn, sevenIn}
+use Rattle.serial.specs.declared.AnswerRead.{AnswerRead}
+use Rattle.serial.specs.declared.AnswerRead.the-variants.{Malformed, Fields}
+use Rattle.serial.proofs.Exact.{Written, read-sound, Found, read-complete}
+use Rattle.sets.specs.Records.{isGiven, Address, EachAsDue}
+use Rattle.sets.specs.Judge.{Step, goes, judgeFields, judgeAnswer}
+use Rattle.sets.proofs.Steps.{require-inv}
+
+-- ---- gas's seven values, where kinds and due entries are kept, are fields of an answer
+
+kept-at : (es : List Entry) (vs : List (List ℕ)) → EachKept es vs → (i : ℕ) → i < length es → kindKept (getD es i noEntry .kind) (getD vs i []) ≡ true
+kept-at [] vs k i h = absurd (omega arith)
+kept-at (e ∷ es) [] k i h = absurd k
+kept-at (e ∷ es) (v ∷ vs) k zero h = k .0
+kept-at (e ∷ es) (v ∷ vs) k (suc i) h = kept-at es vs (k .1) i (omega arith)
+
+-- a filled value of a kind of at most 64 bytes
+field-of : (k : Kind) (v : List ℕ) → leb (width k) 64 ≡ true → U.filled v ≡ true → kindKept k v ≡ true → fieldOk v ≡ true
+unfolding fieldOk kindKept
+field-of k v w e q =
+    let l : 0 < length v = ltb-true 0 (length v) e in
+    let f : Filled (width k) v = filled k v (rw (ne-eqb (length v) 0 (λ z. omega arith)) at q) in
+    let m : width k ≤ 64 = leb-true (width k) 64 w in
+    rw (le-leb 1 (length v) (omega arith), le-leb (length v) 64 (omega (arith, f)), f .printable) refl
+
+-- an entry of gas that is always due and of a kind of at most 64 bytes
+abbrev IsField : String → Kind → Type 0
+IsField n k =
+    (isEntry gas n ≡ true) × (getD (entries gas 0) (placeOf gas n) noEntry .kind ≡ k) × (conditionAt gas (placeOf gas n) ≡ Always) × (leb (width k) 64 ≡ true)
+
+the-fields :
+    IsField "MarcaAnalizzatore" (S 64)
+    × IsField "TipoAnalizzatore" (S 64)
+    × IsField "NumOmologaAnalizzatore" (S 64)
+    × IsField "NumSerieAnalizzatore" (S 64)
+    × IsField "DataScadenzaAnalizzatore" D
+    × IsField "NumVersSoftwareAnalizzatore" (S 64)
+    × IsField "NumVersioneProtocollo" (N 3)
+unfolding placeOf wordIndex sameBytes width exceptions conditionOf conditionAt entries entriesOf sections fixedSections axleSections protocol measurement analysis analyser counter speedTest allKeyDates allKeyBodies fuelAnalysis
+the-fields = (
+  (refl, refl, refl, refl),
+  (refl, refl, refl, refl),
+  (refl, refl, refl, refl),
+  (refl, refl, refl, refl),
+  (refl, refl, refl, refl),
+  (refl, refl, refl, refl),
+  (refl, refl, refl, refl),
+)
+
+module _ (a vs : List (List ℕ)) (kinds : EachKept (entries gas 0) vs) (dues : EachAsDue gas a vs) where
+  field : (n : String) (k : Kind) → IsField n k → fieldOk (of gas vs n) ≡ true
+  field n k w =
+      let i : ℕ = placeOf gas n in
+      let h : i < length (entries gas 0) = ltb-true i (length (entries gas 0)) (w .0) in
+      let q : kindKept (getD (entries gas 0) i noEntry .kind) (getD vs i []) ≡ true = kept-at (entries gas 0) vs kinds i h in
+      let d = dues i (omega (arith, kept-length (entries gas 0) vs kinds)) in
+      field-of k (getD vs i []) (w .3)
+      (sym (always-filled gas (conditionsOf a vs) i (getD vs i []) (w .2)) ∙ d)
+      (ap (λ (k : Kind). kindKept k (getD vs i [])) (sym (w .1)) ∙ q)
+
+  pub seven-fields : sevenOk (sevenOf vs) ≡ true
+  unfolding sevenOf sevenOk allFieldsOk
+  seven-fields =
+      rw (
+        field "MarcaAnalizzatore" (S 64) (the-fields .0),
+        field "TipoAnalizzatore" (S 64) (the-fields .1),
+        field "NumOmologaAnalizzatore" (S 64) (the-fields .2),
+        field "NumSerieAnalizzatore" (S 64) (the-fields .3),
+        field "DataScadenzaAnalizzatore" D (the-fields .4),
+        field "NumVersSoftwareAnalizzatore" (S 64) (the-fields .5),
+        field "NumVersioneProtocollo" (N 3) (the-fields .6),
+      ) refl
+
+-- ---- what is let through
+
+pub answer-sound : (gasGiven : Bool) (g : List (List ℕ)) (s v : List ℕ) → judgeAnswer gasGiven g s ≡ goes v
+    → (answerRight gasGiven g (isGiven s) ≡ true) × Address (isGiven s) v × (isGiven s ≡ true → s ≡ answerOf v (sevenOf g))
+unfolding judgeAnswer
+answer-sound gasGiven g s v e =
+    let i = require-inv (answerRight gasGiven g (isGiven s)) 11 6 0 (cond (isGiven s) (judgeFields g s (readAnswer s)) (goes [])) v e in
+    let r = given (isGiven s) (i .1) in
+    (i .0, r .0, r .1)
+  where
+    fields : (r : AnswerRead) → readAnswer s ≡ r → judgeFields g s r ≡ goes v → (addressOk v ≡ true) × (s ≡ answerOf v (sevenOf g))
+    fields Malformed q e = clash (cc)
+    fields (Fields x) q e =
+        let i = require-inv (sameFields (sevenIn s x) (sevenOf g)) 15 6 0 (goes (addressIn s x)) v e in
+        let f : sevenIn s x ≡ sevenOf g = fields-same (sevenIn s x) (sevenOf g) (i .0) in
+        let a : addressIn s x ≡ v = cc (i .1) in
+        let w : Written s x = read-sound s x q in
+        (ap addressOk (sym a) ∙ w .address, w .answer ∙ ap (λ (l : List ℕ). answerOf l (sevenIn s x)) a ∙ ap (answerOf v) f)
+
+    given : (b : Bool) → cond b (judgeFields g s (readAnswer s)) (goes []) ≡ goes v → Address b v × (b ≡ true → s ≡ answerOf v (sevenOf g))
+    given true e = let r = fields (readAnswer s) refl e in (r .0, λ h. r .1)
+    given false e = (cc, λ h. absurd (true≢false (sym h)))
+
+-- ---- what fits is let through
+
+found-goes : (g : List (List ℕ)) (s v : List ℕ) → Found s v (sevenOf g) → judgeFields g s (readAnswer s) ≡ goes v
+found-goes g s v f = rw (f .read, f .seven, fields-refl (sevenOf g), f .address) refl
+
+pub answer-complete : (gasGiven : Bool) (g : List (List ℕ)) (given : Bool) (s v : List ℕ) → given ≡ isGiven s → answerRight gasGiven g given ≡ true → Address given v
+    → (given ≡ true → (s ≡ answerOf v (sevenOf g)) × (sevenOk (sevenOf g) ≡ true))
+    → judgeAnswer gasGiven g s ≡ goes v
+unfolding judgeAnswer
+answer-complete gasGiven g true s v e r a h =
+    let w = h refl in
+    let f : Found s v (sevenOf g) = subst (λ (t : List ℕ). Found t v (sevenOf g)) (sym (w .0)) (read-complete v (sevenOf g) a (w .1)) in
+    rw (← e, r) (found-goes g s v f)
+answer-complete gasGiven g false s v e r a h = rw (← e, r) (ap {B = Step (List ℕ)} goes (sym a))

@@ -1,0 +1,461 @@
+-- Lawful records are there: two of them, each with a set that it fits, by computation. Assumes nothing.
+use Prim.Native.Nat.{ℕ}
+use Prim.Native.String.{String}
+use mathlib.Core.Path.{_≡_, refl, ap, _∙_, subst}
+use mathlib.Core.Bool.{Bool, true, false}
+use mathlib.Core.List.{List, [], _∷_, _++_, map}
+use lib.Dec.{leb}
+use lib.ListN.{length}
+use Rattle.lines.specs.Text.{bytes}
+use Rattle.lines.proofs.Texts.{laid-out}
+use Rattle.places.specs.Places.{Pair, valueAt}
+use Rattle.files.specs.Files.{readBy, readFile, axlesOf, mostBytes}
+use Rattle.rules.specs.declared.Stated.{Stated}
+use Rattle.lines.specs.Bytes.{sameBytes, allPrintable, without}
+use Rattle.lines.specs.Line.{Line, heading, entry, textOf, wellFormed, allWellFormed}
+use Rattle.lines.specs.Layout.{Layout, layoutOf}
+use Rattle.kinds.specs.Kind.{words}
+use Rattle.kinds.specs.Digits.{allDigits, numberFrom}
+use Rattle.kinds.specs.Meaning.{dayNumber}
+use Rattle.kinds.specs.Value.{isString, isExact, isNumber, isFixed, isLeap, daysIn, isYear, isGregorian, areDigits, isDay, isTime, wordIndex, isWord, startsWith, isDrift, isRevs, isFirstDate, isFirstDay, allSorN, isPositions, kindOk, kindKept}
+use Rattle.tables.specs.Section.{entriesOf}
+use Rattle.tables.specs.Entries.{newBooking, oldBooking, tester, protocol, measurement, sixteen, driftAxle, suspensionAxle, analyser, counter, speedTest, allKeyDates, allKeyBodies, analysis, fuelAnalysis}
+use Rattle.tables.specs.File.{File, ac2, acc, drift, suspension, gas, allSections, fixedSections, axleEntries, axlesFrom, axleSections, sections, leastSections, entries}
+use Rattle.tables.specs.Row.{rowCount, rowAt}
+use Rattle.tables.specs.Value.{placeOf, axlePlaceOf}
+use Rattle.reading.specs.Reading.{Reading, read, refused, readScan, readText, emptySlots, scan, firstWrong, firstAbsent, ownerRow}
+use Rattle.due.specs.Booking.{isM, isN, isO, isL, fuelIn, isLate, bookingIn}
+use Rattle.due.specs.Conditions.{versionIn, linksIn, conditionsOf}
+use Rattle.due.specs.Due.{exceptions, conditionOf, conditionAt, isMoped, isMotorcycle, isMorN, conditionP, holdsIn, dueOf, firstNotAsDueFrom, firstNotAsDue}
+use Rattle.rules.specs.Rule.{firstBroken}
+use Rattle.rules.specs.Rules.{rulesOf}
+use Rattle.rules.specs.Bookings.{typeOf, parkingBrakeFits, newRules, descriptionsOf, yearFits, directiveOf, periodAt, periodOf, dieselFits, fuelFits, oldBrakeFits, numberIs, countOf, parkingAxlesFit, oldRules}
+use Rattle.rules.specs.Differences.{differenceFits, differencesFrom}
+use Rattle.rules.specs.Slices.{statedOf, oldBookingRight, sliceRight, isRead, isSerial, answerRight}
+use Rattle.rules.specs.Answer.{sevenOf}
+use Rattle.serial.specs.Answer.{separated, sum, hexDigit, checksum, answerOf, addressOk, fieldOk, allFieldsOk, sevenOk}
+use Rattle.sets.specs.Records.{Slices, isGiven, Record, Lawful, Fits}
+use Rattle.sets.specs.Judge.{goes, passed, fileChecks, firstFailed, FileRead, notRead, booked, judgeFile, judgeAnswer, SetRead, eachFile, judgeSlices}
+use Rattle.sets.proofs.File.{file-goes}
+use Rattle.sets.proofs.Answer.{answer-complete}
+use Rattle.sets.proofs.Set.{recordOf, same-record, slices-sound, slices-go, passed-lawful, passed-fits}
+
+abbrev h : String → Line
+h s = heading (bytes s)
+
+abbrev e : String → String → Line
+e n v = entry (bytes n) (bytes v)
+
+-- ---- reading lines where they stand in their text
+
+abbrev readLines : File → List Line → Reading
+readLines f ls =
+    readScan (allSections f) (leastSections f) (textOf ls)
+    (scan (allSections f) (textOf ls) (length (allSections f)) (emptySlots (rowCount (allSections f))) (layoutOf 0 0 ls))
+
+abbrev pairsIn : Reading → List Pair
+pairsIn (refused k l) = []
+pairsIn (read c ps ns) = ps
+
+abbrev numbersIn : Reading → List ℕ
+numbersIn (refused k l) = []
+numbersIn (read c ps ns) = ns
+
+-- it is read, with c sections
+abbrev Reads : ℕ → Reading → Type 0
+Reads c (refused k l) = ⊥
+Reads c (read d ps ns) = d ≡ c
+
+reading-is : (c : ℕ) (r : Reading) → Reads c r → r ≡ read c (pairsIn r) (numbersIn r)
+reading-is c (refused k l) q = absurd q
+reading-is c (read d ps ns) q = ap (λ (n : ℕ). read n ps ns) q
+
+-- what is computed of a file: a for AC2's values, c for its sections, vs for its own values
+pub record Computed (f : File) (st : Stated) (a : List (List ℕ)) (ls : List Line) (c : ℕ) (vs : List (List ℕ)) : Type 0 where
+  pub slice : sliceRight f st (bookingIn a) (isGiven (textOf ls)) ≡ true
+  pub is-read : isRead f (bookingIn a) (isGiven (textOf ls)) ≡ true
+  pub well-formed : allWellFormed ls ≡ true
+  pub short : leb (length (textOf ls)) mostBytes ≡ true
+  pub reads : Reads c (readLines f ls)
+  pub values : map (valueAt (textOf ls)) (pairsIn (readLines f ls)) ≡ vs
+  pub checks : firstFailed (fileChecks f (booked f a vs) vs (axlesOf f c)) ≡ passed
+
+file-reads : (f : File) (ls : List Line) → allWellFormed ls ≡ true → leb (length (textOf ls)) mostBytes ≡ true → readFile f (textOf ls) ≡ readLines f ls
+unfolding readBy readText
+file-reads f ls w q =
+    rw q
+    (ap (λ (m : Layout). readScan (allSections f) (leastSections f) (textOf ls) (scan (allSections f) (textOf ls) (length (allSections f)) (emptySlots (rowCount (allSections f))) m)) (laid-out ls w))
+
+abbrev given : File → List Line → ℕ → List (List ℕ) → FileRead
+given f ls c vs = record { axles = axlesOf f c; pairs = pairsIn (readLines f ls); values = vs }
+
+computed-goes : (f : File) (st : Stated) (a : List (List ℕ)) (ls : List Line) (c : ℕ) (vs : List (List ℕ)) → Computed f st a ls c vs
+    → judgeFile f st a (textOf ls) ≡ goes (given f ls c vs)
+computed-goes f st a ls c vs k =
+    let r : Reading = readLines f ls in
+    file-goes f st a (textOf ls) c (pairsIn r) (numbersIn r) vs (k .slice) (k .is-read) (file-reads f ls (k .well-formed) (k .short) ∙ reading-is c r (k .reads)) (k .values) (k .checks)
+
+-- a set that goes on has this record
+record-fits : (st : Stated) (s : Slices) (x : SetRead) (r : Record) → judgeSlices st s ≡ goes x → recordOf s x ≡ r → Lawful st r × Fits r s
+record-fits st s x r e q =
+    let w = slices-sound st s x e in
+    subst (λ (r : Record). Lawful st r × Fits r s) q (passed-lawful st s x w, passed-fits st s x w)
+
+-- ---- an L vehicle: ACC is given and, with a stem whose first digit is 9, not read
+
+abbrev pub motorcycle : List Line
+motorcycle =
+    h "[DatiLibrettoVeicolo]" ∷
+    e "CorrettorePressione" "" ∷
+    e "PosAssiStaz" "NSNNNNNNN" ∷
+    e "CodiceCIC" "" ∷
+    e "AzionamentoFrenoStazionamento" "NON PRESENTE" ∷
+    e "DirettivaEmissioniGasBenzinaAuto" "" ∷
+    e "DataPrimaImm" "15062005" ∷
+    e "DirettivaEmissioniGasMotociclo" "" ∷
+    e "TipoVeicolo" "MOTOVEICOLO" ∷
+    e "TargaNominale" "AB12345" ∷
+    e "Turbo" "" ∷
+    e "CategoriaInternazionale" "L3e" ∷
+    e "Alimentazione_1" "ELETTRICA" ∷ []
+
+abbrev pub motorcycleValues : List (List ℕ)
+motorcycleValues =
+    map bytes (
+    "AB12345" ∷ "MOTOVEICOLO" ∷ "L3e" ∷ "" ∷ "15062005" ∷ "ELETTRICA" ∷ "" ∷ "" ∷ "" ∷ "" ∷ "NON PRESENTE" ∷ "NSNNNNNNN" ∷ [])
+
+abbrev pub fileTexts : List ℕ → List ℕ → List ℕ → List ℕ → List ℕ → File → List ℕ
+fileTexts a o d u g ac2 = a
+fileTexts a o d u g acc = o
+fileTexts a o d u g drift = d
+fileTexts a o d u g suspension = u
+fileTexts a o d u g gas = g
+
+abbrev pub motorcycleStem : List ℕ
+motorcycleStem = bytes "AA912345"
+
+abbrev pub motorcycleSet : Slices
+motorcycleSet = record { file = fileTexts (textOf motorcycle) (bytes "no line") [] [] []; answer = [] }
+
+abbrev pub motorcycleGiven : File → Bool
+motorcycleGiven ac2 = true
+motorcycleGiven acc = true
+motorcycleGiven drift = false
+motorcycleGiven suspension = false
+motorcycleGiven gas = false
+
+abbrev pub onlyNew : List (List ℕ) → File → List (List ℕ)
+onlyNew a ac2 = a
+onlyNew a acc = []
+onlyNew a drift = []
+onlyNew a suspension = []
+onlyNew a gas = []
+
+abbrev pub motorcycleRecord : Record
+motorcycleRecord = record {
+  given = motorcycleGiven;
+  answerGiven = false;
+  driftAxles = 0;
+  suspensionAxles = 0;
+  values = onlyNew motorcycleValues;
+  address = [];
+}
+
+-- ---- a petrol car with all six slices: RS SENZA ESITO, version 210, CodErrore filled in drift, sections and entries in another order
+
+abbrev pub carNew : List Line
+carNew =
+    h "[DatiLibrettoVeicolo]" ∷
+    e "TipoVeicolo" "LEGGERO" ∷
+    e "CorrettorePressione" "" ∷
+    e "AzionamentoFrenoStazionamento" "MANO" ∷
+    e "TargaNominale" "AB123CD" ∷
+    e "Turbo" "" ∷
+    e "PosAssiStaz" "NSNNNNNNN" ∷
+    e "DataPrimaImm" "15062005" ∷
+    e "Alimentazione_1" "BENZINA" ∷
+    e "CategoriaInternazionale" "M1" ∷
+    e "DirettivaEmissioniGasBenzinaAuto" "98/69/CE" ∷
+    e "DirettivaEmissioniGasMotociclo" "" ∷
+    e "CodiceCIC" "" ∷ []
+
+abbrev pub carNewValues : List (List ℕ)
+carNewValues =
+    map bytes (
+    "AB123CD" ∷ "LEGGERO" ∷ "M1" ∷ "" ∷ "15062005" ∷ "BENZINA" ∷ "" ∷ "" ∷ "98/69/CE" ∷ "" ∷ "MANO" ∷ "NSNNNNNNN" ∷ [])
+
+abbrev pub carOld : List Line
+carOld =
+    h "[DatiLibrettoVeicolo]" ∷
+    e "Alimentazione_1" "BENZINA CAT" ∷
+    e "NumAssiStazionamento" "1" ∷
+    e "FrenoStazionamento" "MANO" ∷
+    e "TipoVeicolo" "LEGGERO" ∷
+    e "AnnoPrimaImm" "2005" ∷
+    e "DescrizioneVeicolo" "AUTOVETTURA" ∷ []
+
+abbrev pub carOldValues : List (List ℕ)
+carOldValues =
+    map bytes (
+    "LEGGERO" ∷ "AUTOVETTURA" ∷ "2005" ∷ "BENZINA CAT" ∷ "MANO" ∷ "1" ∷ [])
+
+abbrev pub carDrift : List Line
+carDrift =
+    h "[DerivaAsse_2]" ∷
+    e "Deriva" "0.25" ∷
+    h "[DerivaAsse_1]" ∷
+    e "Deriva" "-5.00" ∷
+    h "[Deriva]" ∷
+    e "NumOmologa" "OM123" ∷
+    e "NumSerie" "0001" ∷
+    e "DataScadenza" "31122025" ∷
+    e "InizioMisura" "101500" ∷
+    e "TipoCollegamento" "DIR" ∷
+    e "Tipo" "T1" ∷
+    e "Note" "" ∷
+    e "NumVersioneProtocollo" "100" ∷
+    e "Marca" "ALFA" ∷
+    e "Operatore" "ROSSI" ∷
+    e "CircolareApplicata" "C1" ∷
+    e "FineMisura" "102000" ∷
+    e "DataMisura" "02032024" ∷
+    e "NumVersioneSoftware" "1.0" ∷
+    e "CodErrore" "E7" ∷
+    e "DataVersioneProtocollo" "01012020" ∷ []
+
+abbrev pub carDriftValues : List (List ℕ)
+carDriftValues =
+    map bytes (
+    "ALFA" ∷ "T1" ∷ "OM123" ∷ "0001" ∷ "31122025" ∷ "1.0" ∷ "" ∷ "100" ∷ "01012020" ∷ "DIR" ∷ "C1" ∷ "E7" ∷ "02032024" ∷ "101500" ∷ "102000" ∷
+    "ROSSI" ∷ "-5.00" ∷ "0.25" ∷ [])
+
+abbrev pub carSuspension : List Line
+carSuspension =
+    h "[SospensioniAsse_1]" ∷
+    e "Aderenza%Dx" "55" ∷
+    e "Aderenza%Sx" "60" ∷
+    e "Differenza%" "5" ∷
+    h "[Sospensioni]" ∷
+    e "InizioMisura" "101500" ∷
+    e "Tipo" "T1" ∷
+    e "DataVersioneProtocollo" "01012020" ∷
+    e "NumSerie" "0001" ∷
+    e "Note" "" ∷
+    e "CodErrore" "" ∷
+    e "CircolareApplicata" "C1" ∷
+    e "NumVersioneSoftware" "1.0" ∷
+    e "NumVersioneProtocollo" "100" ∷
+    e "TipoCollegamento" "DIR" ∷
+    e "NumOmologa" "OM123" ∷
+    e "FineMisura" "102000" ∷
+    e "Marca" "ALFA" ∷
+    e "DataScadenza" "31122025" ∷
+    e "DataMisura" "02032024" ∷
+    e "Operatore" "ROSSI" ∷ []
+
+abbrev pub carSuspensionValues : List (List ℕ)
+carSuspensionValues =
+    map bytes (
+    "ALFA" ∷ "T1" ∷ "OM123" ∷ "0001" ∷ "31122025" ∷ "1.0" ∷ "" ∷ "100" ∷ "01012020" ∷ "DIR" ∷ "C1" ∷ "" ∷ "02032024" ∷ "101500" ∷ "102000" ∷
+    "ROSSI" ∷ "60" ∷ "55" ∷ "5" ∷ [])
+
+abbrev pub carGas : List Line
+carGas =
+    h "[AnalisiGasAlimentazione_1]" ∷
+    e "O2Min" "0.10" ∷
+    e "NumGiriMotoreMin" "#850" ∷
+    e "COMin" "0.012" ∷
+    e "COMinAcc" "0.010" ∷
+    e "HCMin" "25" ∷
+    e "CO2Min" "14.80" ∷
+    e "COCorrettoMin" "0.015" ∷
+    h "[AnalisiGas]" ∷
+    e "DataScadenzaContagiri" "30062025" ∷
+    e "NumVersioneProtocolloProvaVelocita" "" ∷
+    e "NumSerieProvaVelocita" "" ∷
+    e "IDChiaveRS" "AB12C" ∷
+    e "MarcaContagiri" "GIRI" ∷
+    e "NumSerieContagiri" "9" ∷
+    e "NumVersSoftwareAnalizzatore" "2.1" ∷
+    e "DataVersioneProtocollo" "01012020" ∷
+    e "ModuloChiaveContagiriRS" "" ∷
+    e "MarcaProvaVelocita" "" ∷
+    e "NumVersioneSoftwareProvaVelocita" "" ∷
+    e "EsponenteChiaveRS" "AQAB" ∷
+    e "DataRegChiaveRS" "01022023" ∷
+    e "NumVersioneSoftwareContagiri" "3.0" ∷
+    e "ModuloChiaveProvaVelocitaRS" "" ∷
+    e "IDChiaveContagiriRS" "" ∷
+    e "Note" "" ∷
+    e "NumOmologaAnalizzatore" "OM77" ∷
+    e "DataScadenzaProvaVelocita" "" ∷
+    e "DataMisura" "02032024" ∷
+    e "NumSerieAnalizzatore" "77" ∷
+    e "ModuloChiaveRS" "MIGfMA0GCSqGSIb3DQEBAQUAA4GNADCBiQKBgQC7MIGfMA0GCSqGSIb3DQEBAQUAA4GNADCBiQKBgQC7MIGfMA0GCSqGSIb3DQEBAQUAA4GNADCBiQKBgQC7MIGfMA0GCSqGSIb3DQEBAQUAA4GNADCBiQKBgQC7MIGfMA0GCSqG" ∷
+    e "IDChiaveProvaVelocitaRS" "" ∷
+    e "CodErrore" "" ∷
+    e "NumOmologaProvaVelocita" "" ∷
+    e "FineMisura" "102000" ∷
+    e "NumVersioneProtocollo" "210" ∷
+    e "MarcaAnalizzatore" "BETA" ∷
+    e "ChecksumContagiriRS" "" ∷
+    e "TipoContagiri" "G3" ∷
+    e "InizioMisura" "101500" ∷
+    e "Operatore" "ROSSI" ∷
+    e "EsponenteChiaveProvaVelocitaRS" "" ∷
+    e "TipoCollegamentoContagiri" "INTEGRATO" ∷
+    e "EsponenteChiaveContagiriRS" "" ∷
+    e "TipoCollegamento" "RS SENZA ESITO" ∷
+    e "ChecksumProvaVelocitaRS" "" ∷
+    e "DataRegChiaveProvaVelocitaRS" "" ∷
+    e "DataRegChiaveContagiriRS" "" ∷
+    e "TipoAnalizzatore" "A2" ∷
+    e "CircolareApplicata" "C1" ∷
+    e "NumVersioneProtocolloContagiri" "" ∷
+    e "ChecksumRS" "" ∷
+    e "TipoProvaVelocita" "" ∷
+    e "NumOmologaContagiri" "OM9" ∷
+    e "DataScadenzaAnalizzatore" "30062025" ∷ []
+
+abbrev pub carGasValues : List (List ℕ)
+carGasValues =
+    map bytes (
+    "BETA" ∷ "A2" ∷ "OM77" ∷ "77" ∷ "2.1" ∷ "30062025" ∷ "GIRI" ∷ "G3" ∷ "OM9" ∷ "9" ∷ "3.0" ∷ "30062025" ∷ "INTEGRATO" ∷ "" ∷ "" ∷ "" ∷ "" ∷ "" ∷
+    "" ∷ "" ∷ "" ∷ "" ∷ "210" ∷ "01012020" ∷ "RS SENZA ESITO" ∷ "C1" ∷ "AB12C" ∷ "01022023" ∷ "" ∷ "" ∷ "" ∷ "" ∷ "" ∷
+    "MIGfMA0GCSqGSIb3DQEBAQUAA4GNADCBiQKBgQC7MIGfMA0GCSqGSIb3DQEBAQUAA4GNADCBiQKBgQC7MIGfMA0GCSqGSIb3DQEBAQUAA4GNADCBiQKBgQC7MIGfMA0GCSqGSIb3DQEBAQUAA4GNADCBiQKBgQC7MIGfMA0GCSqG" ∷
+    "AQAB" ∷ "" ∷ "" ∷ "" ∷ "" ∷ "" ∷ "" ∷ "" ∷ "02032024" ∷ "101500" ∷ "102000" ∷ "ROSSI" ∷ "0.012" ∷ "0.015" ∷ "14.80" ∷ "25" ∷ "0.10" ∷ "#850" ∷
+    "0.010" ∷ [])
+
+abbrev pub carStem : List ℕ
+carStem = bytes "AB123456"
+
+abbrev pub carAnswer : List ℕ
+carAnswer = 2 ∷ bytes "GAS" ++ (23 ∷ bytes "12" ++ (23 ∷ bytes "ID" ++ (23 ∷ bytes "BETA" ++ (23 ∷ bytes "A2" ++ (23 ∷ bytes "OM77" ++ (23 ∷ bytes "77" ++ (23 ∷ bytes "30062025" ++ (23 ∷ bytes "2.1" ++ (23 ∷ bytes "210" ++ (bytes "57" ++ (3 ∷ [])))))))))))
+
+abbrev pub carSet : Slices
+carSet = record { file = fileTexts (textOf carNew) (textOf carOld) (textOf carDrift) (textOf carSuspension) (textOf carGas); answer = carAnswer }
+
+abbrev pub carValues : File → List (List ℕ)
+carValues ac2 = carNewValues
+carValues acc = carOldValues
+carValues drift = carDriftValues
+carValues suspension = carSuspensionValues
+carValues gas = carGasValues
+
+abbrev pub carRecord : Record
+carRecord = record {
+  given = λ f. true;
+  answerGiven = true;
+  driftAxles = 2;
+  suspensionAxles = 1;
+  values = carValues;
+  address = bytes "12";
+}
+
+-- ---- by computation
+
+abbrev motorcycleStated : Stated
+motorcycleStated = statedOf motorcycleStem
+
+abbrev carStated : Stated
+carStated = statedOf carStem
+
+computed :
+    Computed ac2 motorcycleStated [] motorcycle 1 motorcycleValues
+    × (judgeFile acc motorcycleStated motorcycleValues (bytes "no line") ≡ goes notRead)
+    × (judgeFile drift motorcycleStated motorcycleValues [] ≡ goes notRead)
+    × (judgeFile suspension motorcycleStated motorcycleValues [] ≡ goes notRead)
+    × (judgeFile gas motorcycleStated motorcycleValues [] ≡ goes notRead)
+    × (judgeAnswer false [] [] ≡ goes [])
+    × Computed ac2 carStated [] carNew 1 carNewValues
+    × Computed acc carStated carNewValues carOld 1 carOldValues
+    × Computed drift carStated carNewValues carDrift 3 carDriftValues
+    × Computed suspension carStated carNewValues carSuspension 2 carSuspensionValues
+    × Computed gas carStated carNewValues carGas 2 carGasValues
+    × (answerRight true carGasValues true ≡ true)
+    × (addressOk (bytes "12") ≡ true)
+    × (carAnswer ≡ answerOf (bytes "12") (sevenOf carGasValues))
+    × (sevenOk (sevenOf carGasValues) ≡ true)
+unfolding sameBytes allPrintable without textOf wellFormed allWellFormed layoutOf words allDigits numberFrom dayNumber isString isExact isNumber isFixed isLeap daysIn isYear isGregorian areDigits isDay isTime wordIndex isWord startsWith isDrift isRevs isFirstDate isFirstDay allSorN isPositions kindOk kindKept entriesOf newBooking oldBooking tester protocol measurement sixteen driftAxle suspensionAxle analyser counter speedTest allKeyDates allKeyBodies analysis fuelAnalysis fixedSections axleEntries axlesFrom axleSections sections leastSections entries rowCount rowAt placeOf axlePlaceOf scan firstWrong firstAbsent ownerRow isM isN isO isL fuelIn isLate bookingIn versionIn linksIn conditionsOf exceptions conditionOf conditionAt isMoped isMotorcycle isMorN conditionP holdsIn dueOf firstNotAsDueFrom firstNotAsDue firstBroken rulesOf typeOf parkingBrakeFits newRules descriptionsOf yearFits directiveOf periodAt periodOf dieselFits fuelFits oldBrakeFits numberIs countOf parkingAxlesFit oldRules differenceFits differencesFrom statedOf oldBookingRight sliceRight isRead isSerial answerRight sevenOf separated sum hexDigit checksum answerOf addressOk fieldOk allFieldsOk sevenOk judgeFile judgeAnswer
+computed = (
+  record { slice = refl; is-read = refl; well-formed = refl; short = refl; reads = refl; values = refl; checks = refl },
+  refl,
+  refl,
+  refl,
+  refl,
+  refl,
+  record { slice = refl; is-read = refl; well-formed = refl; short = refl; reads = refl; values = refl; checks = refl },
+  record { slice = refl; is-read = refl; well-formed = refl; short = refl; reads = refl; values = refl; checks = refl },
+  record { slice = refl; is-read = refl; well-formed = refl; short = refl; reads = refl; values = refl; checks = refl },
+  record { slice = refl; is-read = refl; well-formed = refl; short = refl; reads = refl; values = refl; checks = refl },
+  record { slice = refl; is-read = refl; well-formed = refl; short = refl; reads = refl; values = refl; checks = refl },
+  refl,
+  refl,
+  refl,
+  refl,
+)
+
+-- ---- the records
+
+abbrev motorcycleRead : SetRead
+motorcycleRead = record { file = eachFile (given ac2 motorcycle 1 motorcycleValues) notRead notRead notRead notRead; address = [] }
+
+motorcycle-goes : judgeSlices motorcycleStated motorcycleSet ≡ goes motorcycleRead
+unfolding textOf
+motorcycle-goes =
+    slices-go motorcycleStated motorcycleSet (given ac2 motorcycle 1 motorcycleValues) notRead notRead notRead notRead []
+    (computed-goes ac2 motorcycleStated [] motorcycle 1 motorcycleValues (computed .0))
+    (computed .1) (computed .2) (computed .3) (computed .4) (computed .5)
+
+pub motorcycle-lawful : Lawful (statedOf motorcycleStem) motorcycleRecord × Fits motorcycleRecord motorcycleSet
+unfolding textOf fixedSections
+motorcycle-lawful = record-fits motorcycleStated motorcycleSet motorcycleRead motorcycleRecord motorcycle-goes (same-record _ motorcycleRecord same-given refl refl refl same-values refl)
+  where
+    same-given : (f : File) → isGiven (motorcycleSet .file f) ≡ motorcycleGiven f
+    same-given ac2 = refl
+    same-given acc = refl
+    same-given drift = refl
+    same-given suspension = refl
+    same-given gas = refl
+
+    same-values : (f : File) → motorcycleRead .file f .values ≡ motorcycleRecord .values f
+    same-values ac2 = refl
+    same-values acc = refl
+    same-values drift = refl
+    same-values suspension = refl
+    same-values gas = refl
+
+abbrev carRead : SetRead
+carRead = record {
+  file = eachFile (given ac2 carNew 1 carNewValues) (given acc carOld 1 carOldValues) (given drift carDrift 3 carDriftValues) (given suspension carSuspension 2 carSuspensionValues) (given gas carGas 2 carGasValues);
+  address = bytes "12";
+}
+
+car-goes : judgeSlices carStated carSet ≡ goes carRead
+unfolding textOf
+car-goes =
+    slices-go carStated carSet (carRead .file ac2) (carRead .file acc) (carRead .file drift) (carRead .file suspension) (carRead .file gas) (bytes "12")
+    (computed-goes ac2 carStated [] carNew 1 carNewValues (computed .6))
+    (computed-goes acc carStated carNewValues carOld 1 carOldValues (computed .7))
+    (computed-goes drift carStated carNewValues carDrift 3 carDriftValues (computed .8))
+    (computed-goes suspension carStated carNewValues carSuspension 2 carSuspensionValues (computed .9))
+    (computed-goes gas carStated carNewValues carGas 2 carGasValues (computed .10))
+    (answer-complete true carGasValues true carAnswer (bytes "12") refl (computed .11) (computed .12) (λ q. (computed .13, computed .14)))
+
+pub car-lawful : Lawful (statedOf carStem) carRecord × Fits carRecord carSet
+unfolding textOf fixedSections
+car-lawful = record-fits carStated carSet carRead carRecord car-goes (same-record _ carRecord same-given refl refl refl same-values refl)
+  where
+    same-given : (f : File) → isGiven (carSet .file f) ≡ true
+    same-given ac2 = refl
+    same-given acc = refl
+    same-given drift = refl
+    same-given suspension = refl
+    same-given gas = refl
+
+    same-values : (f : File) → carRead .file f .values ≡ carRecord .values f
+    same-values ac2 = refl
+    same-values acc = refl
+    same-values drift = refl
+    same-values suspension = refl
+    same-values gas = refl

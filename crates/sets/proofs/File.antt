@@ -1,0 +1,181 @@
+-- One file of a set: what the judge lets through is what is lawful and fits, for any of the five. Assumes the of the reader of one file.
+use Prim.Native.Nat.{ℕ, _<_}
+use native.Mathlib.Omega.{arith}
+use mathlib.Core.Path.{_≡_, refl, sym, _∙_, subst}
+use mathlib.Core.Bool.{Bool, true, false, cond}
+use mathlib.Core.List.{List, [], map}
+use lib.Dec.{ltb}
+use lib.ListN.{length, getD}
+use borrow.Author.Tests.{ltb-false, le-ltb}
+use Rattle.lines.proofs.Bools.{clash}
+use Rattle.places.specs.Places.{Pair, valueAt, Within}
+use Rattle.tables.specs.File.{File, ac2, acc, drift, suspension, gas, fileNumber, sections, entries}
+use Rattle.reading.specs.Fitting.{StartOf}
+use Rattle.reading.specs.Reading.{Reading, refused, read}
+use Rattle.files.specs.Files.{readFile, axlesOf, IsFile}
+use Rattle.files.proofs.Theorem.{read-sound, read-complete}
+use Rattle.due.specs.Booking.{bookingIn}
+use Rattle.due.specs.Conditions.{conditionsOf, gasValues}
+use Rattle.due.specs.Due.{isAsDue, firstNotAsDue}
+use Rattle.due.specs.declared.Conditions.{Conditions}
+use Rattle.due.proofs.FirstNotAsDue.{first-le, each-as-due, all-as-due}
+use Rattle.rules.specs.Rule.{Rule, allHold, firstBroken}
+use Rattle.rules.specs.Rules.{rulesOf}
+use Rattle.rules.specs.Slices.{sliceRight, isRead}
+use Rattle.rules.specs.declared.Stated.{Stated}
+use Rattle.rules.specs.declared.RuleCheck.{RuleCheck}
+use Rattle.rules.specs.declared.RuleCheck.the-variants.{Kept, Broken}
+use Rattle.rules.proofs.Laws.{kept-all, all-kept}
+use Rattle.sets.specs.Records.{isGiven, EachAsDue}
+use Rattle.sets.specs.Judge.{Step, goes, FileCheck, passed, failed, checkDue, checkRule, fileChecks, firstFailed, FileRead, notRead, fileRead, booked, checkedFile, judgeRead, judgeReading, judgeText, judgeFile}
+use Rattle.sets.proofs.Steps.{require-inv, both-passed}
+
+-- ---- the checks
+
+due-passed : (f : File) (c : Conditions) (vs : List (List ℕ)) → checkDue f c vs ≡ passed → (i : ℕ) → i < length vs → isAsDue f c i (getD vs i []) ≡ true
+due-passed f c vs e = each-as-due f c vs (at-end (ltb (firstNotAsDue f c vs) (length vs)) refl e)
+  where
+    at-end : (b : Bool) → ltb (firstNotAsDue f c vs) (length vs) ≡ b → cond b (failed 10 (firstNotAsDue f c vs)) passed ≡ passed → firstNotAsDue f c vs ≡ length vs
+    at-end true q e = clash (cc)
+    at-end false q e = omega (arith, ltb-false (firstNotAsDue f c vs) (length vs) q, first-le f c vs)
+
+passed-due : (f : File) (c : Conditions) (vs : List (List ℕ)) → ((i : ℕ) → i < length vs → isAsDue f c i (getD vs i []) ≡ true) → checkDue f c vs ≡ passed
+passed-due f c vs h =
+    let e : firstNotAsDue f c vs ≡ length vs = all-as-due f c vs h in
+    rw (le-ltb (firstNotAsDue f c vs) (length vs) (omega arith)) refl
+
+rule-passed : (f : File) (rs : List Rule) → checkRule (firstBroken f rs) ≡ passed → allHold rs ≡ true
+rule-passed f rs e = kept-all f rs (on (firstBroken f rs) e)
+  where
+    on : (c : RuleCheck) → checkRule c ≡ passed → c ≡ Kept
+    on Kept e = refl
+    on (Broken b) e = clash (cc)
+
+-- what a lawful record keeps of a file that is read; a: AC2's values
+pub record RulesKept (f : File) (a : List (List ℕ)) (n : ℕ) (vs : List (List ℕ)) : Type 0 where
+  pub dues : EachAsDue f a vs
+  pub rules : allHold (rulesOf f a vs n) ≡ true
+
+checks-sound : (f : File) (a vs : List (List ℕ)) (n : ℕ) → firstFailed (fileChecks f a vs n) ≡ passed → RulesKept f a n vs
+checks-sound f a vs n e =
+    let w = both-passed (checkDue f (conditionsOf a (gasValues f vs)) vs) (checkRule (firstBroken f (rulesOf f a vs n))) e in
+    record { dues = due-passed f (conditionsOf a (gasValues f vs)) vs (w .0); rules = rule-passed f (rulesOf f a vs n) (w .1) }
+
+checks-complete : (f : File) (a vs : List (List ℕ)) (n : ℕ) → RulesKept f a n vs → firstFailed (fileChecks f a vs n) ≡ passed
+checks-complete f a vs n k =
+    rw (passed-due f (conditionsOf a (gasValues f vs)) vs (k .dues), all-kept f (rulesOf f a vs n) (k .rules)) refl
+
+-- ---- 11 and reading ask AC2's values of the other files only
+
+pub read-booked : (f : File) (a own : List (List ℕ)) (given : Bool) → isRead f (bookingIn a) given ≡ isRead f (bookingIn (booked f a own)) given
+unfolding isRead
+read-booked ac2 a own given = refl
+read-booked acc a own given = refl
+read-booked drift a own given = refl
+read-booked suspension a own given = refl
+read-booked gas a own given = refl
+
+right-booked : (f : File) (st : Stated) (a own : List (List ℕ)) (given : Bool) → sliceRight f st (bookingIn a) given ≡ sliceRight f st (bookingIn (booked f a own)) given
+unfolding sliceRight
+right-booked ac2 st a own given = refl
+right-booked acc st a own given = refl
+right-booked drift st a own given = refl
+right-booked suspension st a own given = refl
+right-booked gas st a own given = refl
+
+-- ---- what is let through
+
+-- a file that is read
+pub record Passed (f : File) (a : List (List ℕ)) (s : List ℕ) (g : FileRead) : Type 0 where
+  pub kept : RulesKept f a (g .axles) (g .values)
+  pub is : IsFile f (g .axles) (g .values) s
+  pub values : g .values ≡ map (valueAt s) (g .pairs)
+  pub within : Within s (g .pairs)
+  pub starts : (i : ℕ) → i < length (g .pairs) → StartOf (sections f (g .axles)) s i (getD (g .pairs) i (0, 0) .0)
+  pub many : length (g .pairs) ≡ length (entries f (g .axles))
+
+-- a file, read or not
+pub record FilePassed (f : File) (st : Stated) (a : List (List ℕ)) (s : List ℕ) (g : FileRead) : Type 0 where
+  pub slice : sliceRight f st (bookingIn a) (isGiven s) ≡ true
+  pub read : isRead f (bookingIn a) (isGiven s) ≡ true → Passed f a s g
+  pub unread : isRead f (bookingIn a) (isGiven s) ≡ false → g ≡ notRead
+
+read-passed : (f : File) (a : List (List ℕ)) (s : List ℕ) (c : ℕ) (ps : List Pair) (ls : List ℕ) (g : FileRead) → readFile f s ≡ read c ps ls
+    → judgeRead f a (fileRead f s c ps) ls ≡ goes g → Passed f (booked f a (g .values)) s g
+read-passed f a s c ps ls g e q =
+    let h : FileRead = fileRead f s c ps in
+    let w = checked (firstFailed (fileChecks f (booked f a (h .values)) (h .values) (h .axles))) q in
+    let r = read-sound f s c ps ls e in
+    subst (λ (g : FileRead). Passed f (booked f a (g .values)) s g) (w .1) (record {
+      kept = checks-sound f (booked f a (h .values)) (h .values) (h .axles) (w .0);
+      is = r .is;
+      values = refl;
+      within = r .within;
+      starts = r .starts;
+      many = r .many;
+    })
+  where
+    checked : (k : FileCheck) → checkedFile f (fileRead f s c ps) ls k ≡ goes g → (k ≡ passed) × (fileRead f s c ps ≡ g)
+    checked passed e = (refl, cc)
+    checked (failed k i) e = clash (cc)
+
+text-sound : (f : File) (a : List (List ℕ)) (s : List ℕ) (g : FileRead) → judgeText f a s ≡ goes g → Passed f (booked f a (g .values)) s g
+unfolding judgeText
+text-sound f a s g e = on (readFile f s) refl e
+  where
+    on : (r : Reading) → readFile f s ≡ r → judgeReading f a s r ≡ goes g → Passed f (booked f a (g .values)) s g
+    on (refused k l) q e = clash (cc)
+    on (read c ps ls) q e = read-passed f a s c ps ls g q e
+
+pub file-sound : (f : File) (st : Stated) (a : List (List ℕ)) (s : List ℕ) (g : FileRead) → judgeFile f st a s ≡ goes g
+    → FilePassed f st (booked f a (g .values)) s g
+unfolding judgeFile
+file-sound f st a s g e =
+    let i = require-inv (sliceRight f st (bookingIn a) (isGiven s)) 11 (fileNumber f) 0 (cond (isRead f (bookingIn a) (isGiven s)) (judgeText f a s) (goes notRead)) g e in
+    record {
+      slice = sym (right-booked f st a (g .values) (isGiven s)) ∙ i .0;
+      read = λ h. text-sound f a s g (rw (read-booked f a (g .values) (isGiven s), h) at (i .1));
+      unread = λ h. cc (rw (read-booked f a (g .values) (isGiven s), h) at (i .1));
+    }
+
+-- ---- what fits is let through
+
+text-complete : (f : File) (a : List (List ℕ)) (s : List ℕ) (n : ℕ) (vs : List (List ℕ)) → RulesKept f (booked f a vs) n vs → IsFile f n vs s
+    → (g : FileRead) × (judgeText f a s ≡ goes g) × (g .axles ≡ n) × (g .values ≡ vs)
+unfolding judgeText
+text-complete f a s n vs k h =
+    let r = read-complete f n vs s h in
+    (fileRead f s (r .0) (r .1), rw (r .3, r .4, r .5, checks-complete f (booked f a vs) vs n k) refl, r .4, r .5)
+
+judged-read : (f : File) (st : Stated) (a : List (List ℕ)) (given : Bool) (s : List ℕ) (t : Step FileRead) → given ≡ isGiven s
+    → sliceRight f st (bookingIn a) given ≡ true → isRead f (bookingIn a) given ≡ true → judgeText f a s ≡ t → judgeFile f st a s ≡ t
+unfolding judgeFile
+judged-read f st a given s t e r q j = rw (← e, r, q) j
+
+judged-unread : (f : File) (st : Stated) (a : List (List ℕ)) (given : Bool) (s : List ℕ) → given ≡ isGiven s
+    → sliceRight f st (bookingIn a) given ≡ true → isRead f (bookingIn a) given ≡ false → judgeFile f st a s ≡ goes notRead
+unfolding judgeFile
+judged-unread f st a given s e r q = rw (← e, r, q) refl
+
+pub file-complete : (f : File) (st : Stated) (a : List (List ℕ)) (given : Bool) (s : List ℕ) (n : ℕ) (vs : List (List ℕ)) → given ≡ isGiven s
+    → sliceRight f st (bookingIn (booked f a vs)) given ≡ true
+    → (isRead f (bookingIn (booked f a vs)) given ≡ true → RulesKept f (booked f a vs) n vs × IsFile f n vs s)
+    → (isRead f (bookingIn (booked f a vs)) given ≡ false → (n ≡ 0) × (vs ≡ []))
+    → (g : FileRead) × (judgeFile f st a s ≡ goes g) × (g .axles ≡ n) × (g .values ≡ vs)
+file-complete f st a given s n vs e r k u = on (isRead f (bookingIn a) given) refl
+  where
+    on : (b : Bool) → isRead f (bookingIn a) given ≡ b → (g : FileRead) × (judgeFile f st a s ≡ goes g) × (g .axles ≡ n) × (g .values ≡ vs)
+    on true q =
+        let w = k (sym (read-booked f a vs given) ∙ q) in
+        let t = text-complete f a s n vs (w .0) (w .1) in
+        (t .0, judged-read f st a given s (goes (t .0)) e (right-booked f st a vs given ∙ r) q (t .1), t .2, t .3)
+    on false q =
+        let w = u (sym (read-booked f a vs given) ∙ q) in
+        (notRead, judged-unread f st a given s e (right-booked f st a vs given ∙ r) q, sym (w .0), sym (w .1))
+
+-- a file that is read so goes on, where the checks pass
+pub file-goes : (f : File) (st : Stated) (a : List (List ℕ)) (s : List ℕ) (c : ℕ) (ps : List Pair) (ls : List ℕ) (vs : List (List ℕ))
+    → sliceRight f st (bookingIn a) (isGiven s) ≡ true → isRead f (bookingIn a) (isGiven s) ≡ true → readFile f s ≡ read c ps ls → map (valueAt s) ps ≡ vs
+    → firstFailed (fileChecks f (booked f a vs) vs (axlesOf f c)) ≡ passed → judgeFile f st a s ≡ goes (record { axles = axlesOf f c; pairs = ps; values = vs })
+unfolding judgeFile judgeText
+file-goes f st a s c ps ls vs r q e v k = rw (r, q, e, v, k) refl

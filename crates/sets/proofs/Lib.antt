@@ -1,0 +1,7 @@
+pub mod Steps
+pub mod File
+pub mod Answer
+pub mod Places
+pub mod Set
+pub mod Theorem
+pub mod Examples

@@ -1,0 +1,202 @@
+-- Demand 3: a set is accepted exactly when a lawful record fits it, there is at most one, and the answer and places are its. Assumes nothing.
+use Prim.Native.Nat.{ℕ, _+_, _≤_, _<_}
+use native.Mathlib.Omega.{arith}
+use mathlib.Core.Path.{_≡_, refl, ap, sym, _∙_, subst}
+use mathlib.Core.Bool.{Bool, true, false, cond, _&&_}
+use mathlib.Core.List.{List, []}
+use lib.Dec.{leb}
+use lib.ListN.{length, getD, drop, length-map, List·getD-map}
+use borrow.Author.Tests.{le-leb, lt-leb, leb-true}
+use Rattle.lines.proofs.Bools.{clash}
+use Rattle.places.specs.Places.{Pair, startOf, lengthOf, valueAt, cleared}
+use Rattle.places.proofs.Laws.{cleared-length, cleared-drop, cleared-zero}
+use Rattle.tables.specs.File.{File, ac2, drift, suspension, gas, files, hasAxles, sections, room, firstPair, leastPlaces, mostAxles}
+use Rattle.tables.proofs.Axles.{entries-most}
+use Rattle.reading.specs.Fitting.{StartOf}
+use Rattle.files.specs.Files.{AxleCount}
+use Rattle.due.specs.Booking.{bookingIn}
+use Rattle.due.proofs.Values.{value-length}
+use Rattle.rules.specs.Slices.{goodStem, statedOf, isRead}
+use Rattle.rules.specs.Answer.{isMarked}
+use Rattle.rules.specs.declared.Stated.{Stated}
+use Rattle.sets.specs.Records.{Slices, isGiven, Record, axles, Read, NotRead, Lawful, Fits}
+use Rattle.sets.specs.Judge.{Answer, acceptance, refusal, Step, stops, goes, require, FileRead, SetRead, judgeSlices, accepts, setFiles, settled, judge}
+use Rattle.sets.specs.Demand3.{IsAccepted, markOf, Placed, Returned, Exactly, Unique, IsReturned, Demand3, Refusals}
+use Rattle.sets.proofs.Steps.{require-inv}
+use Rattle.sets.proofs.Places.{pairAt, within-get, used-pair, unused-pair, places-beyond, places-length}
+use Rattle.sets.proofs.Set.{recordOf, SetPassed, slices-sound, counted, no-values, passed-lawful, passed-fits, slices-complete}
+
+-- a count of axles is at most nine
+few-axles : (b : Bool) (n : ℕ) → AxleCount b n → n ≤ mostAxles
+few-axles true n c = c .1
+few-axles false n c = omega arith
+
+no-mark : (f : File) → isMarked f [] ≡ false
+unfolding isMarked
+no-mark f = refl
+
+-- ---- what is returned
+
+module _ (st : Stated) (s : Slices) (p : List ℕ) (enough : leastPlaces ≤ length p) (x : SetRead) (w : SetPassed st s x) where
+  abbrev pairsOf : File → List Pair
+  pairsOf f = x .file f .pairs
+
+  -- by cases, whether a file is read
+  by-read : {A : Type 0} (f : File) → (Read (recordOf s x) f → A) → (NotRead (recordOf s x) f → A) → A
+  by-read f h k = on (isRead f (bookingIn (x .file ac2 .values)) (isGiven (s .file f))) h k
+    where
+      on : {A : Type 0} (b : Bool) → (b ≡ true → A) → (b ≡ false → A) → A
+      on true h k = h refl
+      on false h k = k refl
+
+  no-pairs : (f : File) → NotRead (recordOf s x) f → length (pairsOf f) ≡ 0
+  no-pairs f q = ap (λ (g : FileRead). length (g .pairs)) (w .file f .unread q)
+
+  fit : (f : File) → length (pairsOf f) ≤ room f
+  fit f =
+      by-read f
+      (λ q. let k = w .file f .read q in omega (arith, k .many, entries-most f (x .file f .axles) (few-axles (hasAxles f) (x .file f .axles) (k .is .count))))
+      (λ q. omega (arith, no-pairs f q))
+
+  same-many : (f : File) → length (x .file f .values) ≡ length (pairsOf f)
+  same-many f =
+      by-read f
+      (λ q. ap length (w .file f .read q .values) ∙ length-map (pairsOf f) (valueAt (s .file f)))
+      (λ q. ap length (no-values st s x w f q) ∙ sym (no-pairs f q))
+
+  abbrev afterwards : List ℕ
+  afterwards = setFiles files x (cleared leastPlaces p)
+
+  placed : (f : File) (i : ℕ) → i < length (pairsOf f) → Read (recordOf s x) f → Placed (recordOf s x) s afterwards f i
+  placed f i h q =
+      let k = w .file f .read q in
+      let e : pairAt afterwards (firstPair f + i) ≡ getD (pairsOf f) i (0, 0) = used-pair x fit p enough f i h in
+      let a : startOf afterwards (firstPair f + i) ≡ getD (pairsOf f) i (0, 0) .0 = ap (λ (y : Pair). y .0) e in
+      let z : lengthOf afterwards (firstPair f + i) ≡ getD (pairsOf f) i (0, 0) .1 = ap (λ (y : Pair). y .1) e in
+      let v : getD (x .file f .values) i [] ≡ valueAt (s .file f) (getD (pairsOf f) i (0, 0))
+      = ap (λ (vs : List (List ℕ)). getD vs i []) (k .values) ∙ List·getD-map (valueAt (s .file f)) (pairsOf f) i (0, 0) in
+      record {
+        start = subst (λ (n : ℕ). StartOf (sections f n) (s .file f) i (startOf afterwards (firstPair f + i))) (counted st s x w f q)
+            (subst (λ (n : ℕ). StartOf (sections f (x .file f .axles)) (s .file f) i n) (sym a) (k .starts i h));
+        size = z ∙ sym (value-length (s .file f) (getD (pairsOf f) i (0, 0)) (within-get (s .file f) (pairsOf f) i (k .within) h)) ∙ ap length (sym v);
+        there = ap (valueAt (s .file f)) e ∙ sym v;
+      }
+
+  placed-all : (f : File) (i : ℕ) → i < length (x .file f .values) → Placed (recordOf s x) s afterwards f i
+  placed-all f i h =
+      by-read f
+      (λ q. placed f i (omega (arith, same-many f)) q)
+      (λ q. absurd (omega (arith, same-many f, no-pairs f q)))
+
+  -- of a file without values no mark is set
+  mark-is : (f : File) (b : Bool) → (b ≡ false → x .file f .values ≡ []) → isMarked f (x .file f .values) ≡ (b && isMarked f (x .file f .values))
+  mark-is f true h = refl
+  mark-is f false h = ap (isMarked f) (h refl) ∙ no-mark f
+
+  result-mark : (f : File) → (isGiven (s .file f) ≡ false → NotRead (recordOf s x) f) → isMarked f (x .file f .values) ≡ markOf (recordOf s x) f
+  result-mark f h = mark-is f (isGiven (s .file f)) (λ q. no-values st s x w f (h q))
+
+  marks : accepts x ≡ acceptance (x .file drift .axles) (x .file suspension .axles) (markOf (recordOf s x) drift) (markOf (recordOf s x) suspension) (markOf (recordOf s x) gas)
+  unfolding isRead
+  marks =
+      let d = result-mark drift (λ q. q) in
+      let u = result-mark suspension (λ q. q) in
+      let g = result-mark gas (λ q. q) in
+      cc
+
+  passed-returned : Returned (recordOf s x) s p (accepts x) afterwards
+  passed-returned = record {
+    counts-and-marks = marks;
+    used = placed-all;
+    unused = λ f i h r. let e = unused-pair x fit p enough f i (omega (arith, same-many f)) r in (ap (λ (y : Pair). y .0) e, ap (λ (y : Pair). y .1) e);
+    beyond = places-beyond x fit p enough;
+    same-length = places-length x fit p enough;
+  }
+
+-- ---- demand 3
+
+judged : (stem : List ℕ) (s : Slices) (p : List ℕ) → goodStem stem ≡ true → leastPlaces ≤ length p → judge stem s p ≡ settled p (judgeSlices (statedOf stem) s)
+unfolding judge
+judged stem s p g h = rw (le-leb leastPlaces (length p) h, g) refl
+
+found : (stem : List ℕ) (s : Slices) (p : List ℕ) (t : Step SetRead) → judgeSlices (statedOf stem) s ≡ t → IsAccepted (settled p t .0)
+    → (r : Record) × Lawful (statedOf stem) r × Fits r s
+found stem s p (stops k f l) e a = absurd a
+found stem s p (goes x) e a =
+    let w = slices-sound (statedOf stem) s x e in
+    (recordOf s x, passed-lawful (statedOf stem) s x w, passed-fits (statedOf stem) s x w)
+
+exactly-one : (stem : List ℕ) (s : Slices) (p : List ℕ) → goodStem stem ≡ true → leastPlaces ≤ length p → Exactly stem s (judge stem s p .0)
+exactly-one stem s p g h = (
+  λ a. found stem s p (judgeSlices (statedOf stem) s) refl (subst (λ (y : Answer × List ℕ). IsAccepted (y .0)) (judged stem s p g h) a),
+  λ r. let w = slices-complete (statedOf stem) s (r .0) (r .1) (r .2) in
+      subst (λ (y : Answer × List ℕ). IsAccepted (y .0)) (sym (judged stem s p g h ∙ ap (settled p) (w .1))) tt,
+)
+
+unique-record : (stem : List ℕ) (s : Slices) → Unique stem s
+unique-record stem s q r lq fq lr fr =
+    let v = slices-complete (statedOf stem) s q lq fq in
+    let w = slices-complete (statedOf stem) s r lr fr in
+    let e : v .0 ≡ w .0 = cc (v .1, w .1) in
+    sym (v .2) ∙ ap (recordOf s) e ∙ w .2
+
+returned-record : (stem : List ℕ) (s : Slices) (p : List ℕ) → goodStem stem ≡ true → leastPlaces ≤ length p → IsReturned stem s p (judge stem s p .0) (judge stem s p .1)
+returned-record stem s p g h a r l f =
+    let w = slices-complete (statedOf stem) s r l f in
+    let x : SetRead = w .0 in
+    let t = slices-sound (statedOf stem) s x (w .1) in
+    subst (λ (y : Answer × List ℕ). Returned r s p (y .0) (y .1)) (sym (judged stem s p g h ∙ ap (settled p) (w .1)))
+    (subst (λ (q : Record). Returned q s p (accepts x) (setFiles files x (cleared leastPlaces p))) (w .2) (passed-returned (statedOf stem) s p h x t))
+
+pub theorem : Demand3
+theorem = record { exactly = exactly-one; unique = unique-record; returned = returned-record }
+
+-- ---- refusals
+
+-- what holds of the places, whatever the answer: of those cleared, and of those of a set that passed
+module _ (P : List ℕ → List ℕ → Type 0) (same : (p : List ℕ) → P p p) (cleared-so : (p : List ℕ) → leastPlaces ≤ length p → P (cleared leastPlaces p) p)
+    (filled-so : (p : List ℕ) → leastPlaces ≤ length p → (x : SetRead) → ((f : File) → length (x .file f .pairs) ≤ room f) → P (setFiles files x (cleared leastPlaces p)) p) where
+  of-places : (stem : List ℕ) (s : Slices) (p : List ℕ) → P (judge stem s p .1) p
+  unfolding judge
+  of-places stem s p = on (leb leastPlaces (length p)) refl
+    where
+      step : Step SetRead
+      step = require (goodStem stem) 2 0 0 (judgeSlices (statedOf stem) s)
+
+      after : (t : Step SetRead) → step ≡ t → leastPlaces ≤ length p → P (settled p t .1) p
+      after (stops k f l) e h = cleared-so p h
+      after (goes x) e h =
+          let w = slices-sound (statedOf stem) s x (require-inv (goodStem stem) 2 0 0 (judgeSlices (statedOf stem) s) x e .1) in
+          filled-so p h x (fit (statedOf stem) s p h x w)
+
+      on : (b : Bool) → leb leastPlaces (length p) ≡ b → P (cond b (settled p step) (refusal 1 0 0, p) .1) p
+      on true q = after step refl (leb-true leastPlaces (length p) q)
+      on false q = same p
+
+too-short : (stem : List ℕ) (s : Slices) (p : List ℕ) → length p < leastPlaces → judge stem s p ≡ (refusal 1 0 0, p)
+unfolding judge
+too-short stem s p h = rw (lt-leb leastPlaces (length p) h) refl
+
+zero-after : (stem : List ℕ) (s : Slices) (p : List ℕ) (k f l : ℕ) → judge stem s p .0 ≡ refusal k f l → (k ≡ 1 → ⊥)
+    → (j : ℕ) → j < leastPlaces → getD (judge stem s p .1) j 0 ≡ 0
+unfolding judge
+zero-after stem s p k f l e n j h = on (leb leastPlaces (length p)) e
+  where
+    step : Step SetRead
+    step = require (goodStem stem) 2 0 0 (judgeSlices (statedOf stem) s)
+
+    after : (t : Step SetRead) → settled p t .0 ≡ refusal k f l → getD (settled p t .1) j 0 ≡ 0
+    after (stops a b c) e = cleared-zero leastPlaces p j h
+    after (goes x) e = clash (cc)
+
+    on : (b : Bool) → cond b (settled p step) (refusal 1 0 0, p) .0 ≡ refusal k f l → getD (cond b (settled p step) (refusal 1 0 0, p) .1) j 0 ≡ 0
+    on true e = after step e
+    on false e = absurd (n (cc))
+
+pub refusals : Refusals
+refusals = record {
+  short = too-short;
+  zero = zero-after;
+  beyond = of-places (λ q p. drop leastPlaces q ≡ drop leastPlaces p) (λ p. refl) (λ p h. cleared-drop leastPlaces p) (λ p h x k. places-beyond x k p h);
+  same-length = of-places (λ q p. length q ≡ length p) (λ p. refl) (λ p h. cleared-length leastPlaces p h) (λ p h x k. places-length x k p h);
+}

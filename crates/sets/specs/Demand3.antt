@@ -1,0 +1,70 @@
+-- Demand 3 (01, Judging): what the judge's answer and places say of the lawful records that fit a set.
+use Prim.Native.Nat.{ℕ, _+_, _≤_, _<_}
+use mathlib.Core.Path.{_≡_}
+use mathlib.Core.Logic.{_↔_}
+use mathlib.Core.Bool.{Bool, true, _&&_}
+use mathlib.Core.List.{List, []}
+use lib.ListN.{length, getD, drop}
+use Rattle.places.specs.Places.{startOf, lengthOf, valueAt}
+use Rattle.tables.specs.File.{File, drift, suspension, gas, sections, room, firstPair, leastPlaces}
+use Rattle.reading.specs.Fitting.{StartOf}
+use Rattle.rules.specs.Slices.{goodStem, statedOf}
+use Rattle.rules.specs.Answer.{isMarked}
+use Rattle.sets.specs.Records.{Slices, Record, axles, Lawful, Fits}
+use Rattle.sets.specs.Judge.{Answer, acceptance, refusal, judge}
+
+abbrev pub IsAccepted : Answer → Type 0
+IsAccepted (acceptance m n x y z) = Unit {0}
+IsAccepted (refusal k f l) = ⊥
+
+-- a mark is "set exactly when it is given with CodErrore filled"
+abbrev pub markOf : Record → File → Bool
+markOf r f = r .given f && isMarked f (r .values f)
+
+-- "for each entry start and length of its value in its file": entry i of file f
+pub record Placed (r : Record) (s : Slices) (places : List ℕ) (f : File) (i : ℕ) : Type 0 where
+  -- "A start is the place of the byte after `=`"
+  pub start : StartOf (sections f (axles r f)) (s .file f) i (startOf places (firstPair f + i))
+  pub size : lengthOf places (firstPair f + i) ≡ length (getD (r .values f) i [])
+  pub there : valueAt (s .file f) (startOf places (firstPair f + i), lengthOf places (firstPair f + i)) ≡ getD (r .values f) i []
+
+-- pair i of file f is 0
+abbrev pub IsZero : List ℕ → File → ℕ → Type 0
+IsZero places f i = (startOf places (firstPair f + i) ≡ 0) × (lengthOf places (firstPair f + i) ≡ 0)
+
+-- answer and places are those of the record r
+pub record Returned (r : Record) (s : Slices) (before : List ℕ) (answer : Answer) (after : List ℕ) : Type 0 where
+  pub counts-and-marks : answer ≡ acceptance (r .driftAxles) (r .suspensionAxles) (markOf r drift) (markOf r suspension) (markOf r gas)
+  pub used : (f : File) (i : ℕ) → i < length (r .values f) → Placed r s after f i
+  -- "Unused pairs (of a file not read or an axle not there) are 0"
+  pub unused : (f : File) (i : ℕ) → length (r .values f) ≤ i → i < room f → IsZero after f i
+  -- "numbers past 278 stay"
+  pub beyond : drop leastPlaces after ≡ drop leastPlaces before
+  pub same-length : length after ≡ length before
+
+-- (a) a set is accepted exactly when some lawful record fits it
+abbrev pub Exactly : List ℕ → Slices → Answer → Type 0
+Exactly stem s answer = IsAccepted answer ↔ ((r : Record) × Lawful (statedOf stem) r × Fits r s)
+
+-- (b) any two lawful records that fit it are the same
+abbrev pub Unique : List ℕ → Slices → Type 0
+Unique stem s = (q r : Record) → Lawful (statedOf stem) q → Fits q s → Lawful (statedOf stem) r → Fits r s → q ≡ r
+
+-- (c) on acceptance answer and places are those of the lawful record that fits
+abbrev pub IsReturned : List ℕ → Slices → List ℕ → Answer → List ℕ → Type 0
+IsReturned stem s before answer after = IsAccepted answer → (r : Record) → Lawful (statedOf stem) r → Fits r s → Returned r s before answer after
+
+pub record Demand3 : Type 0 where
+  pub exactly : (stem : List ℕ) (s : Slices) (p : List ℕ) → goodStem stem ≡ true → leastPlaces ≤ length p → Exactly stem s (judge stem s p .0)
+  pub unique : (stem : List ℕ) (s : Slices) → Unique stem s
+  pub returned : (stem : List ℕ) (s : Slices) (p : List ℕ) → goodStem stem ≡ true → leastPlaces ≤ length p → IsReturned stem s p (judge stem s p .0) (judge stem s p .1)
+
+-- what refusals leave in the places
+pub record Refusals : Type 0 where
+  -- row 1: "places too short; they stay"
+  pub short : (stem : List ℕ) (s : Slices) (p : List ℕ) → length p < leastPlaces → judge stem s p ≡ (refusal 1 0 0, p)
+  -- after any other refusal the first 278 numbers are 0, and "numbers past 278 stay"
+  pub zero : (stem : List ℕ) (s : Slices) (p : List ℕ) (k f l : ℕ) → judge stem s p .0 ≡ refusal k f l → (k ≡ 1 → ⊥)
+      → (j : ℕ) → j < leastPlaces → getD (judge stem s p .1) j 0 ≡ 0
+  pub beyond : (stem : List ℕ) (s : Slices) (p : List ℕ) → drop leastPlaces (judge stem s p .1) ≡ drop leastPlaces p
+  pub same-length : (stem : List ℕ) (s : Slices) (p : List ℕ) → length (judge stem s p .1) ≡ length p

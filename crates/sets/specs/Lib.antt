@@ -1,0 +1,3 @@
+pub mod Records
+pub mod Judge
+pub mod Demand3

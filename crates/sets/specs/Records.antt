@@ -1,0 +1,94 @@
+-- Records of a set: when one is lawful, and when it fits a set (01, Judging: "A lawful record ..").
+use Prim.Native.Nat.{ℕ, _<_}
+use mathlib.Core.Path.{_≡_}
+use mathlib.Core.Bool.{Bool, true, false}
+use mathlib.Core.List.{List, []}
+use lib.Dec.{ltb}
+use lib.ListN.{length, getD}
+use Rattle.tables.specs.File.{File, ac2, acc, drift, suspension, gas, sections, entries}
+use Rattle.reading.specs.Fitting.{FitsText, EachKept}
+use Rattle.files.specs.Files.{AxleCount}
+use Rattle.due.specs.Booking.{bookingIn}
+use Rattle.due.specs.Conditions.{conditionsOf, gasValues}
+use Rattle.due.specs.Due.{isAsDue}
+use Rattle.rules.specs.Rule.{allHold}
+use Rattle.rules.specs.Rules.{rulesOf}
+use Rattle.rules.specs.Slices.{sliceRight, isRead, answerRight}
+use Rattle.rules.specs.Answer.{sevenOf}
+use Rattle.rules.specs.declared.Stated.{Stated}
+use Rattle.serial.specs.Answer.{answerOf, addressOk}
+
+-- ---- sets and records
+
+-- 01, first paragraph: the slices of a set, those of the files and the identification answer
+pub record Slices : Type 0 where
+  pub file : File → List ℕ
+  pub answer : List ℕ
+
+-- "An empty slice means "not given""
+abbrev pub isGiven : List ℕ → Bool
+isGiven s = ltb 0 (length s)
+
+-- A record "says which slices are given .., and has the two axle counts .., one value for each entry of each file that is read ..
+-- and, with slice 6, the address". Two records are the same when these are.
+pub record Record : Type 0 where
+  pub given : File → Bool
+  pub answerGiven : Bool
+  pub driftAxles : ℕ
+  pub suspensionAxles : ℕ
+  -- in entry order
+  pub values : File → List (List ℕ)
+  pub address : List ℕ
+
+abbrev pub axles : Record → File → ℕ
+axles r ac2 = 0
+axles r acc = 0
+axles r drift = r .driftAxles
+axles r suspension = r .suspensionAxles
+axles r gas = 0
+
+-- "each file that is read (every given one, but ACC with L)"
+abbrev pub Read : Record → File → Type 0
+Read r f = isRead f (bookingIn (r .values ac2)) (r .given f) ≡ true
+
+abbrev pub NotRead : Record → File → Type 0
+NotRead r f = isRead f (bookingIn (r .values ac2)) (r .given f) ≡ false
+
+-- ---- lawful records
+
+-- "with slice 6, the address of 1 to 3 digits", and without it none
+abbrev pub Address : Bool → List ℕ → Type 0
+Address true v = addressOk v ≡ true
+Address false v = v ≡ []
+
+-- "every rule on due entries": a for AC2's values, vs for those of file f
+abbrev pub EachAsDue : File → List (List ℕ) → List (List ℕ) → Type 0
+EachAsDue f a vs = (i : ℕ) → i < length vs → isAsDue f (conditionsOf a (gasValues f vs)) i (getD vs i []) ≡ true
+
+-- "A lawful record, for a stem"; the stem comes in with what the caller states by it
+pub record Lawful (stated : Stated) (r : Record) : Type 0 where
+  -- "given slices, with row 11's clause on the stem"
+  pub slices : (f : File) → sliceRight f stated (bookingIn (r .values ac2)) (r .given f) ≡ true
+  pub answer : answerRight (r .given gas) (r .values gas) (r .answerGiven) ≡ true
+  -- "axle counts (1 to 9 for a file given)", "0 for a file not given"
+  pub driftCount : AxleCount (r .given drift) (r .driftAxles)
+  pub suspensionCount : AxleCount (r .given suspension) (r .suspensionAxles)
+  -- "one value for each entry", and "every rule on kinds"
+  pub kinds : (f : File) → Read r f → EachKept (entries f (axles r f)) (r .values f)
+  pub dueEntries : (f : File) → Read r f → EachAsDue f (r .values ac2) (r .values f)
+  -- "bookings, Differenza%"
+  pub rules : (f : File) → Read r f → allHold (rulesOf f (r .values ac2) (r .values f) (axles r f)) ≡ true
+  -- values are those of files that are read
+  pub unread : (f : File) → NotRead r f → r .values f ≡ []
+  pub address : Address (r .answerGiven) (r .address)
+
+-- ---- a record fits a set
+
+pub record Fits (r : Record) (s : Slices) : Type 0 where
+  -- "which slices are given, those of the set handed in and no others"
+  pub given : (f : File) → r .given f ≡ isGiven (s .file f)
+  pub answerGiven : r .answerGiven ≡ isGiven (s .answer)
+  -- "Its lines, for each file that is read" are that file
+  pub files : (f : File) → Read r f → FitsText (sections f (axles r f)) (r .values f) (s .file f)
+  -- "Its identification, with slice 6 only, is the answer above with that address and gas's seven values"
+  pub identification : r .answerGiven ≡ true → s .answer ≡ answerOf (r .address) (sevenOf (r .values gas))

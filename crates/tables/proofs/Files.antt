@@ -1,0 +1,69 @@
+-- Files by number. Assumes nothing.
+use Prim.Native.Nat.{ℕ, zero, suc}
+use mathlib.Core.Path.{_≡_, refl, sym}
+use mathlib.Core.Bool.{true, false≢true}
+use mathlib.Core.Option.{none, some}
+use mathlib.Core.List.{[], _∷_, map}
+use lib.ListN.{List·getD-map}
+use Rattle.tables.specs.File.{File, ac2, acc, drift, suspension, gas, files, fileNumber, fileOf, isFile, ofNumber, tableOf, allSections}
+
+-- what is said of a number that a file has
+pub of-file : {A : Type 0} (d : A) (g : File → A) (f : File) → ofNumber d g (fileNumber f) ≡ g f
+unfolding ofNumber
+of-file d g ac2 = refl
+of-file d g acc = refl
+of-file d g drift = refl
+of-file d g suspension = refl
+of-file d g gas = refl
+
+-- what the last arm of a `match` on a file's number knows
+abbrev pub NoFile : ℕ → Type 0
+NoFile n = ((((Unit {0} × (n ≡ 1 → ⊥)) × (n ≡ 2 → ⊥)) × (n ≡ 3 → ⊥)) × (n ≡ 4 → ⊥)) × (n ≡ 5 → ⊥)
+
+pub of-none : {A : Type 0} (d : A) (g : File → A) (n : ℕ) → NoFile n → ofNumber d g n ≡ d
+unfolding ofNumber
+of-none d g zero t = refl
+of-none d g (suc zero) t = absurd (t .0 .0 .0 .0 .1 refl)
+of-none d g (suc (suc zero)) t = absurd (t .0 .0 .0 .1 refl)
+of-none d g (suc (suc (suc zero))) t = absurd (t .0 .0 .1 refl)
+of-none d g (suc (suc (suc (suc zero)))) t = absurd (t .0 .1 refl)
+of-none d g (suc (suc (suc (suc (suc zero))))) t = absurd (t .1 refl)
+of-none d g (suc (suc (suc (suc (suc (suc n)))))) t = refl
+
+-- what holds of every file, and where there is none, holds of every number
+pub of-any : {A : Type 0} (d : A) (g : File → A) (P : A → Type 0) → P d → ((f : File) → P (g f)) → (n : ℕ) → P (ofNumber d g n)
+unfolding ofNumber
+of-any d g P p q zero = p
+of-any d g P p q (suc zero) = q ac2
+of-any d g P p q (suc (suc zero)) = q acc
+of-any d g P p q (suc (suc (suc zero))) = q drift
+of-any d g P p q (suc (suc (suc (suc zero)))) = q suspension
+of-any d g P p q (suc (suc (suc (suc (suc zero))))) = q gas
+of-any d g P p q (suc (suc (suc (suc (suc (suc n)))))) = p
+
+-- a function of what is said of a file is said of the file
+pub of-map : {A B : Type 0} (h : A → B) (d : A) (g : File → A) (n : ℕ) → h (ofNumber d g n) ≡ ofNumber (h d) (λ f. h (g f)) n
+unfolding ofNumber
+of-map h d g n = sym (List·getD-map h (d ∷ map g files) n d)
+
+pub table-of : (f : File) → tableOf (fileNumber f) ≡ allSections f
+unfolding tableOf
+table-of f = of-file [] allSections f
+
+pub table-none : (n : ℕ) → NoFile n → tableOf n ≡ []
+unfolding tableOf
+table-none n t = of-none [] allSections n t
+
+pub file-of : (f : File) → fileOf (fileNumber f) ≡ some f
+file-of f = of-file none some f
+
+-- a number that is a file's
+pub is-file : (n : ℕ) → isFile n ≡ true → (f : File) × (n ≡ fileNumber f)
+unfolding ofNumber
+is-file zero e = absurd (false≢true e)
+is-file (suc zero) e = (ac2, refl)
+is-file (suc (suc zero)) e = (acc, refl)
+is-file (suc (suc (suc zero))) e = (drift, refl)
+is-file (suc (suc (suc (suc zero)))) e = (suspension, refl)
+is-file (suc (suc (suc (suc (suc zero))))) e = (gas, refl)
+is-file (suc (suc (suc (suc (suc (suc n)))))) e = absurd (false≢true e)

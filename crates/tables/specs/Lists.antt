@@ -1,0 +1,22 @@
+-- The lists of entries by number, as the code knows them: sections with the same entries share a list.
+use Prim.Native.Nat.{ℕ}
+use mathlib.Core.List.{List, [], _∷_, _++_}
+use lib.ListN.{length, getD, take}
+use Rattle.tables.specs.Section.{Entry}
+use Rattle.tables.specs.Entries.{newBooking, oldBooking, sixteen, driftAxle, suspensionAxle, analysis, fuelAnalysis}
+
+unfoldable pub entryLists : List (List Entry)
+entryLists = newBooking ∷ oldBooking ∷ sixteen ∷ driftAxle ∷ suspensionAxle ∷ analysis ∷ fuelAnalysis ∷ []
+
+-- the list of a number; a number that none has is of the empty list
+unfoldable pub entryList : ℕ → List Entry
+entryList l = getD entryLists l []
+
+-- lists one after another
+unfoldable pub joined : {A : Type 0} → List (List A) → List A
+joined [] = []
+joined (l ∷ ls) = l ++ joined ls
+
+-- where a list begins among all lists one after another
+unfoldable pub listStart : ℕ → ℕ
+listStart l = length (joined (take l entryLists))
