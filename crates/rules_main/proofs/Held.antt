@@ -1,0 +1,77 @@
+-- Pairs that lie within their text, one after the other; how many a file has; and what the rules ask of them. Assumes nothing.
+use Prim.Native.Nat.{ℕ, zero, suc, _+_, _-_, _≤_}
+use native.Mathlib.Omega.{arith}
+use native.Mathlib.Nat.{add-zero}
+use mathlib.Core.Path.{_≡_, refl, sym, _∙_}
+use mathlib.Core.Bool.{true}
+use mathlib.Core.List.{List}
+use lib.Dec.{leb}
+use borrow.Author.Tests.{leb-true}
+use lib.ListN.{length}
+use Rattle.places.specs.Places.{startOf, lengthOf, pairsAt, Within}
+use Rattle.tables.specs.File.{File, ac2, gas, entries, firstPair, room, fileNumber, ofNumber}
+use Rattle.rules.specs.Values.{NewHeld, GasHeld, NumberHeld}
+use Rattle.rules.proofs.Pairs.{new-count, gas-count, of-number, of-others, number-held}
+
+-- ---- pairs one after the other
+
+-- the start is within the text, and the length within the rest
+pub one-within : (t p : List ℕ) (k a n : ℕ) → a ≡ startOf p k → n ≡ lengthOf p k → a ≤ length t → leb n (length t - a) ≡ true → Within t (pairsAt p k 1)
+unfolding Within pairsAt
+one-within t p k a n e f l h =
+    let m = leb-true n (length t - a) h in
+    (omega (arith, e, f, l, m), tt)
+
+pub none-within : (t p : List ℕ) (a : ℕ) → Within t (pairsAt p a 0)
+unfolding Within pairsAt
+none-within t p a = tt
+
+pub more-within : (t p : List ℕ) (a n : ℕ) → Within t (pairsAt p a n) → Within t (pairsAt p (a + n) 1) → Within t (pairsAt p a (n + 1))
+unfolding Within pairsAt
+more-within t p a zero w h = rw (add-zero a) at h
+more-within t p a (suc n) w h =
+    let z : a + suc n ≡ a + 1 + n = omega arith in
+    let s : suc n + 1 ≡ suc (n + 1) = omega arith in
+    rw s (w .0, more-within t p (a + 1) n (w .1) (rw z at h))
+
+-- ---- how many entries the file of a number has
+
+module _ (m n r : ℕ) where
+  abbrev pub Counts : Type 0
+  Counts = (r ≡ ofNumber 0 (λ (f : File). length (entries f n)) m) × (ofNumber 0 firstPair m + r ≤ 139)
+
+  pub counts : (f : File) → m ≡ fileNumber f → r ≡ length (entries f n) → firstPair f + r ≤ 139 → Counts
+  counts f e h l = (h ∙ sym (of-number 0 (λ (f : File). length (entries f n)) f m e), rw (of-number 0 firstPair f m e) l)
+
+pub no-counts : (m n : ℕ) → (m ≡ 1 → ⊥) → (m ≡ 2 → ⊥) → (m ≡ 3 → ⊥) → (m ≡ 4 → ⊥) → (m ≡ 5 → ⊥) → Counts m n 0
+no-counts m n h1 h2 h3 h4 h5 =
+    let a = of-others 0 (λ (f : File). length (entries f n)) m (λ e. absurd (h1 e)) (λ e. absurd (h2 e)) (λ e. absurd (h3 e)) (λ e. absurd (h4 e)) (λ e. absurd (h5 e)) in
+    let b = of-others 0 firstPair m (λ e. absurd (h1 e)) (λ e. absurd (h2 e)) (λ e. absurd (h3 e)) (λ e. absurd (h4 e)) (λ e. absurd (h5 e)) in
+    (sym a, rw b (omega arith))
+
+-- ---- AC2 and gas by their numbers
+
+-- a file without axles has as many entries as it has room
+new-room : room ac2 ≡ length (entries ac2 0)
+unfolding room
+new-room = new-count 9 ∙ sym (new-count 0)
+
+gas-room : room gas ≡ length (entries gas 0)
+unfolding room
+gas-room = gas-count 9 ∙ sym (gas-count 0)
+
+module _ (t p : List ℕ) where
+  pub new-numbered : NumberHeld 1 0 t p → NewHeld t p
+  new-numbered h = number-held ac2 1 0 t p refl h
+
+  pub gas-numbered : NumberHeld 5 0 t p → GasHeld t p
+  gas-numbered h = number-held gas 5 0 t p refl h
+
+  pub new-within : NewHeld t p → Within t (pairsAt p (firstPair ac2) (room ac2))
+  new-within h = rw new-room (h .1)
+
+  -- gas has no axles, however many are asked for
+  pub gas-within : (m n : ℕ) → m ≡ 5 → NumberHeld m n t p → Within t (pairsAt p (firstPair gas) (room gas))
+  gas-within m n e h =
+      let g = number-held gas m n t p e h .1 in
+      rw (gas-room, gas-count 0) (rw (gas-count n) at g)
