@@ -1,0 +1,98 @@
+-- The whole set: a law for each way out of `judge_set`, and demand 3. Assumes nothing.
+use Prim.Native.Nat.{ℕ, _≤_, _<_}
+use native.Mathlib.Omega.{arith}
+use mathlib.Core.Path.{_≡_, refl, ap, ap₂, sym, subst, _∙_}
+use mathlib.Core.Bool.{Bool, true, false, cond}
+use mathlib.Core.List.{List, _++_}
+use lib.Dec.{leb}
+use lib.ListN.{length, getD, drop, replicate}
+use borrow.Author.Tests.{le-leb, lt-leb}
+use Rattle.refusals.specs.declared.Refusal.{Refusal}
+use Rattle.refusals.specs.declared.RefusalKind.the-variants.{PlacesTooShort, StemForm}
+use Rattle.places.specs.Places.{cleared}
+use Rattle.places.proofs.Laws.{cleared-length, cleared-drop, cleared-zero}
+use Rattle.tables.specs.File.{files, leastPlaces}
+use Rattle.rules.specs.Slices.{goodStem, statedOf}
+use Rattle.rules.specs.declared.Stated.{Stated}
+use Rattle.sets.specs.Records.{Slices}
+use Rattle.sets.specs.Judge as J
+use Rattle.sets.specs.Judge.{Answer, refusal, SetRead, require, judgeSlices, setFiles, settled, judge, answerIs}
+use Rattle.sets.specs.declared.Acceptance.{Acceptance}
+use Rattle.sets.specs.declared.SetAnswer.{SetAnswer}
+use Rattle.sets.specs.declared.SetAnswer.the-variants.{Accepted, Refused}
+use Rattle.sets.proofs.Theorem.{theorem}
+use Rattle.judge.specs.Steps.{AllZero, JudgesSlices}
+use Rattle.judge.specs.Judged.{Demanded, SetJudged}
+
+-- ---- demand 3 of what the definition answers, and so of what the code answers
+
+demanded : (stem : List ℕ) (s : Slices) (p : List ℕ) (x : Answer × List ℕ) → judge stem s p ≡ x → Demanded stem s p (x .0) (x .1)
+demanded stem s p x e = subst (λ (x : Answer × List ℕ). Demanded stem s p (x .0) (x .1)) e (record {
+  exactly = theorem .exactly stem s p;
+  unique = theorem .unique stem s;
+  returned = theorem .returned stem s p;
+})
+
+judged : (stem : List ℕ) (s : Slices) (p q : List ℕ) (r : SetAnswer) → judge stem s p ≡ (answerIs r, q) → SetJudged stem s p q r
+judged stem s p q r e = record {
+  answer = sym (ap (λ (x : Answer × List ℕ). x .0) e);
+  places = sym (ap (λ (x : Answer × List ℕ). x .1) e);
+  demand3 = demanded stem s p (answerIs r, q) e;
+}
+
+-- ---- the ways out
+
+module _ (stem : List ℕ) (s : Slices) (p : List ℕ) where
+  abbrev whole : Bool → Bool → J.Step SetRead → Answer × List ℕ
+  whole x y t = cond x (settled p (require y 2 0 0 t)) (refusal 1 0 0, p)
+
+  abbrev all : J.Step SetRead
+  all = judgeSlices (statedOf stem) s
+
+  whole-is : judge stem s p ≡ whole (leb leastPlaces (length p)) (goodStem stem) all
+  unfolding judge
+  whole-is = refl
+
+  module _ (least : ℕ) (el : least ≡ leastPlaces) where
+    pub set-short : length p < least → SetJudged stem s p p (Refused (record { kind = PlacesTooShort; file = 0; line = 0 }))
+    set-short h =
+        judged stem s p p (Refused (record { kind = PlacesTooShort; file = 0; line = 0 }))
+        (whole-is ∙ ap (λ (x : Bool). whole x (goodStem stem) all) (lt-leb leastPlaces (length p) (omega (arith, el, h))))
+
+    module _ (h : least ≤ length p) (m : List ℕ) (em : m ≡ cleared least p) where
+      enough : leastPlaces ≤ length p
+      enough = omega (arith, el, h)
+
+      cleared-is : m ≡ cleared leastPlaces p
+      cleared-is = em ∙ ap (λ (n : ℕ). cleared n p) el
+
+      pub all-zero : AllZero m
+      all-zero = (
+        omega (arith, ap length cleared-is, cleared-length leastPlaces p enough, enough),
+        λ j l. ap (λ (x : List ℕ). getD x j 0) cleared-is ∙ cleared-zero leastPlaces p j l,
+      )
+
+      pub set-stem : goodStem stem ≡ false → SetJudged stem s p m (Refused (record { kind = StemForm; file = 0; line = 0 }))
+      set-stem g =
+          judged stem s p m (Refused (record { kind = StemForm; file = 0; line = 0 }))
+          (whole-is ∙ ap₂ (λ (x y : Bool). whole x y all) (le-leb leastPlaces (length p) enough) g ∙ ap (λ (z : List ℕ). (refusal 2 0 0, z)) (sym cleared-is))
+
+      module _ (g : goodStem stem ≡ true) (st : Stated) (es : st ≡ statedOf stem) (n : List ℕ) (r : SetAnswer) (w : JudgesSlices (judgeSlices st s) r m n) where
+        told : (x : SetAnswer) → r ≡ x → JudgesSlices all x m n
+        told x e = subst (λ (y : Stated). JudgesSlices (judgeSlices y s) x m n) es (subst (λ (y : SetAnswer). JudgesSlices (judgeSlices st s) y m n) e w)
+
+        good : judge stem s p ≡ settled p all
+        good = whole-is ∙ ap₂ (λ (x y : Bool). whole x y all) (le-leb leastPlaces (length p) enough) g
+
+        pub set-refused : (x : Refusal) → r ≡ Refused x → (q : List ℕ) → q ≡ cleared least n → SetJudged stem s p q (Refused x)
+        set-refused x e q k =
+            let v = told (Refused x) e in
+            let b : drop leastPlaces n ≡ drop leastPlaces p = v .1 ∙ ap (drop leastPlaces) cleared-is ∙ cleared-drop leastPlaces p in
+            judged stem s p q (Refused x)
+            (good ∙ ap (settled p) (v .0) ∙ ap (λ (z : List ℕ). (answerIs (Refused x), z)) (sym (k ∙ ap (λ (y : ℕ). cleared y n) el ∙ ap (λ (z : List ℕ). replicate leastPlaces 0 ++ z) b)))
+
+        pub set-accepted : (a : Acceptance) → r ≡ Accepted a → SetJudged stem s p n r
+        set-accepted a e =
+            let v = told (Accepted a) e in
+            subst (λ (z : SetAnswer). SetJudged stem s p n z) (sym e) (judged stem s p n (Accepted a)
+            (good ∙ ap (settled p) (v .1) ∙ ap₂ (λ (y : Answer) (z : List ℕ). (y, z)) (v .2) (sym (v .3 ∙ ap (setFiles files (v .0)) cleared-is))))

@@ -1,0 +1,7 @@
+pub mod Numbers
+pub mod Values
+pub mod Text
+pub mod File
+pub mod Answer
+pub mod Chains
+pub mod Judged

@@ -1,0 +1,159 @@
+-- The values of a file that was read: what each call of `judge_values` asks, and a law for each way out. Assumes nothing.
+use Prim.Native.Nat.{ℕ, _+_, _-_, _*_, _≤_, _<_}
+use native.Mathlib.Omega.{arith}
+use mathlib.Core.Path.{_≡_, refl, ap, ap₂, sym, subst, _∙_}
+use mathlib.Core.Bool.{Bool, true, false}
+use mathlib.Core.List.{List, [], _∷_}
+use lib.Dec.{ltb}
+use lib.ListN.{length, getD, take}
+use borrow.Author.Tests.{lt-ltb, le-ltb}
+use Rattle.refusals.specs.Refusals.{numberOf}
+use Rattle.refusals.specs.declared.RefusalKind.the-variants.{NotAsDue}
+use Rattle.places.specs.Places.{Pair, pairsAt, valuesAt, Within}
+use Rattle.places.proofs.Laws.{values-length}
+use Rattle.tables.specs.Section.{Section, entriesOf}
+use Rattle.tables.specs.Row.{rowsBefore}
+use Rattle.tables.specs.File.{File, ac2, acc, drift, suspension, gas, fileNumber, fixedSections, allSections, entries, room, firstPair, ofNumber, tableOf}
+use Rattle.tables.proofs.Axles.{entries-most}
+use Rattle.reading.proofs.Sections.{rows-entries}
+use Rattle.files.specs.Files.{axlesOf}
+use Rattle.due.specs.Booking.{bookingIn}
+use Rattle.due.specs.Conditions.{linksIn, withLinks, conditionsOf, gasValues, gasValuesIn}
+use Rattle.due.specs.Due.{dueIn, filledPairs, firstNotAsDueFrom, firstNotAsDue}
+use Rattle.due.specs.declared.Booking.{Booking}
+use Rattle.due.specs.declared.Conditions.{Conditions}
+use Rattle.due.proofs.Entries.{gas-values-file}
+use Rattle.due.proofs.FirstNotAsDue.{first-at-values}
+use Rattle.rules.specs.Rule.{firstBroken}
+use Rattle.rules.specs.Rules.{rulesOf, firstBrokenAt}
+use Rattle.rules.specs.Values.{pairsOf, valuesOf, newValues, NewHeld, NumberHeld}
+use Rattle.rules.specs.Answer.{isMarked}
+use Rattle.rules.specs.declared.BrokenRule.{BrokenRule}
+use Rattle.rules.specs.declared.RuleCheck.{RuleCheck}
+use Rattle.rules.specs.declared.RuleCheck.the-variants.{Kept, Broken}
+use Rattle.sets.specs.Judge.{stops, checkRule, checkedFile, firstFailed}
+use Rattle.judge.specs.Steps.{fileNumbered, ValuesReady, readAt, valuesStep, JudgesValues}
+use Rattle.judge.specs.declared.Step.the-variants.{Stop, Go}
+use Rattle.judge.proofs.Numbers.{by-file, table, gas-room, few-entries, rooms-fit, booking-ready, booking-is}
+
+gas-own : (f : File) (n : ℕ) (t p : List ℕ) → gasValuesIn (fileNumber f) (valuesAt t p (firstPair gas) (room gas)) ≡ gasValues f (valuesOf f n t p)
+gas-own ac2 n t p = gas-values-file ac2 (valuesAt t p (firstPair gas) (room gas))
+gas-own acc n t p = gas-values-file acc (valuesAt t p (firstPair gas) (room gas))
+gas-own drift n t p = gas-values-file drift (valuesAt t p (firstPair gas) (room gas))
+gas-own suspension n t p = gas-values-file suspension (valuesAt t p (firstPair gas) (room gas))
+gas-own gas n t p = gas-values-file gas (valuesAt t p (firstPair gas) (room gas)) ∙ ap (λ (k : ℕ). valuesAt t p (firstPair gas) k) (gas-room n)
+
+module _ (file c : ℕ) (s t p ls : List ℕ) (w : ValuesReady file c s t p ls) where
+  abbrev f : File
+  f = fileNumbered file
+
+  abbrev n : ℕ
+  n = axlesOf f c
+
+  abbrev size : ℕ
+  size = length (entries f n)
+
+  abbrev vs : List (List ℕ)
+  vs = valuesOf f n t p
+
+  abbrev conditions : Conditions
+  conditions = conditionsOf (newValues s p) (gasValues f vs)
+
+  -- ---- what is asked
+
+  pub conditions-ready : (278 ≤ length p) × (file ≡ 5 → Within t (pairsAt p (firstPair gas) (room gas)))
+  conditions-ready = (
+    booking-ready s p (w .held) .0,
+    λ e. subst (λ (k : ℕ). Within t (pairsAt p (firstPair gas) k)) (sym (gas-room n))
+        (subst (λ (g : File). Within t (pairsAt p (firstPair g) (length (entries g n)))) (ap fileNumbered e) (w .own .1)),
+  )
+
+  rows-are : (r : ℕ) → r ≡ rowsBefore (tableOf file) c → r ≡ c + size
+  unfolding entries
+  rows-are r e =
+      e ∙ ap (λ (x : List Section). rowsBefore x c) (table file (w .number))
+      ∙ rows-entries (allSections f) c (w .most)
+      ∙ ap (λ (x : List Section). c + length (entriesOf x)) (w .sections-are)
+
+  pub rows-enough : (r : ℕ) → r ≡ rowsBefore (tableOf file) c → c ≤ r
+  rows-enough r e = omega (arith, rows-are r e)
+
+  pub count-is : (r : ℕ) → r ≡ rowsBefore (tableOf file) c → r - c ≡ size
+  count-is r e = omega (arith, rows-are r e)
+
+  count-most : size ≤ room f
+  count-most = entries-most f n (w .few)
+
+  pub count-fits : (r : ℕ) → r ≡ rowsBefore (tableOf file) c → r - c ≤ length ls
+  count-fits r e = omega (arith, count-is r e, count-most, few-entries f, w .lines)
+
+  pub pairs-ready : (r : ℕ) → r ≡ rowsBefore (tableOf file) c → (first : ℕ) → first ≡ ofNumber 0 firstPair file → 2 * (first + (r - c)) ≤ length p
+  pairs-ready r e first d = omega (arith, count-is r e, count-most, rooms-fit f, d ∙ by-file file (w .number) 0 firstPair, w .held .0)
+
+  pub fixed-few : (k : ℕ) → k ≡ ofNumber 0 (λ f. length (fixedSections f)) file → k ≤ c
+  fixed-few k e = omega (arith, e ∙ by-file file (w .number) 0 (λ f. length (fixedSections f)), w .least)
+
+  pub axles-are : (k : ℕ) → k ≡ ofNumber 0 (λ f. length (fixedSections f)) file → c - k ≡ n
+  axles-are k e = ap (λ (x : ℕ). c - x) (e ∙ by-file file (w .number) 0 (λ f. length (fixedSections f)))
+
+  pub axles-few : (k : ℕ) → k ≡ ofNumber 0 (λ f. length (fixedSections f)) file → c - k ≤ 9
+  axles-few k e = omega (arith, axles-are k e, w .few)
+
+  pub number-held : (m : ℕ) → m ≡ n → NumberHeld file m t p
+  number-held m e =
+      (w .own .0, rw (by-file file (w .number) 0 firstPair, by-file file (w .number) 0 (λ f. length (entries f m)), e) (w .own .1))
+
+  pub broken-ready : (m : ℕ) → m ≡ n → (m ≤ 9) × NewHeld s p × NumberHeld file m t p
+  broken-ready m e = (omega (arith, e, w .few), w .held, number-held m e)
+
+  -- ---- 10
+
+  pub due-is : (b : Booking) → b ≡ bookingIn (valuesAt s p (firstPair ac2) (room ac2))
+      → (k : Conditions) → k ≡ withLinks b (linksIn (gasValuesIn file (valuesAt t p (firstPair gas) (room gas))))
+      → (first : ℕ) → first ≡ ofNumber 0 firstPair file → (count : ℕ) → count ≡ size
+      → (e : ℕ) → e ≡ firstNotAsDueFrom (λ i. dueIn file i k) 0 (filledPairs (pairsAt p first count)) → e ≡ firstNotAsDue f conditions vs
+  unfolding conditionsOf
+  due-is b eb k ek first ef count ec e h =
+      let g : gasValuesIn file (valuesAt t p (firstPair gas) (room gas)) ≡ gasValues f vs
+      = ap (λ (m : ℕ). gasValuesIn m (valuesAt t p (firstPair gas) (room gas))) (sym (w .number)) ∙ gas-own f n t p in
+      let q : k ≡ conditions = ek ∙ ap₂ (λ (x : Booking) (y : List (List ℕ)). withLinks x (linksIn y)) (booking-is s p b eb) g in
+      h
+      ∙ ap₂ (λ (m : ℕ) (ps : List Pair). firstNotAsDueFrom (λ i. dueIn m i k) 0 (filledPairs ps)) (sym (w .number)) (ap₂ (λ (x y : ℕ). pairsAt p x y) (ef ∙ by-file file (w .number) 0 firstPair) ec)
+      ∙ first-at-values f k t (pairsOf f n p) (w .own .1)
+      ∙ ap (λ (x : Conditions). firstNotAsDue f x vs) q
+
+  due-failed : ltb (firstNotAsDue f conditions vs) (length vs) ≡ true → valuesStep f c s t p ls ≡ stops 10 (fileNumber f) (getD (take size ls) (firstNotAsDue f conditions vs) 0)
+  due-failed q = rw q refl
+
+  due-passed : ltb (firstNotAsDue f conditions vs) (length vs) ≡ false
+      → valuesStep f c s t p ls ≡ checkedFile f (readAt f c t p) (take size ls) (firstFailed (checkRule (firstBroken f (rulesOf f (newValues s p) vs n)) ∷ []))
+  due-passed q = rw q refl
+
+  module _ (count : ℕ) (ec : count ≡ size) (e : ℕ) (h : e ≡ firstNotAsDue f conditions vs) where
+    many : length vs ≡ size
+    many = values-length t p (firstPair f) size
+
+    pub values-due : e < count → (l : ℕ) → l ≡ getD (take count ls) e 0 → JudgesValues f c s t p ls (Stop (record { kind = NotAsDue; file = file; line = l }))
+    values-due i l el =
+        due-failed (lt-ltb (firstNotAsDue f conditions vs) (length vs) (omega (arith, many, ec, h, i)))
+        ∙ ap₂ (λ (x y : ℕ). stops 10 x y) (w .number) (sym (el ∙ ap₂ (λ (x y : ℕ). getD (take x ls) y 0) ec h))
+
+    module _ (i : count ≤ e) (m : ℕ) (em : m ≡ n) (r : RuleCheck) (er : r ≡ ofNumber Kept (λ f. firstBrokenAt f m s t p) file) where
+      rule-is : firstBroken f (rulesOf f (newValues s p) vs n) ≡ r
+      rule-is = sym (er ∙ by-file file (w .number) Kept (λ f. firstBrokenAt f m s t p) ∙ ap (λ (k : ℕ). firstBrokenAt f k s t p) em)
+
+      judged : (x : RuleCheck) → r ≡ x → valuesStep f c s t p ls ≡ checkedFile f (readAt f c t p) (take size ls) (firstFailed (checkRule x ∷ []))
+      judged x q =
+          due-passed (le-ltb (firstNotAsDue f conditions vs) (length vs) (omega (arith, many, ec, h, i)))
+          ∙ ap (λ (y : RuleCheck). checkedFile f (readAt f c t p) (take size ls) (firstFailed (checkRule y ∷ []))) (rule-is ∙ q)
+
+      pub values-broken : (x : BrokenRule) → r ≡ Broken x → (l : ℕ) → l ≡ getD (take count ls) (x .entry) 0 → JudgesValues f c s t p ls (Stop (record { kind = x .kind; file = file; line = l }))
+      values-broken x q l el =
+          judged (Broken x) q ∙ ap₂ (λ (y z : ℕ). stops (numberOf (x .kind)) y z) (w .number) (sym (el ∙ ap (λ (y : ℕ). getD (take y ls) (x .entry) 0) ec))
+
+      pub values-pass : r ≡ Kept → (b : Bool) → b ≡ ofNumber false (λ f. isMarked f (valuesOf f m t p)) file → JudgesValues f c s t p ls (Go (record { axles = m; mark = b }))
+      values-pass q b eb = (
+        judged Kept q,
+        sym em,
+        sym (eb ∙ by-file file (w .number) false (λ f. isMarked f (valuesOf f m t p)) ∙ ap (λ (k : ℕ). isMarked f (valuesOf f k t p)) em),
+      )
