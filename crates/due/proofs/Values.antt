@@ -12,7 +12,8 @@ use Rattle.lines.specs.Bytes.{sameBytes}
 use Rattle.lines.specs.Text.{bytes}
 use Rattle.kinds.specs.Kind.{words}
 use Rattle.kinds.specs.Value.{wordIndex, isWord, wordsOf, numberedLists}
-use Rattle.places.specs.Places.{Pair, startOf, lengthOf, pairsAt, valueAt, valuesAt, Within}
+use Rattle.places.specs.Places.{Pair, startOf, lengthOf, pairsAt, valueAt, valueOf, valuesAt, Within}
+use Rattle.places.proofs.Values.{value-length, within-at}
 use Rattle.tables.specs.Section.{entriesOf}
 use Rattle.tables.specs.Entries.{
   newBooking,
@@ -37,25 +38,6 @@ use Rattle.due.specs.Booking.{fuelIn, isLate, bookingIn}
 use Rattle.due.specs.Conditions.{versionIn, linksIn}
 use Rattle.due.specs.Due.{filled, filledPairs}
 use Rattle.due.specs.declared.Version.the-variants.{OtherVersion}
-
--- the value that pair k names
-abbrev pub valueOf : List ℕ → List ℕ → ℕ → List ℕ
-valueOf t p k = valueAt t (startOf p k, lengthOf p k)
-
--- the part of the text that a pair's start and length give
-pub part-value : (t p : List ℕ) (k a n : ℕ) → a ≡ startOf p k → n ≡ lengthOf p k → take (a + n - a) (drop a t) ≡ valueOf t p k
-part-value t p k a n e f = rw (add-sub-cancel-left, e, f) refl
-
--- a pair's length is its value's
-pub value-length : (t : List ℕ) (x : Pair) → x .0 + x .1 ≤ length t → length (valueAt t x) ≡ x .1
-value-length t x h = length-take-le (x .1) (drop (x .0) t) (rw (length-drop (x .0) t) (omega arith))
-
--- pair a + k is one of the n pairs from a on
-pub within-at : (t p : List ℕ) (a n k : ℕ) → Within t (pairsAt p a n) → k < n → startOf p (a + k) + lengthOf p (a + k) ≤ length t
-unfolding Within pairsAt
-within-at t p a zero k w h = absurd (omega arith)
-within-at t p a (suc n) zero w h = let z : a + 0 ≡ a = omega arith in rw z (w .0)
-within-at t p a (suc n) (suc k) w h = let z : a + suc k ≡ a + 1 + k = omega arith in rw z (within-at t p (a + 1) n k (w .1) (omega arith))
 
 -- within the text, lengths tell which values are filled
 pub filled-at : (t : List ℕ) (ps : List Pair) → Within t ps → filledPairs ps ≡ map filled (map (valueAt t) ps)

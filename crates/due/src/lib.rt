@@ -477,25 +477,21 @@ const NUM_VERSIONE_PROTOCOLLO: usize = 108;
 
 const TIPO_COLLEGAMENTO: usize = 110;
 
-// The value that pair k names: it lies within the text, as reading the file has made sure.
-pub fn value_of<'a>(text: &'a [u8], places: &[u32], k: usize) -> &'a [u8]
-    requires { ⌜ (placeSize * k + 1 < length (now places)) × (startOf (now places) k + lengthOf (now places) k ≤ length (now text)) ⌝ }
-    ensures { λ r. ⌜ now r ≡ valueAt (now (text .entry)) (startOf (now (places .entry)) k, lengthOf (now (places .entry)) k) ⌝ }
-{
-    let start = places::start_of(places, k) as usize;
-    let end = start + places::length_of(places, k) as usize;
-    &text[start..end]
-}
-
 // What AC2 says. Its pairs lie within its text, as reading it has made sure.
 pub fn booking_of(text: &[u8], places: &[u32]) -> Booking
     requires { ⌜ (278 ≤ length (now places)) × Within (now text) (pairsAt (now places) (firstPair ac2) (room ac2)) ⌝ }
     ensures { λ r. ⌜ r ≡ bookingIn (valuesAt (now (text .entry)) (now (places .entry)) (firstPair ac2) (room ac2)) ⌝ }
 {
-    let category = kinds::word_index(CATEGORIES, value_of(text, places, CATEGORIA_INTERNAZIONALE));
-    let fuel = fuel_of(value_of(text, places, ALIMENTAZIONE_1));
-    let late = is_late(value_of(text, places, DIRETTIVA_BENZINA_AUTO));
-    let nessuna = lines::equal(value_of(text, places, DIRETTIVA_MOTOCICLO), b"NESSUNA");
+    let category = kinds::word_index(
+        CATEGORIES,
+        places::value_of(text, places, CATEGORIA_INTERNAZIONALE),
+    );
+    let fuel = fuel_of(places::value_of(text, places, ALIMENTAZIONE_1));
+    let late = is_late(places::value_of(text, places, DIRETTIVA_BENZINA_AUTO));
+    let nessuna = lines::equal(
+        places::value_of(text, places, DIRETTIVA_MOTOCICLO),
+        b"NESSUNA",
+    );
     Booking {
         category,
         six: places::length_of(places, TARGA_NOMINALE) == 6,
@@ -511,13 +507,20 @@ pub fn links_of(text: &[u8], places: &[u32]) -> Links
     ensures { λ r. ⌜ r ≡ linksIn (valuesAt (now (text .entry)) (now (places .entry)) (firstPair gas) (room gas)) ⌝ }
 {
     let external = lines::equal(
-        value_of(text, places, TIPO_COLLEGAMENTO_CONTAGIRI),
+        places::value_of(text, places, TIPO_COLLEGAMENTO_CONTAGIRI),
         b"ESTERNO",
     );
-    let counter = version_of(value_of(text, places, NUM_VERSIONE_PROTOCOLLO_CONTAGIRI));
-    let speedtest = version_of(value_of(text, places, NUM_VERSIONE_PROTOCOLLO_PROVA_VELOCITA));
-    let analyser = version_of(value_of(text, places, NUM_VERSIONE_PROTOCOLLO));
-    let serial = lines::equal(value_of(text, places, TIPO_COLLEGAMENTO), b"RS SENZA ESITO");
+    let counter = version_of(places::value_of(text, places, NUM_VERSIONE_PROTOCOLLO_CONTAGIRI));
+    let speedtest = version_of(places::value_of(
+        text,
+        places,
+        NUM_VERSIONE_PROTOCOLLO_PROVA_VELOCITA,
+    ));
+    let analyser = version_of(places::value_of(text, places, NUM_VERSIONE_PROTOCOLLO));
+    let serial = lines::equal(
+        places::value_of(text, places, TIPO_COLLEGAMENTO),
+        b"RS SENZA ESITO",
+    );
     Links {
         serial,
         external,

@@ -7,12 +7,9 @@ use lib.Dec.{leb}
 use lib.ListN.{length}
 use Rattle.tables.specs.Section.{Section}
 use Rattle.tables.specs.File.{File, hasAxles, mostAxles, leastAxles, fixedSections, sections, allSections, leastSections, entries, ofNumber, tableOf}
+use Rattle.reading.specs.Tables.{mostBytes}
 use Rattle.reading.specs.Fitting.{FitsText, EachKept}
 use Rattle.reading.specs.Reading.{Reading, refused, readText}
-
--- 01, Lines: "A file is at most 16,384 bytes"
-abbrev pub mostBytes : ℕ
-mostBytes = 16384
 
 -- 3, then the first line with 4, 5 or 6, then 7, 8, all of 9
 unfoldable pub readBy : List Section → ℕ → List ℕ → Reading

@@ -35,6 +35,10 @@ pairsAt p k (suc n) = (startOf p k, lengthOf p k) ∷ pairsAt p (k + 1) n
 abbrev pub valueAt : List ℕ → Pair → List ℕ
 valueAt t x = take (x .1) (drop (x .0) t)
 
+-- the value that pair k names
+abbrev pub valueOf : List ℕ → List ℕ → ℕ → List ℕ
+valueOf t p k = valueAt t (startOf p k, lengthOf p k)
+
 -- the values of the n pairs from pair k on
 abbrev pub valuesAt : List ℕ → List ℕ → ℕ → ℕ → List (List ℕ)
 valuesAt t p k n = map (valueAt t) (pairsAt p k n)

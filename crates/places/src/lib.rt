@@ -2,7 +2,7 @@
 ghost use mathlib.Core.Path.{_≡_};
 ghost use Prim.Native.Nat.{_+_, _*_, _<_, _≤_};
 ghost use lib.ListN.{length};
-ghost use Rattle.places.specs.Places.{placeSize, startOf, lengthOf, setPair, cleared};
+ghost use Rattle.places.specs.Places.{placeSize, startOf, lengthOf, setPair, valueOf, cleared};
 
 // How many numbers a pair takes.
 const PLACE_SIZE: usize = 2;
@@ -30,6 +30,16 @@ pub fn set_pair(places: &mut [u32], k: usize, start: u32, size: u32)
 {
     places[PLACE_SIZE * k] = start;
     places[PLACE_SIZE * k + 1] = size;
+}
+
+// The value that pair k names, which lies within the text.
+pub fn value_of<'a>(text: &'a [u8], places: &[u32], k: usize) -> &'a [u8]
+    requires { ⌜ (placeSize * k + 1 < length (now places)) × (startOf (now places) k + lengthOf (now places) k ≤ length (now text)) ⌝ }
+    ensures { λ r. ⌜ now r ≡ valueOf (now (text .entry)) (now (places .entry)) k ⌝ }
+{
+    let start = start_of(places, k) as usize;
+    let end = start + length_of(places, k) as usize;
+    &text[start..end]
 }
 
 // The first n numbers become 0.

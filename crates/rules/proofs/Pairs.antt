@@ -6,21 +6,14 @@ use mathlib.Core.Path.{_≡_, refl, _∙_}
 use mathlib.Core.List.{List, [], map}
 use lib.ListN.{length, getD, take, drop, length-append, length-drop}
 use lib.Seq.{length-take-le}
-use Rattle.places.specs.Places.{startOf, lengthOf, pairsAt, valueAt, Within}
+use Rattle.places.specs.Places.{startOf, lengthOf, pairsAt, valueAt, valueOf, Within}
+use Rattle.places.proofs.Values.{within-at}
 use Rattle.tables.specs.Section.{Entry, entriesOf}
 use Rattle.tables.specs.Entries.{newBooking, oldBooking, tester, protocol, measurement, sixteen, driftAxle, suspensionAxle, analyser, counter, speedTest, allKeyDates, allKeyBodies, analysis, fuelAnalysis}
 use Rattle.tables.specs.File.{File, ac2, acc, drift, suspension, gas, fixedSections, axleEntries, axlesFrom, axleSections, sections, entries, room, rooms, firstPair, pairCount, leastPlaces, fileNumber, ofNumber}
-use Rattle.rules.specs.Values.{Held, NumberHeld, PairHeld, valueOf}
+use Rattle.rules.specs.Values.{Held, NumberHeld, PairHeld}
 
 -- ---- a pair among pairs
-
-pub within-at : (t p : List ℕ) (a n k : ℕ) → Within t (pairsAt p a n) → k < n → startOf p (a + k) + lengthOf p (a + k) ≤ length t
-unfolding Within pairsAt
-within-at t p a zero k h l = absurd (omega arith)
-within-at t p a (suc n) zero h l = rw (add-zero a) (h .0)
-within-at t p a (suc n) (suc k) h l =
-    let z : a + suc k ≡ a + 1 + k = omega arith in
-    rw z (within-at t p (a + 1) n k (h .1) (omega arith))
 
 pub value-at : (t p : List ℕ) (a n k : ℕ) → k < n → getD (map (valueAt t) (pairsAt p a n)) k [] ≡ valueOf t p (a + k)
 unfolding pairsAt
@@ -29,13 +22,6 @@ value-at t p a (suc n) zero l = rw (add-zero a)
 value-at t p a (suc n) (suc k) l =
     let z : a + suc k ≡ a + 1 + k = omega arith in
     rw z (value-at t p (a + 1) n k (omega arith))
-
--- the part that the code takes is the value of the pair
-pub part-value : (t p : List ℕ) (k a n : ℕ) → a ≡ startOf p k → n ≡ lengthOf p k → take (a + n - a) (drop a t) ≡ valueOf t p k
-part-value t p k a n e f = rw (add-sub-cancel-left, e, f) refl
-
-pub value-length : (t p : List ℕ) (k : ℕ) → startOf p k + lengthOf p k ≤ length t → length (valueOf t p k) ≡ lengthOf p k
-value-length t p k h = length-take-le (lengthOf p k) (drop (startOf p k) t) (rw (length-drop (startOf p k) t) (omega arith))
 
 -- ---- how many entries a file has, and where its pairs begin
 

@@ -10,13 +10,13 @@ use Rattle.lines.specs.Bytes.{sameBytes}
 use Rattle.lines.specs.Text.{bytes}
 use Rattle.kinds.specs.Kind.{words, categories}
 use Rattle.kinds.specs.Value.{wordIndex, isWord}
-use Rattle.places.specs.Places.{startOf, lengthOf, pairsAt}
+use Rattle.places.specs.Places.{startOf, lengthOf, pairsAt, valueOf}
 use Rattle.tables.specs.Section.{entriesOf}
 use Rattle.tables.specs.Entries.{newBooking, oldBooking, tester, protocol, measurement, sixteen, driftAxle, suspensionAxle, analyser, counter, speedTest, allKeyDates, allKeyBodies, analysis, fuelAnalysis}
 use Rattle.tables.specs.File.{File, ac2, acc, drift, suspension, gas, fixedSections, axleEntries, axlesFrom, axleSections, sections, entries, room, rooms, firstPair}
 use Rattle.tables.specs.Value.{placeOf, axlePlaceOf}
 use Rattle.due.specs.Booking.{bookingIn}
-use Rattle.rules.specs.Values.{Held, NewHeld, OldHeld, valueOf, valuesOf, newValues, oldValues, gasValues}
+use Rattle.rules.specs.Values.{Held, NewHeld, OldHeld, valuesOf, newValues, oldValues, gasValues}
 use Rattle.rules.specs.Rule.{broken, firstBroken}
 use Rattle.rules.specs.Bookings.{typeOf, typeIs, parkingBrakeFits, newRules, descriptionsOf, descriptions, yearFits, fuelFits, petrolFits, petrolWord, directiveOf, periodOf, dieselFits, oldBrakeFits, parkingAxlesFit, oldRules}
 use Rattle.rules.specs.Differences.{differenceFits, differencesFrom}
@@ -25,7 +25,8 @@ use Rattle.rules.specs.Slices.{isSerial}
 use Rattle.rules.specs.Answer.{sevenOf, isMarked}
 use Rattle.rules.specs.declared.RuleCheck.the-variants.{Kept}
 use Rattle.refusals.specs.declared.RefusalKind.the-variants.{BookingRule, DifferenceRule}
-use Rattle.rules.proofs.Pairs.{within-at, value-at, value-length, drift-count, suspension-count, gas-count, first-pairs}
+use Rattle.places.proofs.Values.{within-at, value-length}
+use Rattle.rules.proofs.Pairs.{value-at, drift-count, suspension-count, gas-count, first-pairs}
 
 -- ---- names to pairs
 
@@ -138,7 +139,7 @@ marked-at : (f : File) (n : ℕ) (t p : List ℕ) (k m : ℕ) → placeOf f "Cod
 unfolding isMarked
 marked-at f n t p k m e g l h =
     let i : startOf p m + lengthOf p m ≤ length t = rw g at (within-at t p (firstPair f) (length (entries f n)) k (h .1) l) in
-    rw (e, value-at t p (firstPair f) (length (entries f n)) k l, g, value-length t p m i) refl
+    rw (e, value-at t p (firstPair f) (length (entries f n)) k l, g, value-length t (startOf p m, lengthOf p m) i) refl
 
 code-places : (placeOf drift "CodErrore" ≡ 11) × (placeOf suspension "CodErrore" ≡ 11) × (placeOf gas "CodErrore" ≡ 41)
 unfolding placeOf wordIndex sameBytes entries sections fixedSections axleSections axlesFrom entriesOf sixteen tester protocol measurement analysis analyser counter speedTest allKeyDates allKeyBodies fuelAnalysis

@@ -39,10 +39,6 @@ GasHeld t p = Held gas 0 t p
 abbrev pub NumberHeld : ℕ → ℕ → List ℕ → List ℕ → Type 0
 NumberHeld m n t p = (leastPlaces ≤ length p) × Within t (pairsAt p (ofNumber 0 firstPair m) (ofNumber 0 (λ f. length (entries f n)) m))
 
--- the value of pair k
-abbrev pub valueOf : List ℕ → List ℕ → ℕ → List ℕ
-valueOf t p k = valueAt t (startOf p k, lengthOf p k)
-
 -- pair k is there, and lies within the text
 abbrev pub PairHeld : List ℕ → List ℕ → ℕ → Type 0
 PairHeld t p k = (placeSize * k + 1 < length p) × (startOf p k + lengthOf p k ≤ length t)

@@ -8,8 +8,10 @@ use lib.Dec.{leb}
 use lib.ListN.{length}
 use Rattle.lines.specs.Text.{bytes}
 use Rattle.lines.proofs.Texts.{laid-out}
+use Rattle.lines.proofs.Bools.{clash}
 use Rattle.places.specs.Places.{Pair, valueAt}
-use Rattle.files.specs.Files.{readBy, readFile, axlesOf, mostBytes}
+use Rattle.reading.specs.Tables.{mostBytes}
+use Rattle.files.specs.Files.{readBy, readFile, axlesOf}
 use Rattle.rules.specs.declared.Stated.{Stated}
 use Rattle.lines.specs.Bytes.{sameBytes, allPrintable, without}
 use Rattle.lines.specs.Line.{Line, heading, entry, textOf, wellFormed, allWellFormed}
@@ -459,3 +461,12 @@ car-lawful = record-fits carStated carSet carRead carRecord car-goes (same-recor
     same-values drift = refl
     same-values suspension = refl
     same-values gas = refl
+
+-- ---- not every set has one
+
+-- none fits a set without AC2: a judge that accepts all is shut out
+pub no-booking : (st : Stated) (r : Record) (s : Slices) → s .file ac2 ≡ [] → Lawful st r → Fits r s → ⊥
+unfolding sliceRight
+no-booking st r s none l f =
+    let given : false ≡ true = rw (f .given ac2, none) at (l .slices ac2) in
+    clash (cc)

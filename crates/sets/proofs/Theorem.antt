@@ -15,7 +15,7 @@ use Rattle.tables.proofs.Axles.{entries-most}
 use Rattle.reading.specs.Fitting.{StartOf}
 use Rattle.files.specs.Files.{AxleCount}
 use Rattle.due.specs.Booking.{bookingIn}
-use Rattle.due.proofs.Values.{value-length}
+use Rattle.places.proofs.Values.{value-length}
 use Rattle.rules.specs.Slices.{goodStem, statedOf, isRead}
 use Rattle.rules.specs.Answer.{isMarked}
 use Rattle.rules.specs.declared.Stated.{Stated}

@@ -6,6 +6,7 @@ use mathlib.Core.Bool.{Bool, true, false}
 use mathlib.Core.Option.{Option, none, some}
 use lib.ListN.{length, getD, take}
 use Rattle.lines.specs.Text.{bytes}
+use Rattle.places.specs.Places.{placeSize}
 use Rattle.tables.specs.Section.{Entry, Section, entriesOf}
 use Rattle.tables.specs.Entries.{newBooking, oldBooking, sixteen, driftAxle, suspensionAxle, analysis, fuelAnalysis}
 
@@ -116,10 +117,6 @@ firstPair f = rooms (take (fileNumber f - 1) files)
 -- the pairs of all files
 unfoldable pub pairCount : ℕ
 pairCount = rooms files
-
--- the numbers of a pair: start and length
-abbrev pub placeSize : ℕ
-placeSize = 2
 
 -- 01, Judging: "at least 278 numbers"
 unfoldable pub leastPlaces : ℕ

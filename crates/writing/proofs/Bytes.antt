@@ -92,15 +92,6 @@ within-append s p k (suc n) m w =
     let i = within-append s p (k + 1) n m (v .1) in
     ((v .0, i .0), rw q (i .1))
 
--- pair k + i is one of the n pairs from pair k on
-pub within-at : (s p : List ℕ) (k n i : ℕ) → Within s (pairsAt p k n) → i < n → startOf p (k + i) + lengthOf p (k + i) ≤ length s
-unfolding Within pairsAt
-within-at s p k zero i w h = absurd (omega arith)
-within-at s p k (suc n) zero w h = rw (add-zero k) (w .0)
-within-at s p k (suc n) (suc i) w h =
-    let q : k + suc i ≡ k + 1 + i = omega arith in
-    rw q (within-at s p (k + 1) n i (w .1) (omega arith))
-
 pub section-next : (x : Section) (t : List Section) (s p : List ℕ) (k : ℕ) → sectionsText (x ∷ t) s p k ≡ sectionText x s p k ++ sectionsText t s p (k + length (x .entries))
 unfolding sectionsText sectionText entriesText writeText groupsOf linesOf entriesOf textOf
 section-next x t s p k =

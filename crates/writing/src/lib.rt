@@ -68,16 +68,6 @@ fn is_outside(text: &[u8], places: &[u32], k: usize) -> bool
     text.len() < start + places::length_of(places, k) as usize
 }
 
-// The value that pair k names; it lies within the text.
-fn value_of<'a>(text: &'a [u8], places: &[u32], k: usize) -> &'a [u8]
-    requires { ⌜ (placeSize * k + 1 < length (now places)) × (startOf (now places) k + lengthOf (now places) k ≤ length (now text)) ⌝ }
-    ensures { λ r. ⌜ now r ≡ valueAt (now (text .entry)) (startOf (now (places .entry)) k, lengthOf (now (places .entry)) k) ⌝ }
-{
-    let start = places::start_of(places, k) as usize;
-    let end = start + places::length_of(places, k) as usize;
-    &text[start..end]
-}
-
 // The line of the first entry whose pair is outside the text, in the first `count` rows of a file whose pairs stand
 // from `first` on; 0 where none is.
 fn outside_line(text: &[u8], places: &[u32], file: u32, count: usize, first: usize) -> usize
@@ -110,7 +100,7 @@ fn wrong_kind_line(text: &[u8], places: &[u32], file: u32, count: usize, first: 
     while row < count {
         let kind = rows::row_kind(file, row);
         if kind < rows::HEADING {
-            if !kinds::kind_kept(kind, value_of(text, places, pair)) {
+            if !kinds::kind_kept(kind, places::value_of(text, places, pair)) {
                 return row + 1;
             }
             pair += 1;
@@ -224,7 +214,7 @@ fn write_entries(
     let mut end = at;
     let mut entry = 0;
     while entry < count {
-        let value = value_of(text, places, first + entry);
+        let value = places::value_of(text, places, first + entry);
         end = tables::write_entry(file, section, entry, value, output, end);
         entry += 1;
     }

@@ -6,9 +6,10 @@ use lib.ListN.{length}
 use Rattle.lines.specs.Bytes.{sameBytes}
 use Rattle.lines.specs.Text.{bytes}
 use Rattle.kinds.specs.Value.{wordIndex, wordsOf}
-use Rattle.places.specs.Places.{startOf, lengthOf}
+use Rattle.places.specs.Places.{startOf, lengthOf, valueOf}
 use Rattle.due.specs.Booking.{fuelIn, isLate}
-use Rattle.due.proofs.Values.{valueOf, value-length, ac2-pair, booking-at}
+use Rattle.places.proofs.Values.{value-length}
+use Rattle.due.proofs.Values.{ac2-pair, booking-at}
 use Rattle.due.proofs.booking_of.Statement.{statement}
 use Rattle.due.proofs.booking_of.Tie as tie
 

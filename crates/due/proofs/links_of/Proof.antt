@@ -5,7 +5,8 @@ use lib.Dec.{lit<}
 use Rattle.lines.specs.Bytes.{sameBytes}
 use Rattle.lines.specs.Text.{bytes}
 use Rattle.due.specs.Conditions.{versionIn}
-use Rattle.due.proofs.Values.{valueOf, gas-pair, links-at}
+use Rattle.places.specs.Places.{valueOf}
+use Rattle.due.proofs.Values.{gas-pair, links-at}
 use Rattle.due.proofs.links_of.Statement.{statement}
 use Rattle.due.proofs.links_of.Tie as tie
 

@@ -1,7 +1,7 @@
 -- `rules::category_in` meets its contract: list 1 is that of the categories, and the part is the value of pair 2. Assumes nothing.
 use borrow.Author.Needs.{needs}
 use Rattle.kinds.specs.Value.{numberedLists, wordsOf}
-use Rattle.rules.proofs.Pairs.{part-value}
+use Rattle.places.proofs.Values.{part-value}
 use Rattle.rules.proofs.category_in.Statement.{statement}
 use Rattle.rules.proofs.category_in.Tie as tie
 

@@ -1,6 +1,6 @@
 -- `rules::number_at` meets its contract: the part that is read is the value of the pair. Assumes nothing.
 use borrow.Author.Needs.{needs}
-use Rattle.rules.proofs.Pairs.{part-value}
+use Rattle.places.proofs.Values.{part-value}
 use Rattle.rules.proofs.number_at.Statement.{statement}
 use Rattle.rules.proofs.number_at.Tie as tie
 

@@ -2,8 +2,8 @@
 use borrow.Author.Needs.{needs}
 use mathlib.Core.Path.{_≡_}
 use Rattle.rules.specs.Bookings.{countOf, parkingAxlesFit}
-use Rattle.rules.specs.Values.{valueOf}
-use Rattle.rules.proofs.Pairs.{part-value}
+use Rattle.places.specs.Places.{valueOf}
+use Rattle.places.proofs.Values.{part-value}
 use Rattle.rules.proofs.parking_axles_fit.Statement.{statement}
 use Rattle.rules.proofs.parking_axles_fit.Tie as tie
 

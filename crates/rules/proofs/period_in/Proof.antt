@@ -1,6 +1,6 @@
 -- `rules::period_in` meets its contract: the part is the value of pair 4. Assumes nothing.
 use borrow.Author.Needs.{needs}
-use Rattle.rules.proofs.Pairs.{part-value}
+use Rattle.places.proofs.Values.{part-value}
 use Rattle.rules.proofs.period_in.Statement.{statement}
 use Rattle.rules.proofs.period_in.Tie as tie
 

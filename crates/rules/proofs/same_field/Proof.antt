@@ -1,6 +1,6 @@
 -- `rules::same_field` meets its contract: the field is compared with the value of the pair. Assumes nothing.
 use borrow.Author.Needs.{needs}
-use Rattle.rules.proofs.Pairs.{part-value}
+use Rattle.places.proofs.Values.{part-value}
 use Rattle.rules.proofs.same_field.Statement.{statement}
 use Rattle.rules.proofs.same_field.Tie as tie
 

@@ -1,6 +1,6 @@
 -- `rules::same_values` meets its contract: the part of the other text is the value of its pair. Assumes nothing.
 use borrow.Author.Needs.{needs}
-use Rattle.rules.proofs.Pairs.{part-value}
+use Rattle.places.proofs.Values.{part-value}
 use Rattle.rules.proofs.same_values.Statement.{statement}
 use Rattle.rules.proofs.same_values.Tie as tie
 

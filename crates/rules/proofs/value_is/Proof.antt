@@ -1,6 +1,6 @@
 -- `rules::value_is` meets its contract: the part that is compared is the value of the pair. Assumes nothing.
 use borrow.Author.Needs.{needs}
-use Rattle.rules.proofs.Pairs.{part-value}
+use Rattle.places.proofs.Values.{part-value}
 use Rattle.rules.proofs.value_is.Statement.{statement}
 use Rattle.rules.proofs.value_is.Tie as tie
 

@@ -1,6 +1,6 @@
 -- `rules::year_fits_at` meets its contract: the part is the value of pair 4. Assumes nothing.
 use borrow.Author.Needs.{needs}
-use Rattle.rules.proofs.Pairs.{part-value}
+use Rattle.places.proofs.Values.{part-value}
 use Rattle.rules.proofs.year_fits_at.Statement.{statement}
 use Rattle.rules.proofs.year_fits_at.Tie as tie
 

@@ -6,7 +6,8 @@ use Rattle.writing.proofs.write_entries.Statement.{statement}
 use Rattle.writing.proofs.write_entries.Tie as tie
 use Rattle.tables.specs.File.{tableOf}
 use Rattle.tables.specs.Row.{entriesIn}
-use Rattle.writing.proofs.Bytes.{Entries, entries-start, entries-room, entries-next, entries-end, within-at}
+use Rattle.writing.proofs.Bytes.{Entries, entries-start, entries-room, entries-next, entries-end}
+use Rattle.places.proofs.Values.{within-at}
 
 abbrev Inv-loop : tie.InvT-loop
 Inv-loop file section text places first output₀ at count end₀ entry₀ output end entry = Entries (entriesIn (tableOf file) section) text places first output₀ at entry output end

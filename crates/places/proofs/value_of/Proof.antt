@@ -1,9 +1,8 @@
--- `writing::value_of` meets its contract: the part of the text from the pair's start, as long as its length says. Assumes nothing.
-use Prim.Native.Nat.{_-_}
+-- The part of the text from the pair's start, as long as its length says. Assumes nothing.
 use borrow.Author.Needs.{needs}
-use Rattle.writing.proofs.value_of.Statement.{statement}
-use Rattle.writing.proofs.value_of.Tie as tie
-use native.Mathlib.Nat.{add-sub-cancel-left}
+use Rattle.places.proofs.Values.{part-value}
+use Rattle.places.proofs.value_of.Statement.{statement}
+use Rattle.places.proofs.value_of.Tie as tie
 
 start-of-requires : tie.Need-start-of-requires
 start-of-requires c κs = search needs
@@ -30,7 +29,9 @@ part-result-end : tie.Need-part-result-end
 part-result-end c = search needs
 
 returns : tie.Need-returns
-returns c = rw (add-sub-cancel-left, c .before .before .start-of .ensures, c .before .length-of .ensures)
+returns c =
+    let x = c .before .before .before .before .before .args in
+    part-value (x .text .now) (x .places .now) (x .k) _ _ (c .before .before .start-of .ensures) (c .before .length-of .ensures)
 
 pub value-of-spec : {M : Type 1} → statement M
 value-of-spec =
