@@ -1,0 +1,47 @@
+-- Each answer as numbers in an array that the caller lends, of at least 16.
+use Prim.Native.Nat.{ℕ, _-_}
+use mathlib.Core.Path.{_≡_}
+use mathlib.Core.Bool.{Bool, cond}
+use mathlib.Core.List.{List, [], _∷_, _++_}
+use lib.ListN.{length, getD, drop, replicate}
+use Rattle.refusals.specs.Refusals.{numberOf}
+use Rattle.refusals.specs.declared.Refusal.{Refusal}
+use Rattle.files.specs.Alone as F
+use Rattle.writing.specs.Writing as W
+use Rattle.sets.specs.Judge as J
+
+-- how many numbers of the array are set
+abbrev pub answerSize : ℕ
+answerSize = 16
+
+-- these numbers, then zeros, before what is past the first 16
+abbrev pub answered : List ℕ → List ℕ → List ℕ
+answered ns lent = ns ++ (replicate (answerSize - length ns) 0 ++ drop answerSize lent)
+
+-- 01, Judging: "a refusal that carries its number, file and line"
+abbrev pub refusalNumbers : Refusal → List ℕ
+refusalNumbers x = numberOf (x .kind) ∷ x .file ∷ x .line ∷ []
+
+-- Of acceptance the first three are 0. A file read alone (01, Writing): "the same places and axle count"
+abbrev pub readNumbers : F.Answer → List ℕ
+readNumbers (F.refusal k f l) = k ∷ f ∷ l ∷ []
+readNumbers (F.acceptance n) = 0 ∷ 0 ∷ 0 ∷ n ∷ []
+
+-- a written file (01, Writing): "the answer is its length"
+abbrev pub writeNumbers : W.Answer → List ℕ
+writeNumbers (W.refusal k f l) = k ∷ f ∷ l ∷ []
+writeNumbers (W.written m) = 0 ∷ 0 ∷ 0 ∷ m ∷ []
+
+-- a mark that is set is 1
+abbrev pub markNumber : Bool → ℕ
+markNumber b = cond b 1 0
+
+-- a judged set (01, Judging): "two axle counts .. and a mark per result file"
+abbrev pub setNumbers : J.Answer → List ℕ
+setNumbers (J.refusal k f l) = k ∷ f ∷ l ∷ []
+setNumbers (J.acceptance d u x y z) = 0 ∷ 0 ∷ 0 ∷ d ∷ u ∷ markNumber x ∷ markNumber y ∷ markNumber z ∷ []
+
+-- an array that is long enough was filled, and its first number returned
+pub record Filled (ns before after : List ℕ) (r : ℕ) : Type 0 where
+  pub number : r ≡ getD ns 0 0
+  pub answer : after ≡ answered ns before

@@ -1,0 +1,53 @@
+-- What each exported function promises, for an answer array of any length: the returned number, and every lent array after the call.
+use Prim.Native.Nat.{ℕ, _≤_}
+use mathlib.Core.Path.{_≡_}
+use mathlib.Core.Bool.{cond}
+use mathlib.Core.List.{List}
+use lib.Dec.{leb}
+use lib.ListN.{length, getD}
+use Rattle.files.specs.Alone.{aloneAnswer, alonePlaces}
+use Rattle.writing.specs.Writing as W
+use Rattle.writing.specs.Writing.{Quote, fitting, quoteFile, outputOf, bytesOf}
+use Rattle.sets.specs.Records.{Slices}
+use Rattle.sets.specs.Judge.{judge}
+use Rattle.judge.specs.Judged.{Demanded}
+use Rattle.mctc.specs.Answers.{answerSize, answered, readNumbers, writeNumbers, setNumbers}
+
+-- what a call answers where the answer array is too short: the largest number, which no refusal has
+abbrev pub tooShort : ℕ
+tooShort = 4294967295
+
+-- what depends on the answer array being long enough
+abbrev pub whereFits : {A : Type 0} → List ℕ → A → A → A
+whereFits lent done kept = cond (leb answerSize (length lent)) done kept
+
+-- the first of these numbers is returned
+abbrev pub returned : List ℕ → List ℕ → ℕ
+returned ns lent = whereFits lent (getD ns 0 0) tooShort
+
+-- the array with these numbers; one that is too short stays
+abbrev pub answerAfter : List ℕ → List ℕ → List ℕ
+answerAfter ns lent = whereFits lent (answered ns lent) lent
+
+-- one file read alone (01, Writing: "One file can also be read alone, by its number"): text s, places p before and q after, answer array a before and b after
+pub record ReadCall (file : ℕ) (s p q a b : List ℕ) (r : ℕ) : Type 0 where
+  pub number : r ≡ returned (readNumbers (aloneAnswer file s p)) a
+  pub answer : b ≡ answerAfter (readNumbers (aloneAnswer file s p)) a
+  pub places : q ≡ whereFits a (alonePlaces file s p) p
+
+-- the checks of writing (01, Writing: "Order 1, 16, 17, 9, 18"), for an output of this length
+abbrev pub quoteFor : ℕ → ℕ → List ℕ → List ℕ → List ℕ → Quote
+quoteFor file n s p out = fitting (quoteFile file n s p) (length out)
+
+-- one file written (01, Writing: "From text, places, file and axle count one file is written"): output o before and t after
+pub record WriteCall (s p : List ℕ) (file n : ℕ) (o t a b : List ℕ) (r : ℕ) : Type 0 where
+  pub number : r ≡ returned (writeNumbers (W.answerOf file (quoteFor file n s p o))) a
+  pub answer : b ≡ answerAfter (writeNumbers (W.answerOf file (quoteFor file n s p o))) a
+  pub output : t ≡ whereFits a (outputOf (quoteFor file n s p o) (bytesOf file n s p) o) o
+
+-- a set of these slices judged (01, Judging: "The answer and places equal one definition over the inputs"), with demand 3 of them
+pub record JudgeCall (stem : List ℕ) (s : Slices) (p q a b : List ℕ) (r : ℕ) : Type 0 where
+  pub number : r ≡ returned (setNumbers (judge stem s p .0)) a
+  pub answer : b ≡ answerAfter (setNumbers (judge stem s p .0)) a
+  pub places : q ≡ whereFits a (judge stem s p .1) p
+  pub demand3 : answerSize ≤ length a → Demanded stem s p (judge stem s p .0) q

@@ -1,0 +1,186 @@
+// The interface for C (include/mctc.h): a whole set judged, one file read alone, one file written. Each call fills an
+// array of numbers that the caller lends with its answer, and returns the first of them.
+ghost use mathlib.Core.Path.{_≡_};
+ghost use mathlib.Core.List.{[], _∷_};
+ghost use Prim.Native.Nat.{_≤_};
+ghost use lib.ListN.{length};
+ghost use Rattle.files.specs.Alone as F;
+ghost use Rattle.writing.specs.Writing as W;
+ghost use Rattle.sets.specs.Judge as J;
+ghost use Rattle.judge.specs.Judged.{slicesOf};
+ghost use Rattle.mctc.specs.Answers.{answerSize, answered, refusalNumbers, readNumbers, writeNumbers, markNumber, setNumbers, Filled};
+ghost use Rattle.mctc.specs.Calls.{ReadCall, WriteCall, JudgeCall};
+use files::FileAnswer;
+use refusals::Refusal;
+use sets::SetAnswer;
+use writing::WriteAnswer;
+
+// How many numbers an answer takes. All are set, so that a later version can use more of them.
+const ANSWER_SIZE: usize = 16;
+
+// Returned where the answer array is too short; no refusal has this number.
+const TOO_SHORT: u32 = 4294967295;
+
+// The answer array: eight numbers, then zeros. The first is returned.
+fn fill(
+    answer: &mut [u32],
+    number: u32,
+    file: u32,
+    line: u32,
+    fourth: u32,
+    fifth: u32,
+    sixth: u32,
+    seventh: u32,
+    eighth: u32,
+) -> u32
+    requires { ⌜ answerSize ≤ length (now answer) ⌝ }
+    ensures { λ r. ⌜ (r ≡ number) × (now (answer .exit) ≡ answered (number ∷ file ∷ line ∷ fourth ∷ fifth ∷ sixth ∷ seventh ∷ eighth ∷ []) (now (answer .entry))) ⌝ }
+{
+    places::clear(answer, ANSWER_SIZE);
+    answer[0] = number;
+    answer[1] = file;
+    answer[2] = line;
+    answer[3] = fourth;
+    answer[4] = fifth;
+    answer[5] = sixth;
+    answer[6] = seventh;
+    answer[7] = eighth;
+    number
+}
+
+// Document 01's number of the refusal, its file and its line.
+fn fill_refusal(answer: &mut [u32], refusal: Refusal) -> u32
+    requires { ⌜ answerSize ≤ length (now answer) ⌝ }
+    ensures { λ r. ⌜ Filled (refusalNumbers refusal) (now (answer .entry)) (now (answer .exit)) r ⌝ }
+{
+    let kind = refusal.kind;
+    let number = refusals::refusal_number(kind);
+    let file = refusal.file;
+    let line = refusal.line;
+    fill(answer, number, file, line, 0, 0, 0, 0, 0)
+}
+
+// What reading a file alone says.
+fn fill_read(answer: &mut [u32], read: FileAnswer) -> u32
+    requires { ⌜ answerSize ≤ length (now answer) ⌝ }
+    ensures { λ r. ⌜ Filled (readNumbers (F.answerIs read)) (now (answer .entry)) (now (answer .exit)) r ⌝ }
+{
+    match read {
+        FileAnswer::Refused(x) => fill_refusal(answer, x),
+        FileAnswer::Accepted(a) => {
+            let axles = a.axles;
+            fill(answer, 0, 0, 0, axles, 0, 0, 0, 0)
+        }
+    }
+}
+
+// What writing a file says.
+fn fill_written(answer: &mut [u32], written: WriteAnswer) -> u32
+    requires { ⌜ answerSize ≤ length (now answer) ⌝ }
+    ensures { λ r. ⌜ Filled (writeNumbers (W.answerIs written)) (now (answer .entry)) (now (answer .exit)) r ⌝ }
+{
+    match written {
+        WriteAnswer::Refused(x) => fill_refusal(answer, x),
+        WriteAnswer::Written(a) => {
+            let length = a.length;
+            fill(answer, 0, 0, 0, length, 0, 0, 0, 0)
+        }
+    }
+}
+
+// A mark that is set is 1.
+fn mark_number(mark: bool) -> u32
+    ensures { λ r. ⌜ r ≡ markNumber mark ⌝ }
+{
+    if mark { 1 } else { 0 }
+}
+
+// What judging a set says.
+fn fill_judged(answer: &mut [u32], judged: SetAnswer) -> u32
+    requires { ⌜ answerSize ≤ length (now answer) ⌝ }
+    ensures { λ r. ⌜ Filled (setNumbers (J.answerIs judged)) (now (answer .entry)) (now (answer .exit)) r ⌝ }
+{
+    match judged {
+        SetAnswer::Refused(x) => fill_refusal(answer, x),
+        SetAnswer::Accepted(a) => {
+            let drift = mark_number(a.driftmark);
+            let suspension = mark_number(a.suspensionmark);
+            let gas = mark_number(a.gasmark);
+            let driftaxles = a.driftaxles;
+            let suspensionaxles = a.suspensionaxles;
+            fill(
+                answer,
+                0,
+                0,
+                0,
+                driftaxles,
+                suspensionaxles,
+                drift,
+                suspension,
+                gas,
+            )
+        }
+    }
+}
+
+// A whole set judged (01, Judging). With an answer array that is too short nothing is touched, here and in the others.
+#[no_mangle]
+pub extern "C" fn mctc_judge(
+    stem: &[u8],
+    ac2: &[u8],
+    acc: &[u8],
+    drift: &[u8],
+    suspension: &[u8],
+    gas: &[u8],
+    identification: &[u8],
+    places: &mut [u32],
+    answer: &mut [u32],
+) -> u32
+    ensures { λ r. ⌜ JudgeCall (now (stem .entry)) (slicesOf (now (ac2 .entry)) (now (acc .entry)) (now (drift .entry)) (now (suspension .entry)) (now (gas .entry)) (now (identification .entry))) (now (places .entry)) (now (places .exit)) (now (answer .entry)) (now (answer .exit)) r ⌝ }
+{
+    if answer.len() < ANSWER_SIZE {
+        return TOO_SHORT;
+    }
+    let judged = judge::judge_set(
+        stem,
+        ac2,
+        acc,
+        drift,
+        suspension,
+        gas,
+        identification,
+        places,
+    );
+    fill_judged(answer, judged)
+}
+
+// One file read alone (01, Writing).
+#[no_mangle]
+pub extern "C" fn mctc_read(file: u32, text: &[u8], places: &mut [u32], answer: &mut [u32]) -> u32
+    ensures { λ r. ⌜ ReadCall file (now (text .entry)) (now (places .entry)) (now (places .exit)) (now (answer .entry)) (now (answer .exit)) r ⌝ }
+{
+    if answer.len() < ANSWER_SIZE {
+        return TOO_SHORT;
+    }
+    let read = files::read_alone(file, text, places);
+    fill_read(answer, read)
+}
+
+// One file written from a text and its pairs (01, Writing).
+#[no_mangle]
+pub extern "C" fn mctc_write(
+    text: &[u8],
+    places: &[u32],
+    file: u32,
+    axles: u32,
+    output: &mut [u8],
+    answer: &mut [u32],
+) -> u32
+    ensures { λ r. ⌜ WriteCall (now (text .entry)) (now (places .entry)) file axles (now (output .entry)) (now (output .exit)) (now (answer .entry)) (now (answer .exit)) r ⌝ }
+{
+    if answer.len() < ANSWER_SIZE {
+        return TOO_SHORT;
+    }
+    let written = writing::write_file(text, places, file, axles, output);
+    fill_written(answer, written)
+}

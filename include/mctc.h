@@ -1,0 +1,143 @@
+/* The judge of MCTCNet2 test sets: a whole set judged, one file read, one file written.
+ *
+ * Linked from libmctc.a. Every function answers for whatever bytes and numbers it is lent, keeps no state, allocates
+ * nothing and always returns.
+ *
+ * An array is lent as a pointer and a length, in this order. The length counts elements: bytes, or numbers of 32 bits.
+ * The pointer of an empty array is not null, and is aligned for its elements. No array that a call writes to (places of
+ * mctc_judge and mctc_read, output, answer) overlaps another array of the same call.
+ *
+ * Files: 1 new booking (AC2), 2 old booking (ACC), 3 drift, 4 suspension, 5 gas, 6 the analyser's identification answer.
+ *
+ * Places: at least 278 numbers, that is 139 pairs. Numbers 2 k and 2 k + 1 are pair k: start and length of one value in
+ * its file, both counted in bytes, the start from 0 and for an empty value too the place after `=`. Pairs stand in the
+ * order of the file's table, axles by number. A file's first pair:
+ *
+ *     file   first pair   pairs
+ *     1      0            12
+ *     2      12           6
+ *     3      18           16, then 1 for each axle
+ *     4      43           16, then 3 for each axle
+ *     5      86           53
+ *
+ * Pairs of a file that is not read, and of an axle that is not there, are 0. After a refusal but 1 all pairs are 0. With
+ * refusal 1 the places stay. Numbers past the first 278 stay.
+ *
+ * Answer: at least 16 numbers, of which the first 16 are all set.
+ *
+ *     number   acceptance                         refusal
+ *     0        0                                  1 to 18, below
+ *     1        0                                  file, 0 for none
+ *     2        0                                  line from 1, 0 for none
+ *     3        judge: axles of drift              0
+ *              read: axles; write: length
+ *     4        judge: axles of suspension         0
+ *     5        judge: mark of drift, 0 or 1       0
+ *     6        judge: mark of suspension          0
+ *     7        judge: mark of gas                 0
+ *     8 ..15   0                                  0
+ *
+ * Numbers past the first 16 stay. Each function returns number 0 of the answer. Where the answer has fewer than 16
+ * numbers it returns MCTC_ANSWER_TOO_SHORT and writes to no array.
+ */
+#ifndef MCTC_H
+#define MCTC_H
+
+#include <stddef.h>
+#include <stdint.h>
+
+#ifdef __cplusplus
+extern "C" {
+#endif
+
+/* How many numbers places and answer have at least. */
+#define MCTC_PLACES_SIZE 278
+#define MCTC_ANSWER_SIZE 16
+
+/* Returned where the answer has fewer than 16 numbers. */
+#define MCTC_ANSWER_TOO_SHORT UINT32_C(4294967295)
+
+/* Acceptance. */
+#define MCTC_ACCEPTED 0
+
+/* Refusals, with the line that they carry. */
+
+/* Places too short: file 0, line 0. */
+#define MCTC_PLACES_TOO_SHORT 1
+/* The stem is not two capitals and six digits: file 0, line 0. */
+#define MCTC_STEM_FORM 2
+/* A file has more than 16,384 bytes: line 0. */
+#define MCTC_FILE_TOO_LONG 3
+/* The form of a line: that line. */
+#define MCTC_LINE_FORM 4
+/* A heading that is not of this file, or repeated: its line. */
+#define MCTC_HEADING_NOT_EXPECTED 5
+/* An entry that is unknown in its section, or repeated: its line. */
+#define MCTC_ENTRY_NOT_EXPECTED 6
+/* A section is absent: line 0. */
+#define MCTC_SECTION_ABSENT 7
+/* An entry is absent: the line of its heading. */
+#define MCTC_ENTRY_ABSENT 8
+/* A value is of the wrong kind: its line; from mctc_write the line that it would have. */
+#define MCTC_WRONG_KIND 9
+/* A value is filled and not due, or due and empty: its line. */
+#define MCTC_NOT_AS_DUE 10
+/* A slice is missing or not due, or ACC is given with category L and a stem whose first digit is not 9: line 0. */
+#define MCTC_SLICE_NOT_AS_DUE 11
+/* A rule of the bookings. AC2: the line of TipoVeicolo or AzionamentoFrenoStazionamento; ACC: of the rule's entry. */
+#define MCTC_BOOKING_RULE 12
+/* Differenza% is not the larger grip less the smaller: its line, of the lowest such axle. */
+#define MCTC_DIFFERENCE_RULE 13
+/* The form of the identification answer: file 6, line 0. */
+#define MCTC_ANSWER_FORM 14
+/* The identification answer differs from gas: file 6, line 0. */
+#define MCTC_ANSWER_DIFFERS 15
+/* The file is not 1 to 5, or the axles are not 1 to 9 for 3 and 4, not 0 for 1, 2 and 5: line 0. */
+#define MCTC_FILE_OR_AXLES 16
+/* Start plus length of a pair is above the text's length: the line that the entry would have. */
+#define MCTC_PAIR_OUTSIDE 17
+/* The output is too short: line 0. */
+#define MCTC_OUTPUT_TOO_SHORT 18
+
+/* Judges a whole set: the stem of its files and six slices, each empty where it is not given. Refuses with 1 to 15.
+ *
+ * Accepted: answer 3 and 4 are the axle counts of drift and suspension, 0 for a file that is not given; 5, 6 and 7 are
+ * the marks of drift, suspension and gas, 1 where the file is given with CodErrore filled, else 0. The places have the
+ * pairs of all files that were read. */
+uint32_t mctc_judge(const uint8_t *stem, size_t stem_length,
+                    const uint8_t *ac2, size_t ac2_length,
+                    const uint8_t *acc, size_t acc_length,
+                    const uint8_t *drift, size_t drift_length,
+                    const uint8_t *suspension, size_t suspension_length,
+                    const uint8_t *gas, size_t gas_length,
+                    const uint8_t *identification, size_t identification_length,
+                    uint32_t *places, size_t places_length,
+                    uint32_t *answer, size_t answer_length);
+
+/* Reads one file alone, by its number. Refuses, in this order, with 1, 16 where the number is not 1 to 5, 11 where the
+ * text is empty, then 3 to 9. A refusal carries the file as handed in, 0 with 1.
+ *
+ * Accepted: answer 3 is the axle count, 0 for files 1, 2 and 5. The places have the pairs of this file; all others are
+ * 0. */
+uint32_t mctc_read(uint32_t file,
+                   const uint8_t *text, size_t text_length,
+                   uint32_t *places, size_t places_length,
+                   uint32_t *answer, size_t answer_length);
+
+/* Writes one file from a text and the pairs of its values, with so many axles: 1 to 9 for files 3 and 4, 0 for the
+ * others. Lines stand in the order of the file's table, axles by number. Refuses, in this order, with 1, 16, 17, 9, 18.
+ * A refusal carries the file as handed in, 0 with 1.
+ *
+ * Accepted: answer 3 is the length of the written file; output bytes past it stay. Refused: the output stays. The places
+ * are read only. */
+uint32_t mctc_write(const uint8_t *text, size_t text_length,
+                    const uint32_t *places, size_t places_length,
+                    uint32_t file, uint32_t axles,
+                    uint8_t *output, size_t output_length,
+                    uint32_t *answer, size_t answer_length);
+
+#ifdef __cplusplus
+}
+#endif
+
+#endif

@@ -1,0 +1,393 @@
+//! Generated calls, made by a judge and by the reference and compared: the answer, every
+//! place, every output byte.
+
+use crate::generator::{self, Record};
+use crate::judge::{
+    answer_before, make, make_with_answer, places_before, Call, Judge, Outcome, Reference, ANSWER,
+    OUTPUT_BEFORE, SHORT_ANSWER,
+};
+use crate::mutator;
+use crate::random::Random;
+use crate::reference::tables::{table, AC2, DRIFT, GAS, SUSPENSION};
+use crate::reference::PLACES;
+use crate::replay::to_text;
+use crate::report::Report;
+
+/// Calls of each sort in one run.
+pub const SETS: u64 = 100_000;
+pub const READS: u64 = 20_000;
+pub const WRITES: u64 = 20_000;
+
+/// Calls of each sort that are also made with answer arrays of other lengths.
+const OTHER_ANSWERS: u64 = 500;
+
+/// One accepted set in so many is written anew and judged again.
+const REWRITTEN: u64 = 10;
+
+const FIRST_SET: u64 = 1 << 40;
+const FIRST_READ: u64 = 2 << 40;
+const FIRST_WRITE: u64 = 3 << 40;
+
+/// A generated call.
+pub struct Case {
+    pub seed: u64,
+    pub call: Call,
+    /// What was changed in it, by name.
+    pub changes: Vec<&'static str>,
+    /// What the generator itself says that it must give, where it knows.
+    pub known: Option<Outcome>,
+}
+
+fn accepted(values: &[u32], places: Vec<u32>, output: Vec<u8>) -> Outcome {
+    let mut answer = vec![0; ANSWER];
+    answer[3..3 + values.len()].copy_from_slice(values);
+    Outcome {
+        returned: 0,
+        answer,
+        places,
+        output,
+        touched_outside: false,
+    }
+}
+
+/// Places lent of which the first 278 are set to these.
+fn places_after(before: &[u32], first: &[u32]) -> Vec<u32> {
+    let mut places = before.to_vec();
+    places[..PLACES].copy_from_slice(first);
+    places
+}
+
+fn known_of_record(record: &Record, before: &[u32]) -> Outcome {
+    let marks = [DRIFT, SUSPENSION, GAS].map(|file| u32::from(record.mark(file)));
+    let values = [
+        record.axles(DRIFT),
+        record.axles(SUSPENSION),
+        marks[0],
+        marks[1],
+        marks[2],
+    ];
+    accepted(&values, places_after(before, &record.places), Vec::new())
+}
+
+/// A whole set, lawful or changed.
+pub fn set_case(seed: u64) -> Case {
+    let mut random = Random::new(seed);
+    let record = generator::record(&mut random);
+    let mut set = record.set.clone();
+    let mut changes = Vec::new();
+    if !random.chance(25) {
+        changes = mutator::sets::change_set(&mut random, &record, &mut set);
+    }
+    let places = places_before(mutator::places_length(&mut random));
+    let known =
+        (changes.is_empty() && places.len() >= PLACES).then(|| known_of_record(&record, &places));
+    Case {
+        seed,
+        call: Call::Judge { set, places },
+        changes,
+        known,
+    }
+}
+
+/// A file to be read alone.
+pub fn read_case(seed: u64) -> Case {
+    let mut random = Random::new(seed);
+    let alone = mutator::files::alone(&mut random);
+    let places = places_before(mutator::places_length(&mut random));
+    let known = match &alone.lawful {
+        Some((values, pairs)) if places.len() >= PLACES => {
+            let mut first = vec![0; PLACES];
+            let at = values.first_place();
+            first[at..at + pairs.len()].copy_from_slice(pairs);
+            let after = places_after(&places, &first);
+            Some(accepted(&[values.axles as u32], after, Vec::new()))
+        }
+        _ => None,
+    };
+    Case {
+        seed,
+        call: Call::Read {
+            file: alone.file,
+            text: alone.text,
+            places,
+        },
+        changes: alone.changes,
+        known,
+    }
+}
+
+/// A writing.
+pub fn write_case(seed: u64) -> Case {
+    let mut random = Random::new(seed);
+    let writing = mutator::writings::writing(&mut random);
+    let output = vec![OUTPUT_BEFORE; writing.output_length];
+    let known = writing.lawful.as_ref().and_then(|values| {
+        let written = values.text_in_table_order();
+        if writing.places.len() < PLACES || output.len() < written.len() {
+            return None;
+        }
+        let mut after = output.clone();
+        after[..written.len()].copy_from_slice(&written);
+        let length = written.len() as u32;
+        Some(accepted(&[length], writing.places.clone(), after))
+    });
+    Case {
+        seed,
+        call: Call::Write {
+            text: writing.text,
+            places: writing.places,
+            file: writing.file,
+            axles: writing.axles,
+            output,
+        },
+        changes: writing.changes,
+        known,
+    }
+}
+
+/// Answer, and what differs from the other outcome.
+fn describe(name: &str, outcome: &Outcome, other: &Outcome) -> String {
+    let mut text = format!(
+        "{name}: returned {}, answer {:?}{}\n",
+        outcome.returned,
+        outcome.answer,
+        if outcome.touched_outside {
+            ", WROTE OUTSIDE A LENT ARRAY"
+        } else {
+            ""
+        }
+    );
+    for (at, (a, b)) in outcome.places.iter().zip(&other.places).enumerate() {
+        if a != b {
+            text += &format!("  place {at}: {a}\n");
+        }
+    }
+    for (at, (a, b)) in outcome.output.iter().zip(&other.output).enumerate() {
+        if a != b {
+            text += &format!("  output byte {at}: {a:02x}\n");
+        }
+    }
+    text
+}
+
+fn difference(what: &str, case: &Case, a: (&str, &Outcome), b: (&str, &Outcome)) -> String {
+    format!(
+        "DIFFERENCE: {what}\nseed {}, changes {:?}\n{}{}call (for `replay`):\n{}",
+        case.seed,
+        case.changes,
+        describe(a.0, a.1, b.1),
+        describe(b.0, b.1, a.1),
+        to_text(&case.call)
+    )
+}
+
+/// Makes the call by both and compares; the reference's outcome.
+pub fn compare(subject: &dyn Judge, case: &Case) -> Result<Outcome, String> {
+    let right = make(&Reference, &case.call);
+    let found = make(subject, &case.call);
+    if found != right {
+        let reference = (Reference.name(), &right);
+        let subject = (subject.name(), &found);
+        return Err(difference("judge and reference", case, reference, subject));
+    }
+    if let Some(known) = &case.known {
+        if *known != right {
+            let generator = ("generator", known);
+            let reference = (Reference.name(), &right);
+            return Err(difference(
+                "generator and reference",
+                case,
+                generator,
+                reference,
+            ));
+        }
+    }
+    Ok(right)
+}
+
+/// The call with answer arrays that are too short, or longer than needed.
+fn compare_other_answers(subject: &dyn Judge, case: &Case) -> Result<(), String> {
+    let (places_before, output_before) = match &case.call {
+        Call::Judge { places, .. } | Call::Read { places, .. } => (places.clone(), Vec::new()),
+        Call::Write { places, output, .. } => (places.clone(), output.clone()),
+    };
+    for length in [0, 1, 15] {
+        let untouched = Outcome {
+            returned: SHORT_ANSWER,
+            answer: answer_before(length),
+            places: places_before.clone(),
+            output: output_before.clone(),
+            touched_outside: false,
+        };
+        let found = make_with_answer(subject, &case.call, length);
+        if found != untouched {
+            return Err(difference(
+                &format!("answer array of {length}"),
+                case,
+                ("untouched", &untouched),
+                (subject.name(), &found),
+            ));
+        }
+    }
+    for length in [17, 40] {
+        let right = make(&Reference, &case.call);
+        let mut found = make_with_answer(subject, &case.call, length);
+        // Numbers past 16 may be set to 0 or stay.
+        let past = found.answer.split_off(ANSWER);
+        let stay = past == answer_before(length)[ANSWER..];
+        let zero = past.iter().all(|number| *number == 0);
+        if found != right || !(stay || zero) {
+            return Err(difference(
+                &format!("answer array of {length}, its numbers past 16 are {past:?}"),
+                case,
+                (Reference.name(), &right),
+                (subject.name(), &found),
+            ));
+        }
+    }
+    Ok(())
+}
+
+/// 01, Writing: "By this call a written file reads back", with the same values.
+fn compare_read_back(subject: &dyn Judge, case: &Case, outcome: &Outcome) -> Result<(), String> {
+    let Call::Write {
+        text,
+        places,
+        file,
+        axles,
+        ..
+    } = &case.call
+    else {
+        return Ok(());
+    };
+    let written = &outcome.output[..outcome.answer[3] as usize];
+    let again = Case {
+        seed: case.seed,
+        call: Call::Read {
+            file: *file,
+            text: written.to_vec(),
+            places: places_before(PLACES),
+        },
+        changes: vec!["read after write"],
+        known: None,
+    };
+    let read = compare(subject, &again)?;
+    let wrong = |what: &str| {
+        let name = subject.name();
+        Err(difference(what, &again, (name, &read), (name, outcome)))
+    };
+    if !read.accepted() || read.answer[3] != *axles {
+        return wrong("a written file does not read back");
+    }
+    let sections = table(*file).sections(*axles as usize).iter();
+    let entries: usize = sections.map(|section| section.entries.len()).sum();
+    for at in 0..entries {
+        let place = 2 * (table(*file).first_pair + at);
+        let value = |bytes: &[u8], places: &[u32]| {
+            let (start, length) = (places[place] as usize, places[place + 1] as usize);
+            bytes[start..start + length].to_vec()
+        };
+        if value(text, places) != value(written, &read.places) {
+            return wrong("a value read back differs");
+        }
+    }
+    Ok(())
+}
+
+/// The files of an accepted set written from its places: the set of the written files is
+/// accepted with the same answer.
+fn compare_rewritten(subject: &dyn Judge, case: &Case, outcome: &Outcome) -> Result<(), String> {
+    let Call::Judge { set, .. } = &case.call else {
+        return Ok(());
+    };
+    let mut rewritten = set.clone();
+    for file in AC2..=GAS {
+        // No pairs of a file that was not read.
+        let first = 2 * table(file).first_pair;
+        if outcome.places[first] == 0 {
+            continue;
+        }
+        let writing = Case {
+            seed: case.seed,
+            call: Call::Write {
+                text: set.slice(file).to_vec(),
+                places: outcome.places.clone(),
+                file,
+                axles: match file {
+                    DRIFT => outcome.answer[3],
+                    SUSPENSION => outcome.answer[4],
+                    _ => 0,
+                },
+                output: vec![OUTPUT_BEFORE; set.slice(file).len()],
+            },
+            changes: vec!["file of an accepted set"],
+            known: None,
+        };
+        let written = compare(subject, &writing)?;
+        let slice = &mut rewritten.slices[file as usize - 1];
+        *slice = written.output[..written.answer[3] as usize].to_vec();
+    }
+    let again = Case {
+        seed: case.seed,
+        call: Call::Judge {
+            set: rewritten,
+            places: places_before(PLACES),
+        },
+        changes: vec!["all files written"],
+        known: None,
+    };
+    let judged = compare(subject, &again)?;
+    if judged.answer != outcome.answer {
+        let name = subject.name();
+        return Err(difference(
+            "the set of the written files has another answer",
+            &again,
+            (name, &judged),
+            (name, outcome),
+        ));
+    }
+    Ok(())
+}
+
+/// Makes and compares the calls of `runs` runs.
+pub fn run(subject: &dyn Judge, runs: u64) -> Result<Report, String> {
+    run_of(subject, runs * SETS, runs * READS, runs * WRITES)
+}
+
+/// Makes and compares so many calls of each sort.
+pub fn run_of(subject: &dyn Judge, sets: u64, reads: u64, writes: u64) -> Result<Report, String> {
+    let mut report = Report::default();
+    for at in 0..sets {
+        let case = set_case(FIRST_SET + at);
+        let outcome = compare(subject, &case)?;
+        report.add(&case.call, outcome.refusal());
+        if outcome.accepted() && at % REWRITTEN == 0 {
+            compare_rewritten(subject, &case, &outcome)?;
+            report.rewritten += 1;
+        }
+        if at < OTHER_ANSWERS {
+            compare_other_answers(subject, &case)?;
+        }
+    }
+    for at in 0..reads {
+        let case = read_case(FIRST_READ + at);
+        let outcome = compare(subject, &case)?;
+        report.add(&case.call, outcome.refusal());
+        if at < OTHER_ANSWERS {
+            compare_other_answers(subject, &case)?;
+        }
+    }
+    for at in 0..writes {
+        let case = write_case(FIRST_WRITE + at);
+        let outcome = compare(subject, &case)?;
+        report.add(&case.call, outcome.refusal());
+        if outcome.accepted() {
+            compare_read_back(subject, &case, &outcome)?;
+            report.read_back += 1;
+        }
+        if at < OTHER_ANSWERS {
+            compare_other_answers(subject, &case)?;
+        }
+    }
+    Ok(report)
+}

@@ -1,0 +1,16 @@
+//! Tests from outside for the judge of MCTCNet2 test sets.
+//!
+//! "01" is document 01, "MCTCNet2 test sets: booking, drift, suspension and gas".
+
+pub mod comparison;
+pub mod generator;
+pub mod hex;
+pub mod judge;
+#[cfg(feature = "library")]
+pub mod library;
+pub mod mutator;
+pub mod random;
+pub mod reference;
+pub mod replay;
+pub mod report;
+pub mod vectors;

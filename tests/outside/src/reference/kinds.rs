@@ -1,0 +1,153 @@
+//! 01, Kinds of value.
+
+use super::lines::is_printable;
+
+/// 01, Kinds of value, and the three kinds of single entries.
+#[derive(Clone, Copy, Debug, PartialEq, Eq)]
+pub enum Kind {
+    /// S w.
+    Text(usize),
+    /// C w.
+    Exact(usize),
+    /// N w.
+    Number(usize),
+    /// N(d) w.
+    Decimal { decimals: usize, width: usize },
+    /// D.
+    Date,
+    /// H.
+    Time,
+    /// A word: one of the words listed.
+    Word(&'static [&'static str]),
+    /// Deriva, 000 "6(2)".
+    Drift,
+    /// revs.
+    Revs,
+    /// DataPrimaImm.
+    FirstRegistration,
+    /// PosAssiStaz: nine letters S or N.
+    Axles,
+    /// AnnoPrimaImm: four digits.
+    Year,
+}
+
+/// 01, Kinds of value: whether a filled value has its kind.
+pub fn fits(kind: Kind, value: &[u8]) -> bool {
+    match kind {
+        Kind::Text(width) => (1..=width).contains(&value.len()) && all_printable(value),
+        Kind::Exact(width) => value.len() == width && all_printable(value),
+        Kind::Number(width) => is_number(value, width),
+        Kind::Decimal { decimals, width } => is_decimal(value, decimals, width),
+        Kind::Date => is_date(value),
+        Kind::Time => is_time(value),
+        Kind::Word(words) => words.iter().any(|word| word.as_bytes() == value),
+        Kind::Drift => drift_hundredths(value).is_some(),
+        Kind::Revs => is_number(value.strip_prefix(b"#").unwrap_or(value), 5),
+        Kind::FirstRegistration => is_first_registration(value),
+        Kind::Axles => value.len() == 9 && value.iter().all(|b| *b == b'S' || *b == b'N'),
+        Kind::Year => value.len() == 4 && all_digits(value),
+    }
+}
+
+fn all_printable(value: &[u8]) -> bool {
+    value.iter().all(|byte| is_printable(*byte))
+}
+
+fn all_digits(value: &[u8]) -> bool {
+    value.iter().all(u8::is_ascii_digit)
+}
+
+/// The number that decimal digits (at most nine of them) stand for.
+pub fn number(digits: &[u8]) -> u32 {
+    digits.iter().fold(0, |n, b| n * 10 + u32::from(b - b'0'))
+}
+
+/// 01, Kinds of value: "N w: 1 to w decimal digits".
+fn is_number(value: &[u8], width: usize) -> bool {
+    (1..=width).contains(&value.len()) && all_digits(value)
+}
+
+/// 01, Kinds of value: "N(d) w: one or more digits, a point, exactly d digits, at most w
+/// bytes in all".
+fn is_decimal(value: &[u8], decimals: usize, width: usize) -> bool {
+    let Some(point) = value.iter().position(|byte| *byte == b'.') else {
+        return false;
+    };
+    let (whole, fraction) = (&value[..point], &value[point + 1..]);
+    !whole.is_empty()
+        && all_digits(whole)
+        && fraction.len() == decimals
+        && all_digits(fraction)
+        && value.len() <= width
+}
+
+fn days_in_month(month: u32, year: u32) -> u32 {
+    match month {
+        4 | 6 | 9 | 11 => 30,
+        2 if year % 4 == 0 && (year % 100 != 0 || year % 400 == 0) => 29,
+        2 => 28,
+        _ => 31,
+    }
+}
+
+/// Day, month and year of eight digits ddmmyyyy.
+fn day_month_year(value: &[u8]) -> Option<(u32, u32, u32)> {
+    if value.len() != 8 || !all_digits(value) {
+        return None;
+    }
+    Some((
+        number(&value[..2]),
+        number(&value[2..4]),
+        number(&value[4..]),
+    ))
+}
+
+/// 01, Kinds of value: "D: ddmmyyyy, a Gregorian day, years 1900 to 2099."
+fn is_date(value: &[u8]) -> bool {
+    match day_month_year(value) {
+        Some((day, month, year)) => {
+            (1900..=2099).contains(&year)
+                && (1..=12).contains(&month)
+                && (1..=days_in_month(month, year)).contains(&day)
+        }
+        None => false,
+    }
+}
+
+/// 01, Kinds of value: "DataPrimaImm is D, with day 00 allowed, and month 00 only with
+/// day 00."
+fn is_first_registration(value: &[u8]) -> bool {
+    match day_month_year(value) {
+        Some((0, month, year)) => month <= 12 && (1900..=2099).contains(&year),
+        _ => is_date(value),
+    }
+}
+
+/// 01, Kinds of value: "H: hhmmss, 000000 to 235959."
+fn is_time(value: &[u8]) -> bool {
+    value.len() == 6
+        && all_digits(value)
+        && number(&value[..2]) <= 23
+        && number(&value[2..4]) <= 59
+        && number(&value[4..]) <= 59
+}
+
+/// 01, Kinds of value: Deriva is "optional `-`, one or two digits, point, two digits. Its
+/// meaning is hundredths of a metre per kilometre, with sign; `-0.00` means 0."
+pub fn drift_hundredths(value: &[u8]) -> Option<i32> {
+    let (sign, rest) = match value.strip_prefix(b"-") {
+        Some(rest) => (-1, rest),
+        None => (1, value),
+    };
+    if !is_decimal(rest, 2, 5) {
+        return None;
+    }
+    let digits: Vec<u8> = rest.iter().copied().filter(|byte| *byte != b'.').collect();
+    Some(sign * number(&digits) as i32)
+}
+
+/// 01, Bookings: "Dates compare as the number yyyymmdd, zeros included."
+pub fn date_number(value: &[u8]) -> u32 {
+    let (day, month, year) = day_month_year(value).expect("a date of right kind");
+    year * 10_000 + month * 100 + day
+}

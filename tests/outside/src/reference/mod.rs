@@ -1,0 +1,46 @@
+//! Document 01 as a program, in the order of the paper.
+//!
+//! - `lines`: line form. - `kinds`: kinds of value. - `tables`: headings and entries.
+//! - `files`: one file, 3 to 9. - `due`: due entries. - `bookings`: rules of AC2 and ACC.
+//! - `identification`: the serial answer. - `judging`: a whole set, or one file alone.
+//! - `writing`: one file written.
+
+#![forbid(unsafe_code)]
+
+pub mod bookings;
+pub mod due;
+pub mod files;
+pub mod identification;
+pub mod judging;
+pub mod kinds;
+pub mod lines;
+pub mod tables;
+pub mod writing;
+
+/// 01, Judging: "at least 278 numbers of 32 bits".
+pub const PLACES: usize = 278;
+
+/// 01, Judging: "a refusal that carries its number, file and line (from 1; 0 for none)".
+#[derive(Clone, Copy, Debug, PartialEq, Eq)]
+pub struct Refusal {
+    pub number: u32,
+    pub file: u32,
+    pub line: u32,
+}
+
+impl Refusal {
+    pub fn new(number: u32, file: u32, line: u32) -> Refusal {
+        Refusal { number, file, line }
+    }
+}
+
+/// 01, Judging: "acceptance, with two axle counts (0 for a file not given) and a mark per
+/// result file, set exactly when it is given with CodErrore filled".
+#[derive(Clone, Copy, Debug, PartialEq, Eq, Default)]
+pub struct Acceptance {
+    pub drift_axles: u32,
+    pub suspension_axles: u32,
+    pub drift_mark: bool,
+    pub suspension_mark: bool,
+    pub gas_mark: bool,
+}

@@ -1,0 +1,259 @@
+//! 01, Bookings and Results: the headings and entries of the five files, in table order.
+
+use std::sync::OnceLock;
+
+use super::kinds::Kind;
+
+pub const AC2: u32 = 1;
+pub const ACC: u32 = 2;
+pub const DRIFT: u32 = 3;
+pub const SUSPENSION: u32 = 4;
+pub const GAS: u32 = 5;
+pub const IDENTIFICATION: u32 = 6;
+
+/// 01, Results: "1 to 9 axles, as in suspension".
+pub const MOST_AXLES: usize = 9;
+
+pub struct Entry {
+    pub name: String,
+    pub kind: Kind,
+}
+
+pub struct Section {
+    pub heading: String,
+    pub entries: Vec<Entry>,
+}
+
+/// One file: its fixed sections, then (drift, suspension) the sections of axles 1 to 9.
+pub struct Table {
+    pub file: u32,
+    /// 01, Judging: "files' first pairs at 0, 12, 18, 43, 86".
+    pub first_pair: usize,
+    pub fixed: usize,
+    pub sections: Vec<Section>,
+}
+
+impl Table {
+    pub fn has_axles(&self) -> bool {
+        self.sections.len() > self.fixed
+    }
+
+    /// The sections of a file with this number of axles.
+    pub fn sections(&self, axles: usize) -> &[Section] {
+        &self.sections[..self.fixed + axles]
+    }
+}
+
+/// The table of file 1 to 5.
+pub fn table(file: u32) -> &'static Table {
+    static TABLES: OnceLock<[Table; 5]> = OnceLock::new();
+    let tables = TABLES.get_or_init(|| [ac2(), acc(), drift(), suspension(), gas()]);
+    &tables[file as usize - 1]
+}
+
+/// 01, Kinds of value: "w is 64 where none is given".
+const S: Kind = Kind::Text(64);
+
+const VEHICLE_TYPES: &[&str] = &["LEGGERO", "PESANTE", "MOTOVEICOLO"];
+const CATEGORIES: &[&str] = &[
+    "M1", "M2", "M3", "N1", "N2", "N3", "O1", "O2", "O3", "O4", "L1e", "L2e", "L3e", "L4e", "L5e",
+    "L6e", "L7e",
+];
+const YES_NO: &[&str] = &["S", "N"];
+const DIRECTIVES: &[&str] = &["NESSUNA", "RT1902", "91/441/CEE", "98/69/CE"];
+const PARKING_BRAKES: &[&str] = &["MANO", "PEDALE", "ELETTRICO", "NON PRESENTE"];
+const LINKS: &[&str] = &["DIR", "RETE"];
+const GAS_LINKS: &[&str] = &["DIR", "RETE", "RS SENZA ESITO"];
+const COUNTER_LINKS: &[&str] = &["ESTERNO", "INTEGRATO"];
+
+fn entry(name: impl Into<String>, kind: Kind) -> Entry {
+    Entry {
+        name: name.into(),
+        kind,
+    }
+}
+
+fn section(heading: impl Into<String>, entries: Vec<Entry>) -> Section {
+    Section {
+        heading: heading.into(),
+        entries,
+    }
+}
+
+/// 01, Bookings: "AC2 has one section, its bracketed name as in 001, 3.3.2.2".
+fn ac2() -> Table {
+    let entries = vec![
+        entry("TargaNominale", Kind::Text(10)),
+        entry("TipoVeicolo", Kind::Word(VEHICLE_TYPES)),
+        entry("CategoriaInternazionale", Kind::Word(CATEGORIES)),
+        entry("CodiceCIC", Kind::Text(10)),
+        entry("DataPrimaImm", Kind::FirstRegistration),
+        entry("Alimentazione_1", S),
+        entry("Turbo", Kind::Word(YES_NO)),
+        entry("CorrettorePressione", Kind::Word(YES_NO)),
+        entry("DirettivaEmissioniGasBenzinaAuto", Kind::Word(DIRECTIVES)),
+        entry("DirettivaEmissioniGasMotociclo", S),
+        entry("AzionamentoFrenoStazionamento", Kind::Word(PARKING_BRAKES)),
+        entry("PosAssiStaz", Kind::Axles),
+    ];
+    Table {
+        file: AC2,
+        first_pair: 0,
+        fixed: 1,
+        sections: vec![section("[DatiLibrettoVeicolo]", entries)],
+    }
+}
+
+/// 01, Bookings: "ACC, same heading (ours)".
+fn acc() -> Table {
+    let entries = vec![
+        entry("TipoVeicolo", S),
+        entry("DescrizioneVeicolo", S),
+        entry("AnnoPrimaImm", Kind::Year),
+        entry("Alimentazione_1", S),
+        entry("FrenoStazionamento", S),
+        entry("NumAssiStazionamento", Kind::Number(1)),
+    ];
+    Table {
+        file: ACC,
+        first_pair: 12,
+        fixed: 1,
+        sections: vec![section("[DatiLibrettoVeicolo]", entries)],
+    }
+}
+
+/// 01, Results: drift's entries from Note to CircolareApplicata.
+fn from_note_to_circular(links: &'static [&'static str]) -> Vec<Entry> {
+    vec![
+        entry("Note", Kind::Text(320)),
+        entry("NumVersioneProtocollo", Kind::Number(3)),
+        entry("DataVersioneProtocollo", Kind::Date),
+        entry("TipoCollegamento", Kind::Word(links)),
+        entry("CircolareApplicata", S),
+    ]
+}
+
+/// 01, Results: drift's entries from CodErrore to Operatore.
+fn from_error_to_operator() -> Vec<Entry> {
+    vec![
+        entry("CodErrore", S),
+        entry("DataMisura", Kind::Date),
+        entry("InizioMisura", Kind::Time),
+        entry("FineMisura", Kind::Time),
+        entry("Operatore", S),
+    ]
+}
+
+/// 01, Results: the sixteen entries of drift and suspension.
+fn sixteen_entries() -> Vec<Entry> {
+    let mut entries = vec![
+        entry("Marca", S),
+        entry("Tipo", S),
+        entry("NumOmologa", S),
+        entry("NumSerie", S),
+        entry("DataScadenza", Kind::Date),
+        entry("NumVersioneSoftware", S),
+    ];
+    entries.extend(from_note_to_circular(LINKS));
+    entries.extend(from_error_to_operator());
+    entries
+}
+
+/// 01, Results: "[Deriva] .. Then [DerivaAsse_n] with Deriva, n one digit".
+fn drift() -> Table {
+    let mut sections = vec![section("[Deriva]", sixteen_entries())];
+    for axle in 1..=MOST_AXLES {
+        let entries = vec![entry("Deriva", Kind::Drift)];
+        sections.push(section(format!("[DerivaAsse_{axle}]"), entries));
+    }
+    Table {
+        file: DRIFT,
+        first_pair: 18,
+        fixed: 1,
+        sections,
+    }
+}
+
+/// 01, Results: "Suspension: heading as in 001, 3.3.3.3, the same sixteen entries (ours);
+/// [SospensioniAsse_n] with Aderenza%Sx, Aderenza%Dx, Differenza%, N 2."
+fn suspension() -> Table {
+    let mut sections = vec![section("[Sospensioni]", sixteen_entries())];
+    for axle in 1..=MOST_AXLES {
+        let entries = vec![
+            entry("Aderenza%Sx", Kind::Number(2)),
+            entry("Aderenza%Dx", Kind::Number(2)),
+            entry("Differenza%", Kind::Number(2)),
+        ];
+        sections.push(section(format!("[SospensioniAsse_{axle}]"), entries));
+    }
+    Table {
+        file: SUSPENSION,
+        first_pair: 43,
+        fixed: 1,
+        sections,
+    }
+}
+
+/// 01, Results: "Gas: heading as in 001, 3.3.3.5." and [AnalisiGasAlimentazione_1].
+fn gas() -> Table {
+    let mut entries = vec![
+        entry("MarcaAnalizzatore", S),
+        entry("TipoAnalizzatore", S),
+        entry("NumOmologaAnalizzatore", S),
+        entry("NumSerieAnalizzatore", S),
+        entry("NumVersSoftwareAnalizzatore", S),
+        entry("DataScadenzaAnalizzatore", Kind::Date),
+        entry("MarcaContagiri", S),
+        entry("TipoContagiri", S),
+        entry("NumOmologaContagiri", S),
+        entry("NumSerieContagiri", S),
+        entry("NumVersioneSoftwareContagiri", S),
+        entry("DataScadenzaContagiri", Kind::Date),
+        entry("TipoCollegamentoContagiri", Kind::Word(COUNTER_LINKS)),
+        entry("NumVersioneProtocolloContagiri", Kind::Number(3)),
+        entry("MarcaProvaVelocita", S),
+        entry("TipoProvaVelocita", S),
+        entry("NumOmologaProvaVelocita", S),
+        entry("NumSerieProvaVelocita", S),
+        entry("NumVersioneSoftwareProvaVelocita", S),
+        entry("NumVersioneProtocolloProvaVelocita", Kind::Number(3)),
+        entry("DataScadenzaProvaVelocita", Kind::Date),
+    ];
+    entries.extend(from_note_to_circular(GAS_LINKS));
+    for t in ["", "Contagiri", "ProvaVelocita"] {
+        entries.push(entry(format!("IDChiave{t}RS"), Kind::Exact(5)));
+        entries.push(entry(format!("DataRegChiave{t}RS"), Kind::Date));
+    }
+    for t in ["", "Contagiri", "ProvaVelocita"] {
+        entries.push(entry(format!("Checksum{t}RS"), Kind::Text(92)));
+        entries.push(entry(format!("ModuloChiave{t}RS"), Kind::Exact(172)));
+        entries.push(entry(format!("EsponenteChiave{t}RS"), Kind::Exact(4)));
+    }
+    entries.extend(from_error_to_operator());
+    let three = Kind::Decimal {
+        decimals: 3,
+        width: 5,
+    };
+    let two = Kind::Decimal {
+        decimals: 2,
+        width: 5,
+    };
+    let measured = vec![
+        entry("COMin", three),
+        entry("COCorrettoMin", three),
+        entry("CO2Min", two),
+        entry("HCMin", Kind::Number(5)),
+        entry("O2Min", two),
+        entry("NumGiriMotoreMin", Kind::Revs),
+        entry("COMinAcc", three),
+    ];
+    Table {
+        file: GAS,
+        first_pair: 86,
+        fixed: 2,
+        sections: vec![
+            section("[AnalisiGas]", entries),
+            section("[AnalisiGasAlimentazione_1]", measured),
+        ],
+    }
+}

@@ -1,0 +1,107 @@
+//! A call as one line of text, to be printed at a difference and made again.
+//!
+//! - `judge stem slice1 .. slice6 | places lent`
+//! - `read file text | places lent`
+//! - `write text file axles | places | output size`
+//!
+//! Bytes as hexadecimal digits, `-` for none.
+
+use crate::hex::{from_hex, to_hex};
+use crate::judge::{places_before, Call, Set, OUTPUT_BEFORE};
+
+pub fn numbers_to_text(numbers: &[u32]) -> String {
+    if numbers.is_empty() {
+        return "-".to_string();
+    }
+    let numbers: Vec<String> = numbers.iter().map(u32::to_string).collect();
+    numbers.join(" ")
+}
+
+pub fn number_from_text(text: &str) -> Result<u32, String> {
+    text.trim()
+        .parse()
+        .map_err(|_| format!("no number: {text}"))
+}
+
+pub fn numbers_from_text(text: &str) -> Result<Vec<u32>, String> {
+    if text.trim() == "-" {
+        return Ok(Vec::new());
+    }
+    text.split_whitespace().map(number_from_text).collect()
+}
+
+/// The stem and six slices, hexadecimal, as in the vectors.
+pub fn set_from_text(text: &str) -> Result<Set, String> {
+    let words: Vec<Vec<u8>> = text
+        .split_whitespace()
+        .map(from_hex)
+        .collect::<Result<_, String>>()?;
+    let (stem, slices) = words.split_first().ok_or("no stem")?;
+    Ok(Set {
+        stem: stem.clone(),
+        slices: slices.to_vec().try_into().map_err(|_| "not six slices")?,
+    })
+}
+
+pub fn to_text(call: &Call) -> String {
+    match call {
+        Call::Judge { set, places } => {
+            let slices: Vec<String> = set.slices.iter().map(|slice| to_hex(slice)).collect();
+            format!(
+                "judge {} {} | {}",
+                to_hex(&set.stem),
+                slices.join(" "),
+                places.len()
+            )
+        }
+        Call::Read { file, text, places } => {
+            format!("read {file} {} | {}", to_hex(text), places.len())
+        }
+        Call::Write {
+            text,
+            places,
+            file,
+            axles,
+            output,
+        } => format!(
+            "write {} {file} {axles} | {} | {}",
+            to_hex(text),
+            numbers_to_text(places),
+            output.len()
+        ),
+    }
+}
+
+pub fn from_text(line: &str) -> Result<Call, String> {
+    let (word, rest) = line.split_once(' ').ok_or("no call")?;
+    let columns: Vec<&str> = rest.split('|').map(str::trim).collect();
+    let lent = |text: &str| number_from_text(text).map(|n| places_before(n as usize));
+    match (word, columns.as_slice()) {
+        ("judge", [set, places]) => Ok(Call::Judge {
+            set: set_from_text(set)?,
+            places: lent(places)?,
+        }),
+        ("read", [file_and_text, places]) => {
+            let (file, text) = file_and_text.split_once(' ').ok_or("no text")?;
+            Ok(Call::Read {
+                file: number_from_text(file)?,
+                text: from_hex(text.trim())?,
+                places: lent(places)?,
+            })
+        }
+        ("write", [what, places, size]) => {
+            let words: Vec<&str> = what.split_whitespace().collect();
+            let [text, file, axles] = words.as_slice() else {
+                return Err("not text, file and axles".to_string());
+            };
+            Ok(Call::Write {
+                text: from_hex(text)?,
+                places: numbers_from_text(places)?,
+                file: number_from_text(file)?,
+                axles: number_from_text(axles)?,
+                output: vec![OUTPUT_BEFORE; number_from_text(size)? as usize],
+            })
+        }
+        _ => Err(format!("no call of these columns: {word}")),
+    }
+}

@@ -1,0 +1,231 @@
+//! What a run reached: refusal numbers by call, and entries at which they were reached.
+
+use std::collections::BTreeMap;
+
+use crate::judge::Call;
+use crate::reference::tables::{table, AC2, ACC, GAS, SUSPENSION};
+use crate::reference::Refusal;
+
+/// Numbers 0 (acceptance) to 18.
+const NUMBERS: usize = 19;
+
+/// File, heading and name of an entry.
+type EntryOf = (u32, String, String);
+
+/// Refusals for which the entries are noted.
+const JUDGE_9: &str = "judge 9";
+const JUDGE_10_EMPTY: &str = "judge 10, due and empty";
+const JUDGE_10_FILLED: &str = "judge 10, filled and not due";
+const JUDGE_12: &str = "judge 12";
+const JUDGE_13: &str = "judge 13";
+const READ_9: &str = "read 9";
+const WRITE_9: &str = "write 9";
+const WRITE_17: &str = "write 17";
+
+/// The three calls and the numbers that each must reach.
+const CALLS: [(&str, &[usize]); 3] = [
+    (
+        "judge",
+        &[0, 1, 2, 3, 4, 5, 6, 7, 8, 9, 10, 11, 12, 13, 14, 15],
+    ),
+    ("read", &[0, 1, 3, 4, 5, 6, 7, 8, 9, 11, 16]),
+    ("write", &[0, 1, 9, 16, 17, 18]),
+];
+
+#[derive(Default)]
+pub struct Report {
+    /// By call, then by number.
+    counts: [[u64; NUMBERS]; 3],
+    /// How often each noted refusal was reached at each entry.
+    reached: BTreeMap<&'static str, BTreeMap<EntryOf, u64>>,
+    /// Written files that were read back.
+    pub read_back: u64,
+    /// Accepted sets whose files were written and judged again.
+    pub rewritten: u64,
+}
+
+/// The entry at a line of a text, with whether its value is empty.
+fn entry_at(file: u32, text: &[u8], line: u32) -> Option<(EntryOf, bool)> {
+    let mut heading = String::new();
+    let mut last = String::new();
+    for bytes in text.split(|byte| *byte == b'\n').take(line as usize) {
+        last = String::from_utf8_lossy(bytes).trim_end_matches('\r').into();
+        if last.starts_with('[') {
+            heading.clone_from(&last);
+        }
+    }
+    let (name, value) = last.split_once('=')?;
+    Some(((file, heading, name.to_string()), value.is_empty()))
+}
+
+/// All entries of all files, in table order.
+fn all_entries() -> Vec<EntryOf> {
+    (AC2..=GAS).flat_map(entries_of).collect()
+}
+
+fn entries_of(file: u32) -> Vec<EntryOf> {
+    let mut entries = Vec::new();
+    for section in &table(file).sections {
+        for entry in &section.entries {
+            entries.push((file, section.heading.clone(), entry.name.clone()));
+        }
+    }
+    entries
+}
+
+/// The entry at a line of a file in table order.
+fn entry_in_table(file: u32, line: u32) -> Option<EntryOf> {
+    let mut lines = Vec::new();
+    for section in &table(file).sections {
+        lines.push(None);
+        for entry in &section.entries {
+            lines.push(Some((file, section.heading.clone(), entry.name.clone())));
+        }
+    }
+    lines.into_iter().nth(line as usize - 1)?
+}
+
+/// 01, Due entries: the entries that are "filled exactly when" something holds.
+fn is_conditional(entry: &EntryOf) -> bool {
+    let (file, _, name) = entry;
+    match *file {
+        AC2 => matches!(
+            name.as_str(),
+            "CodiceCIC"
+                | "Alimentazione_1"
+                | "Turbo"
+                | "CorrettorePressione"
+                | "DirettivaEmissioniGasBenzinaAuto"
+                | "DirettivaEmissioniGasMotociclo"
+        ),
+        GAS => {
+            name == "COMinAcc"
+                || name == "NumVersioneProtocolloContagiri"
+                || name.ends_with("ProvaVelocita")
+                || name.ends_with("RS")
+        }
+        _ => false,
+    }
+}
+
+/// 01, Due entries: "Note and CodErrore may be filled or empty"; ACC's Alimentazione_1 is free.
+fn is_free(entry: &EntryOf) -> bool {
+    let (file, _, name) = entry;
+    matches!(name.as_str(), "Note" | "CodErrore") || (*file == ACC && name == "Alimentazione_1")
+}
+
+/// 01, row 12: the entries whose lines it names.
+fn has_booking_rule(entry: &EntryOf) -> bool {
+    let (file, _, name) = entry;
+    match *file {
+        AC2 => matches!(
+            name.as_str(),
+            "TipoVeicolo" | "AzionamentoFrenoStazionamento"
+        ),
+        file => file == ACC,
+    }
+}
+
+/// The entries at which each noted refusal can be reached.
+fn reachable() -> Vec<(&'static str, Vec<EntryOf>)> {
+    let fitting =
+        |fits: &dyn Fn(&EntryOf) -> bool| all_entries().into_iter().filter(fits).collect();
+    vec![
+        (JUDGE_9, fitting(&|_| true)),
+        (JUDGE_10_EMPTY, fitting(&|entry| !is_free(entry))),
+        (JUDGE_10_FILLED, fitting(&is_conditional)),
+        (JUDGE_12, fitting(&has_booking_rule)),
+        (
+            JUDGE_13,
+            fitting(&|(file, _, name)| *file == SUSPENSION && name == "Differenza%"),
+        ),
+        (READ_9, fitting(&|_| true)),
+        (WRITE_9, fitting(&|_| true)),
+        (WRITE_17, fitting(&|_| true)),
+    ]
+}
+
+impl Report {
+    /// Counts a refusal, or acceptance as number 0, and notes its entry.
+    pub fn add(&mut self, call: &Call, refusal: Refusal) {
+        let which = match call {
+            Call::Judge { .. } => 0,
+            Call::Read { .. } => 1,
+            Call::Write { .. } => 2,
+        };
+        self.counts[which][refusal.number as usize] += 1;
+        let (file, line) = (refusal.file, refusal.line);
+        let noted = match (call, refusal.number) {
+            (Call::Judge { set, .. }, number @ (9 | 10 | 12 | 13)) => {
+                entry_at(file, set.slice(file), line).map(|(entry, empty)| match (number, empty) {
+                    (9, _) => (JUDGE_9, entry),
+                    (10, true) => (JUDGE_10_EMPTY, entry),
+                    (10, false) => (JUDGE_10_FILLED, entry),
+                    (12, _) => (JUDGE_12, entry),
+                    _ => (JUDGE_13, entry),
+                })
+            }
+            (Call::Read { text, .. }, 9) => {
+                entry_at(file, text, line).map(|(entry, _)| (READ_9, entry))
+            }
+            (Call::Write { .. }, 9) => entry_in_table(file, line).map(|entry| (WRITE_9, entry)),
+            (Call::Write { .. }, 17) => entry_in_table(file, line).map(|entry| (WRITE_17, entry)),
+            _ => None,
+        };
+        if let Some((what, entry)) = noted {
+            *self
+                .reached
+                .entry(what)
+                .or_default()
+                .entry(entry)
+                .or_default() += 1;
+        }
+    }
+
+    /// How often a noted refusal was reached at an entry.
+    fn times(&self, what: &str, entry: &EntryOf) -> u64 {
+        let entries = self.reached.get(what);
+        entries
+            .and_then(|entries| entries.get(entry))
+            .copied()
+            .unwrap_or(0)
+    }
+
+    /// What should have been reached and was not.
+    pub fn missing(&self) -> Vec<String> {
+        let mut missing = Vec::new();
+        for ((call, numbers), counts) in CALLS.iter().zip(&self.counts) {
+            for number in numbers.iter().filter(|number| counts[**number] == 0) {
+                missing.push(format!("{call}: number {number} was never reached"));
+            }
+        }
+        for (what, entries) in reachable() {
+            for entry in entries {
+                if self.times(what, &entry) == 0 {
+                    let (file, heading, name) = entry;
+                    missing.push(format!("{what}: never at file {file}, {heading}, {name}"));
+                }
+            }
+        }
+        missing
+    }
+
+    pub fn print(&self) {
+        println!("number      judge       read      write");
+        for number in 0..NUMBERS {
+            let [judge, read, write] = self.counts.map(|counts| counts[number]);
+            println!("{number:6} {judge:10} {read:10} {write:10}");
+        }
+        println!("files read back after writing: {}", self.read_back);
+        println!("accepted sets written and judged again: {}", self.rewritten);
+        for (what, entries) in reachable() {
+            let times: Vec<u64> = entries.iter().map(|e| self.times(what, e)).collect();
+            println!(
+                "{what}: at {} of {} entries, at each at least {} times",
+                times.iter().filter(|times| **times > 0).count(),
+                entries.len(),
+                times.iter().min().unwrap_or(&0)
+            );
+        }
+    }
+}
