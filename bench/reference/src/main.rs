@@ -16,7 +16,7 @@ use std::process::ExitCode;
 use std::time::Instant;
 
 use outside::judge::{Judge, Reference, Set, ANSWER};
-use outside::reference::judging::{judge_set, read_alone, Slices};
+use outside::reference::judging::{judge_set, read_alone};
 use outside::reference::tables::GAS;
 use outside::reference::PLACES;
 
@@ -99,17 +99,7 @@ fn prepare(what: &str, folder: &str) -> Result<(Call, Set), String> {
 }
 
 fn judge(set: &Set, places: &mut [u32]) {
-    let [ac2, acc, drift, suspension, gas, identification] = &set.slices;
-    let slices = Slices {
-        stem: &set.stem,
-        ac2,
-        acc,
-        drift,
-        suspension,
-        gas,
-        identification,
-    };
-    let _ = black_box(judge_set(slices, places));
+    let _ = black_box(judge_set(set.as_slices(), places));
 }
 
 fn read_gas(set: &Set, places: &mut [u32]) {

@@ -18,6 +18,20 @@ pub struct Set {
 }
 
 impl Set {
+    /// As the reference takes it.
+    pub fn as_slices(&self) -> Slices<'_> {
+        let [ac2, acc, drift, suspension, gas, identification] = &self.slices;
+        Slices {
+            stem: &self.stem,
+            ac2,
+            acc,
+            drift,
+            suspension,
+            gas,
+            identification,
+        }
+    }
+
     pub fn slice(&self, file: u32) -> &[u8] {
         &self.slices[file as usize - 1]
     }
@@ -69,17 +83,7 @@ impl Judge for Reference {
         if answer.len() < ANSWER {
             return SHORT_ANSWER;
         }
-        let [ac2, acc, drift, suspension, gas, identification] = &set.slices;
-        let slices = Slices {
-            stem: &set.stem,
-            ac2,
-            acc,
-            drift,
-            suspension,
-            gas,
-            identification,
-        };
-        let result = judge_set(slices, places).map(|acceptance| {
+        let result = judge_set(set.as_slices(), places).map(|acceptance| {
             vec![
                 acceptance.drift_axles,
                 acceptance.suspension_axles,
