@@ -1,4 +1,4 @@
-/* The judge of MCTCNet2 test sets: a whole set judged, one file read, one file written.
+/* The judge of MCTCNet2 test sets: a whole set judged, one file read, one file written, names of entries and headings.
  *
  * Linked from libmctc.a. Every function answers for whatever bytes and numbers it is lent, keeps no state, allocates
  * nothing and always returns.
@@ -23,6 +23,16 @@
  * Pairs of a file that is not read, and of an axle that is not there, are 0. After a refusal but 1 all pairs are 0. With
  * refusal 1 the places stay. Numbers past the first 278 stay.
  *
+ * Names: a file's entries are numbered from 0 in the order of its pairs, all nine axles counted, so that entry k has
+ * the pair k past the file's first. Its headings are numbered from 0 in the order of its table; axle n has heading n.
+ *
+ *     file   entries                        headings
+ *     1      12                             1
+ *     2      6                              1
+ *     3      16, then 1 for each axle: 25   1, then 1 for each axle: 10
+ *     4      16, then 3 for each axle: 43   1, then 1 for each axle: 10
+ *     5      46, then 7: 53                 2
+ *
  * Answer: at least 16 numbers, of which the first 16 are all set.
  *
  *     number   acceptance                         refusal
@@ -31,7 +41,9 @@
  *     2        0                                  line from 1, 0 for none
  *     3        judge: axles of drift              0
  *              read: axles; write: length
+ *              names: length
  *     4        judge: axles of suspension         0
+ *              names: heading
  *     5        judge: mark of drift, 0 or 1       0
  *     6        judge: mark of suspension          0
  *     7        judge: mark of gas                 0
@@ -53,6 +65,10 @@ extern "C" {
 /* How many numbers places and answer have at least. */
 #define MCTC_PLACES_SIZE 278
 #define MCTC_ANSWER_SIZE 16
+
+/* How many bytes the longest name of an entry and the longest heading have: room for any of them. */
+#define MCTC_LONGEST_NAME 34
+#define MCTC_LONGEST_HEADING 27
 
 /* Returned where the answer has fewer than 16 numbers. */
 #define MCTC_ANSWER_TOO_SHORT UINT32_C(4294967295)
@@ -92,7 +108,8 @@ extern "C" {
 #define MCTC_ANSWER_FORM 14
 /* The identification answer differs from gas: file 6, line 0. */
 #define MCTC_ANSWER_DIFFERS 15
-/* The file is not 1 to 5, or the axles are not 1 to 9 for 3 and 4, not 0 for 1, 2 and 5: line 0. */
+/* The file is not 1 to 5, or the axles are not 1 to 9 for 3 and 4, not 0 for 1, 2 and 5, or the file has no entry or
+ * heading of that number: line 0. */
 #define MCTC_FILE_OR_AXLES 16
 /* Start plus length of a pair is above the text's length: the line that the entry would have. */
 #define MCTC_PAIR_OUTSIDE 17
@@ -135,6 +152,24 @@ uint32_t mctc_write(const uint8_t *text, size_t text_length,
                     uint32_t file, uint32_t axles,
                     uint8_t *output, size_t output_length,
                     uint32_t *answer, size_t answer_length);
+
+/* Copies the name of a file's entry, by its number. Refuses, in this order, with 16 where there is no such file or
+ * entry, 18 where the output is shorter than the name. A refusal carries the file as handed in and line 0.
+ *
+ * Accepted: answer 3 is the length of the name, answer 4 the number of the heading that the entry stands under; output
+ * bytes past the length stay. Refused: the output stays. */
+uint32_t mctc_entry_name(uint32_t file, uint32_t entry,
+                         uint8_t *output, size_t output_length,
+                         uint32_t *answer, size_t answer_length);
+
+/* Copies a file's heading, by its number, with its brackets. Refuses, in this order, with 16 where there is no such
+ * file or heading, 18 where the output is shorter than the heading. A refusal carries the file as handed in and line 0.
+ *
+ * Accepted: answer 3 is the length of the heading, answer 4 its number; output bytes past the length stay. Refused: the
+ * output stays. */
+uint32_t mctc_heading_name(uint32_t file, uint32_t heading,
+                           uint8_t *output, size_t output_length,
+                           uint32_t *answer, size_t answer_length);
 
 #ifdef __cplusplus
 }

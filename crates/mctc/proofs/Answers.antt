@@ -14,11 +14,15 @@ use Rattle.writing.specs.Writing as W
 use Rattle.writing.specs.declared.WriteAcceptance.{WriteAcceptance}
 use Rattle.writing.specs.declared.WriteAnswer.{WriteAnswer}
 use Rattle.writing.specs.declared.WriteAnswer.the-variants as WriteAnswer
+use Rattle.names.specs.Names as N
+use Rattle.names.specs.declared.Named.{Named}
+use Rattle.names.specs.declared.NameAnswer.{NameAnswer}
+use Rattle.names.specs.declared.NameAnswer.the-variants as NameAnswer
 use Rattle.sets.specs.Judge as J
 use Rattle.sets.specs.declared.Acceptance.{Acceptance}
 use Rattle.sets.specs.declared.SetAnswer.{SetAnswer}
 use Rattle.sets.specs.declared.SetAnswer.the-variants as SetAnswer
-use Rattle.mctc.specs.Answers.{answerSize, answered, refusalNumbers, readNumbers, writeNumbers, markNumber, setNumbers, Filled}
+use Rattle.mctc.specs.Answers.{answerSize, answered, refusalNumbers, readNumbers, writeNumbers, nameNumbers, markNumber, setNumbers, Filled}
 
 -- eight numbers put one after another
 pub eight : (p q : List ℕ) (n f l d e g h i : ℕ) → q ≡ cleared answerSize p →
@@ -44,6 +48,12 @@ module _ (a b : List ℕ) (r : ℕ) where
 
   pub write-accepted : (y : WriteAnswer) (x : WriteAcceptance) → y ≡ WriteAnswer.Written x → Put 0 0 0 (x .length) 0 0 0 0 → Filled (writeNumbers (W.answerIs y)) a b r
   write-accepted y x e h = rw e (record { number = h .0; answer = h .1 })
+
+  pub name-refused : (y : NameAnswer) (x : Refusal) → y ≡ NameAnswer.Refused x → Filled (refusalNumbers x) a b r → Filled (nameNumbers (N.answerIs y)) a b r
+  name-refused y x e h = rw e h
+
+  pub name-accepted : (y : NameAnswer) (x : Named) → y ≡ NameAnswer.Named x → Put 0 0 0 (x .length) (x .section) 0 0 0 → Filled (nameNumbers (N.answerIs y)) a b r
+  name-accepted y x e h = rw e (record { number = h .0; answer = h .1 })
 
   pub set-refused : (y : SetAnswer) (x : Refusal) → y ≡ SetAnswer.Refused x → Filled (refusalNumbers x) a b r → Filled (setNumbers (J.answerIs y)) a b r
   set-refused y x e h = rw e h

@@ -2,6 +2,7 @@
 use Prim.Native.Nat.{ℕ, _≤_, _<_}
 use native.Mathlib.Omega.{arith}
 use mathlib.Core.Path.{subst}
+use mathlib.Core.Option.{Option}
 use mathlib.Core.List.{List}
 use lib.ListN.{length}
 use borrow.Author.Tests.{le-leb, lt-leb}
@@ -9,12 +10,14 @@ use Rattle.files.specs.Alone as F
 use Rattle.files.specs.declared.FileAnswer.{FileAnswer}
 use Rattle.writing.specs.Writing as W
 use Rattle.writing.specs.declared.WriteAnswer.{WriteAnswer}
+use Rattle.names.specs.Names as N
+use Rattle.names.specs.declared.NameAnswer.{NameAnswer}
 use Rattle.sets.specs.Judge as J
 use Rattle.sets.specs.Records.{Slices}
 use Rattle.sets.specs.declared.SetAnswer.{SetAnswer}
 use Rattle.judge.specs.Judged.{SetJudged, Demanded}
-use Rattle.mctc.specs.Answers.{answerSize, readNumbers, writeNumbers, setNumbers, Filled}
-use Rattle.mctc.specs.Calls.{tooShort, ReadCall, WriteCall, JudgeCall}
+use Rattle.mctc.specs.Answers.{answerSize, readNumbers, writeNumbers, nameNumbers, setNumbers, Filled}
+use Rattle.mctc.specs.Calls.{tooShort, ReadCall, WriteCall, NameCall, JudgeCall}
 
 -- an answer array that is too short: nothing is done
 module _ (a : List ℕ) (l : length a < answerSize) where
@@ -23,6 +26,9 @@ module _ (a : List ℕ) (l : length a < answerSize) where
 
   pub write-short : (s p : List ℕ) (file n : ℕ) (o : List ℕ) → WriteCall s p file n o o a a tooShort
   write-short s p file n o = let b = lt-leb answerSize (length a) l in record { number = rw b; answer = rw b; output = rw b }
+
+  pub name-short : (file : ℕ) (x : Option N.Name) (o : List ℕ) → NameCall file x o o a a tooShort
+  name-short file x o = let b = lt-leb answerSize (length a) l in record { number = rw b; answer = rw b; output = rw b }
 
   pub judge-short : (stem : List ℕ) (s : Slices) (p : List ℕ) → JudgeCall stem s p p a a tooShort
   judge-short stem s p =
@@ -41,6 +47,12 @@ module _ (a b : List ℕ) (r : ℕ) (l : answerSize ≤ length a) where
   write-done s p file n o t x h f =
       let e = le-leb answerSize (length a) l in
       let g = subst (λ (y : W.Answer). Filled (writeNumbers y) a b r) (h .answer) f in
+      record { number = rw e (g .number); answer = rw e (g .answer); output = rw e (h .output) }
+
+  pub name-done : (file : ℕ) (x : Option N.Name) (o t : List ℕ) (y : NameAnswer) → N.Copies file x o t y → Filled (nameNumbers (N.answerIs y)) a b r → NameCall file x o t a b r
+  name-done file x o t y h f =
+      let e = le-leb answerSize (length a) l in
+      let g = subst (λ (z : N.Answer). Filled (nameNumbers z) a b r) (h .answer) f in
       record { number = rw e (g .number); answer = rw e (g .answer); output = rw e (h .output) }
 
   pub judge-done : (stem : List ℕ) (s : Slices) (p q : List ℕ) (x : SetAnswer) → SetJudged stem s p q x → Filled (setNumbers (J.answerIs x)) a b r → JudgeCall stem s p q a b r

@@ -8,6 +8,7 @@ use Rattle.refusals.specs.Refusals.{numberOf}
 use Rattle.refusals.specs.declared.Refusal.{Refusal}
 use Rattle.files.specs.Alone as F
 use Rattle.writing.specs.Writing as W
+use Rattle.names.specs.Names as N
 use Rattle.sets.specs.Judge as J
 
 -- how many numbers of the array are set
@@ -31,6 +32,11 @@ readNumbers (F.acceptance n) = 0 ∷ 0 ∷ 0 ∷ n ∷ []
 abbrev pub writeNumbers : W.Answer → List ℕ
 writeNumbers (W.refusal k f l) = k ∷ f ∷ l ∷ []
 writeNumbers (W.written m) = 0 ∷ 0 ∷ 0 ∷ m ∷ []
+
+-- a copied name: its length, and the number of its section
+abbrev pub nameNumbers : N.Answer → List ℕ
+nameNumbers (N.refusal k f l) = k ∷ f ∷ l ∷ []
+nameNumbers (N.named m c) = 0 ∷ 0 ∷ 0 ∷ m ∷ c ∷ []
 
 -- a mark that is set is 1
 abbrev pub markNumber : Bool → ℕ

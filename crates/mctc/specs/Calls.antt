@@ -2,16 +2,18 @@
 use Prim.Native.Nat.{ℕ, _≤_}
 use mathlib.Core.Path.{_≡_}
 use mathlib.Core.Bool.{cond}
+use mathlib.Core.Option.{Option}
 use mathlib.Core.List.{List}
 use lib.Dec.{leb}
 use lib.ListN.{length, getD}
 use Rattle.files.specs.Alone.{aloneAnswer, alonePlaces}
 use Rattle.writing.specs.Writing as W
 use Rattle.writing.specs.Writing.{Quote, fitting, quoteFile, outputOf, bytesOf}
+use Rattle.names.specs.Names as N
 use Rattle.sets.specs.Records.{Slices}
 use Rattle.sets.specs.Judge.{judge}
 use Rattle.judge.specs.Judged.{Demanded}
-use Rattle.mctc.specs.Answers.{answerSize, answered, readNumbers, writeNumbers, setNumbers}
+use Rattle.mctc.specs.Answers.{answerSize, answered, readNumbers, writeNumbers, nameNumbers, setNumbers}
 
 -- what a call answers where the answer array is too short: the largest number, which no refusal has
 abbrev pub tooShort : ℕ
@@ -44,6 +46,12 @@ pub record WriteCall (s p : List ℕ) (file n : ℕ) (o t a b : List ℕ) (r : �
   pub number : r ≡ returned (writeNumbers (W.answerOf file (quoteFor file n s p o))) a
   pub answer : b ≡ answerAfter (writeNumbers (W.answerOf file (quoteFor file n s p o))) a
   pub output : t ≡ whereFits a (outputOf (quoteFor file n s p o) (bytesOf file n s p) o) o
+
+-- the name x copied, `entryName` or `headingName` (`names` Names) of the file and a number: output o before and t after
+pub record NameCall (file : ℕ) (x : Option N.Name) (o t a b : List ℕ) (r : ℕ) : Type 0 where
+  pub number : r ≡ returned (nameNumbers (N.answerOf file x o)) a
+  pub answer : b ≡ answerAfter (nameNumbers (N.answerOf file x o)) a
+  pub output : t ≡ whereFits a (N.outputOf x o) o
 
 -- a set of these slices judged (01, Judging: "The answer and places equal one definition over the inputs"), with demand 3 of them
 pub record JudgeCall (stem : List ℕ) (s : Slices) (p q a b : List ℕ) (r : ℕ) : Type 0 where

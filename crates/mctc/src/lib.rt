@@ -1,16 +1,19 @@
-// The interface for C (include/mctc.h): a whole set judged, one file read alone, one file written. Each call fills an
-// array of numbers that the caller lends with its answer, and returns the first of them.
+// The interface for C (include/mctc.h): a whole set judged, one file read alone, one file written, names of entries
+// and headings copied. Each call fills an array of numbers that the caller lends with its answer, and returns the first
+// of them.
 ghost use mathlib.Core.Path.{_≡_};
 ghost use mathlib.Core.List.{[], _∷_};
 ghost use Prim.Native.Nat.{_≤_};
 ghost use lib.ListN.{length};
 ghost use Rattle.files.specs.Alone as F;
 ghost use Rattle.writing.specs.Writing as W;
+ghost use Rattle.names.specs.Names as N;
 ghost use Rattle.sets.specs.Judge as J;
 ghost use Rattle.judge.specs.Judged.{slicesOf};
-ghost use Rattle.mctc.specs.Answers.{answerSize, answered, refusalNumbers, readNumbers, writeNumbers, markNumber, setNumbers, Filled};
-ghost use Rattle.mctc.specs.Calls.{ReadCall, WriteCall, JudgeCall};
+ghost use Rattle.mctc.specs.Answers.{answerSize, answered, refusalNumbers, readNumbers, writeNumbers, nameNumbers, markNumber, setNumbers, Filled};
+ghost use Rattle.mctc.specs.Calls.{ReadCall, WriteCall, NameCall, JudgeCall};
 use files::FileAnswer;
+use names::NameAnswer;
 use refusals::Refusal;
 use sets::SetAnswer;
 use writing::WriteAnswer;
@@ -183,4 +186,53 @@ pub extern "C" fn mctc_write(
     }
     let written = writing::write_file(text, places, file, axles, output);
     fill_written(answer, written)
+}
+
+// What copying a name says.
+fn fill_name(answer: &mut [u32], copied: NameAnswer) -> u32
+    requires { ⌜ answerSize ≤ length (now answer) ⌝ }
+    ensures { λ r. ⌜ Filled (nameNumbers (N.answerIs copied)) (now (answer .entry)) (now (answer .exit)) r ⌝ }
+{
+    match copied {
+        NameAnswer::Refused(x) => fill_refusal(answer, x),
+        NameAnswer::Named(a) => {
+            let length = a.length;
+            let section = a.section;
+            fill(answer, 0, 0, 0, length, section, 0, 0, 0)
+        }
+    }
+}
+
+// The name of an entry, by its number in the order of the file's pairs (01, Judging).
+#[no_mangle]
+pub extern "C" fn mctc_entry_name(
+    file: u32,
+    entry: u32,
+    output: &mut [u8],
+    answer: &mut [u32],
+) -> u32
+    ensures { λ r. ⌜ NameCall file (N.entryName file entry) (now (output .entry)) (now (output .exit)) (now (answer .entry)) (now (answer .exit)) r ⌝ }
+{
+    if answer.len() < ANSWER_SIZE {
+        return TOO_SHORT;
+    }
+    let copied = names::copy_entry_name(file, entry, output);
+    fill_name(answer, copied)
+}
+
+// The heading of a section, brackets included, by its number in the order of the file's table (01, Bookings, Results).
+#[no_mangle]
+pub extern "C" fn mctc_heading_name(
+    file: u32,
+    section: u32,
+    output: &mut [u8],
+    answer: &mut [u32],
+) -> u32
+    ensures { λ r. ⌜ NameCall file (N.headingName file section) (now (output .entry)) (now (output .exit)) (now (answer .entry)) (now (answer .exit)) r ⌝ }
+{
+    if answer.len() < ANSWER_SIZE {
+        return TOO_SHORT;
+    }
+    let copied = names::copy_heading(file, section, output);
+    fill_name(answer, copied)
 }

@@ -1,0 +1,4 @@
+pub mod Sections
+pub mod Lengths
+pub mod Copied
+pub mod Samples
