@@ -35,6 +35,10 @@ module _ (s : List ℕ) (ns : List (List ℕ)) where
   pub find-end : (i : ℕ) → length ns ≤ i → i + indexOf s (drop i ns) ≡ i
   find-end i h = index-end ns i s h
 
+-- a part of which f says something else than of a name is not that name
+pub differs : (f : List ℕ → ℕ) (s t : List ℕ) → (f t ≡ f s → ⊥) → sameBytes s t ≡ false
+differs f s t n = by-test (sameBytes s t) (λ e. absurd (n (ap f (sym (same-is s t e))))) (λ e. e)
+
 -- what stands in a list is found before its end
 found-in : (ns : List (List ℕ)) (i : ℕ) → i < length ns → indexOf (getD ns i []) ns < length ns
 unfolding wordIndex

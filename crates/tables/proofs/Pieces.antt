@@ -1,7 +1,7 @@
 -- The pieces of the two long lists of entries: which piece has the name at a place. Assumes nothing.
 use Prim.Native.Nat.{ℕ, _≤_, _<_, _-_}
 use native.Mathlib.Omega.{arith}
-use mathlib.Core.Path.{_≡_, refl, _∙_}
+use mathlib.Core.Path.{_≡_, refl, ap, sym, _∙_}
 use mathlib.Core.List.{List, _++_}
 use lib.ListN.{length}
 use Rattle.kinds.specs.Kind.{links, gasLinks}
@@ -61,3 +61,15 @@ module _ {k : ℕ} where
   unfolding analysis analyser counter speedTest protocol allKeyDates allKeyBodies
   analysis-measurement h =
       name-right (analyser ++ (counter ++ (speedTest ++ (protocol gasLinks ++ (allKeyDates ++ allKeyBodies))))) measurement 41 refl h
+
+-- what the analysis has as the sixteen have it
+module _ {k : ℕ} where
+  pub analysis-protocol-sixteen : 21 ≤ k → k < 26 → nameIn analysis k ≡ nameIn sixteen (k - 15)
+  analysis-protocol-sixteen h l =
+      let e : k - 15 - 6 ≡ k - 21 = omega arith in
+      analysis-protocol h l ∙ sym (sixteen-protocol {k = k - 15} (omega arith) (omega arith) ∙ ap (nameIn (protocol links)) e)
+
+  pub analysis-measurement-sixteen : 41 ≤ k → nameIn analysis k ≡ nameIn sixteen (k - 30)
+  analysis-measurement-sixteen h =
+      let e : k - 30 - 11 ≡ k - 41 = omega arith in
+      analysis-measurement h ∙ sym (sixteen-measurement {k = k - 30} (omega arith) ∙ ap (nameIn measurement) e)

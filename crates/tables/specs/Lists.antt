@@ -1,6 +1,6 @@
 -- The lists of entries by number, as the code knows them: sections with the same entries share a list.
-use Prim.Native.Nat.{ℕ}
-use mathlib.Core.List.{List, [], _∷_, _++_}
+use Prim.Native.Nat.{ℕ, _+_, _*_, _%_}
+use mathlib.Core.List.{List, [], _∷_, _++_, map}
 use lib.ListN.{length, getD, take}
 use Rattle.tables.specs.Section.{Entry}
 use Rattle.tables.specs.Entries.{newBooking, oldBooking, sixteen, driftAxle, suspensionAxle, analysis, fuelAnalysis}
@@ -20,3 +20,11 @@ joined (l ∷ ls) = l ++ joined ls
 -- where a list begins among all lists one after another
 unfoldable pub listStart : ℕ → ℕ
 listStart l = length (joined (take l entryLists))
+
+-- the tag of a name: one byte from its length and its first byte, which tells nearly all names of a list apart
+unfoldable pub tagOf : List ℕ → ℕ
+tagOf s = (length s % 32 * 8 + getD s 0 0) % 256
+
+-- the tags of the names of a list
+unfoldable pub tagsIn : List Entry → List ℕ
+tagsIn es = map (λ e. tagOf (e .name)) es

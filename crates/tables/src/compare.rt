@@ -210,25 +210,25 @@ fn is_sixteen_name(entry: usize, part: &[u8]) -> bool
 fn is_analysis_name(entry: usize, part: &[u8]) -> bool
     ensures { λ r. ⌜ r ≡ sameBytes (now (part .entry)) (nameIn analysis entry) ⌝ }
 {
-    if entry < 6 {
-        return is_analyser_name(entry, part);
-    }
-    if entry < 14 {
-        return is_counter_name(entry - 6, part);
-    }
     if entry < 21 {
+        if entry < 6 {
+            return is_analyser_name(entry, part);
+        }
+        if entry < 14 {
+            return is_counter_name(entry - 6, part);
+        }
         return is_speed_test_name(entry - 14, part);
     }
-    if entry < 26 {
-        return is_protocol_name(entry - 21, part);
-    }
     if entry < 32 {
+        if entry < 26 {
+            return is_sixteen_name(entry - 15, part);
+        }
         return is_key_date_name(entry - 26, part);
     }
     if entry < 41 {
         return is_key_body_name(entry - 32, part);
     }
-    is_measurement_name(entry - 41, part)
+    is_sixteen_name(entry - 30, part)
 }
 
 // Whether an entry of a list has that name; the lists by number as in `lib.rt`.

@@ -1,5 +1,5 @@
-// The tables of the files (01, Bookings and Results): headings, entry names, kinds and first pairs, by the numbers
-// of a file (from 1), a section and an entry (from 0). No number is forbidden: what there is not, has nothing in it.
+// The tables of the files (01, Bookings and Results): headings, entry names and first pairs, by the numbers of a file
+// (from 1), a section and an entry (from 0). No number is forbidden: what there is not, has nothing in it.
 mod compare; // compare.rt: entry names and headings compared
 mod write; // write.rt: lines of headings and entries written
 
@@ -9,108 +9,12 @@ ghost use lib.ListN.{length, getD};
 ghost use Rattle.lines.specs.Bytes.{sameBytes};
 ghost use Rattle.lines.specs.Line.{heading as headingLine, entry as entryLine, writtenLine, writtenLength};
 ghost use Rattle.lines.specs.Writing.{Wrote};
-ghost use Rattle.kinds.specs.Kind.{kindOf};
 ghost use Rattle.tables.specs.File.{tableOf, ofNumber, isFile, leastSections, fixedSections, firstPair, room};
-ghost use Rattle.tables.specs.Row.{entriesIn, entryAt, nameAt, headingAt, sectionOf, entryIn, rowsBefore, rowCount, rowAt};
-ghost use Rattle.tables.specs.Lists.{entryList, listStart};
+ghost use Rattle.tables.specs.Row.{entriesIn, names, nameAt, indexOf, headingAt, sectionOf, entryIn, rowsBefore, rowCount, rowAt};
+ghost use Rattle.tables.specs.Lists.{entryList, listStart, tagOf, tagsIn};
 
-// The entries' kind numbers, list after list in the order of `entry_list`.
-const KINDS: [u8; 91] = [
-    0,
-    20,
-    21,
-    0,
-    17,
-    1,
-    22,
-    22,
-    23,
-    1,
-    24,
-    19,
-    1,
-    1,
-    18,
-    1,
-    1,
-    7,
-    1,
-    1,
-    1,
-    1,
-    13,
-    1,
-    3,
-    9,
-    13,
-    25,
-    1,
-    1,
-    13,
-    14,
-    14,
-    1,
-    15,
-    8,
-    8,
-    8,
-    1,
-    1,
-    1,
-    1,
-    1,
-    13,
-    1,
-    1,
-    1,
-    1,
-    1,
-    13,
-    27,
-    9,
-    1,
-    1,
-    1,
-    1,
-    1,
-    9,
-    13,
-    3,
-    9,
-    13,
-    26,
-    1,
-    5,
-    13,
-    5,
-    13,
-    5,
-    13,
-    2,
-    6,
-    4,
-    2,
-    6,
-    4,
-    2,
-    6,
-    4,
-    1,
-    13,
-    14,
-    14,
-    1,
-    11,
-    11,
-    12,
-    10,
-    12,
-    16,
-    11,
-];
-
-// The lengths of their names.
-const NAME_LENGTHS: [usize; 91] = [
+// The lengths of the entries' names, list after list in the order of `entry_list`.
+const NAME_LENGTHS: [u8; 91] = [
     13,
     11,
     23,
@@ -204,8 +108,107 @@ const NAME_LENGTHS: [usize; 91] = [
     8,
 ];
 
-// The number of no kind.
-const NO_KIND: u8 = 28;
+// The tags of these names, by which the look-up passes over nearly all rows but the one that it looks for.
+const NAME_TAGS: [u8; 91] = [
+    188,
+    172,
+    251,
+    139,
+    164,
+    185,
+    124,
+    219,
+    68,
+    52,
+    41,
+    168,
+    172,
+    212,
+    161,
+    185,
+    214,
+    238,
+    117,
+    116,
+    158,
+    142,
+    164,
+    230,
+    110,
+    246,
+    244,
+    212,
+    211,
+    139,
+    148,
+    169,
+    150,
+    151,
+    116,
+    153,
+    153,
+    156,
+    213,
+    212,
+    254,
+    238,
+    38,
+    4,
+    189,
+    188,
+    230,
+    214,
+    46,
+    236,
+    28,
+    62,
+    221,
+    220,
+    6,
+    246,
+    78,
+    94,
+    12,
+    110,
+    246,
+    244,
+    212,
+    211,
+    153,
+    188,
+    225,
+    4,
+    1,
+    36,
+    147,
+    189,
+    205,
+    219,
+    5,
+    21,
+    251,
+    37,
+    53,
+    139,
+    148,
+    169,
+    150,
+    151,
+    107,
+    171,
+    115,
+    112,
+    119,
+    206,
+    131,
+];
+
+// A byte as a size.
+fn wide(byte: u8) -> usize
+    ensures { λ r. ⌜ r ≡ byte ⌝ }
+{
+    byte as usize
+}
 
 // The number that a table has for a file, by the file's number; 0 where it has none.
 fn of_file(table: &[u8], file: u32) -> usize
@@ -309,7 +312,7 @@ fn list_size(list: usize) -> usize
     }
 }
 
-// Where a list begins in `KINDS` and `NAME_LENGTHS`.
+// Where a list begins in `NAME_LENGTHS` and `NAME_TAGS`.
 fn list_start(list: usize) -> usize
     ensures { λ r. ⌜ r ≡ listStart list ⌝ }
 {
@@ -332,25 +335,13 @@ pub fn entry_count(file: u32, section: usize) -> usize
     list_size(entry_list(file, section))
 }
 
-// The kind number of an entry.
-pub fn kind_at(file: u32, section: usize, entry: usize) -> u8
-    ensures { λ r. ⌜ kindOf r ≡ entryAt (tableOf file) section entry .kind ⌝ }
-{
-    let list = entry_list(file, section);
-    if entry < list_size(list) {
-        KINDS[list_start(list) + entry]
-    } else {
-        NO_KIND
-    }
-}
-
 // How many bytes an entry's name has.
 pub fn name_length(file: u32, section: usize, entry: usize) -> usize
     ensures { λ r. ⌜ r ≡ length (nameAt (tableOf file) section entry) ⌝ }
 {
     let list = entry_list(file, section);
     if entry < list_size(list) {
-        NAME_LENGTHS[list_start(list) + entry]
+        wide(NAME_LENGTHS[list_start(list) + entry])
     } else {
         0
     }
@@ -467,20 +458,43 @@ pub fn is_name(file: u32, section: usize, entry: usize, part: &[u8]) -> bool
     compare::is_listed(entry_list(file, section), entry, part)
 }
 
-// The entry of a name, all names compared in table order; the number of entries where it is none of the section's.
-pub fn find_entry(file: u32, section: usize, part: &[u8]) -> usize
-    ensures { λ r. ⌜ r ≡ entryIn (tableOf file) section (now (part .entry)) ⌝ }
+// The tag of a part; 0 where it is empty.
+fn tag_of(part: &[u8]) -> u8
+    ensures { λ r. ⌜ r ≡ tagOf (now (part .entry)) ⌝ }
 {
-    let list = entry_list(file, section);
-    let count = list_size(list);
+    if part.len() == 0 {
+        return 0;
+    }
+    ((part.len() % 32 * 8 + part[0] as usize) % 256) as u8
+}
+
+// The entry of a name in a list whose names have these tags, looked at in table order; the number of entries where it
+// is none of the list's. A name is compared only where its tag is the part's.
+fn find_listed(tags: &[u8], list: usize, part: &[u8]) -> usize
+    requires { ⌜ now tags ≡ tagsIn (entryList list) ⌝ }
+    ensures { λ r. ⌜ r ≡ indexOf (now (part .entry)) (names (entryList list)) ⌝ }
+{
+    let tag = tag_of(part);
     let mut entry = 0;
-    while entry < count {
-        if compare::is_listed(list, entry, part) {
-            return entry;
+    while entry < tags.len() {
+        if tags[entry] == tag {
+            if compare::is_listed(list, entry, part) {
+                return entry;
+            }
         }
         entry += 1;
     }
     entry
+}
+
+// The entry of a name; the number of entries where it is none of the section's.
+pub fn find_entry(file: u32, section: usize, part: &[u8]) -> usize
+    ensures { λ r. ⌜ r ≡ entryIn (tableOf file) section (now (part .entry)) ⌝ }
+{
+    let list = entry_list(file, section);
+    let start = list_start(list);
+    let end = start + list_size(list);
+    find_listed(&NAME_TAGS[start..end], list, part)
 }
 
 // The line of a section's heading into `out` from `at` on; the place after it.
