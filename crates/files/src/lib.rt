@@ -3,6 +3,7 @@ ghost use mathlib.Core.Path.{_≡_};
 ghost use mathlib.Core.Option.{none};
 ghost use Prim.Native.Nat.{_+_, _*_, _≤_};
 ghost use lib.ListN.{length, getD, take};
+ghost use Rattle.lines.specs.Bytes.{allPrintable};
 ghost use Rattle.places.specs.Places.{valueAt, placeSize, setPairs};
 ghost use mathlib.Core.Bool.{true};
 ghost use Rattle.tables.specs.File.{tableOf, isFile, ofNumber, leastSections, leastPlaces};
@@ -203,7 +204,7 @@ fn check_absent(file: u32, numbers: &[u32], rows: usize) -> Outcome
 
 // Whether the value of a row is empty or of its kind.
 fn row_kept(file: u32, text: &[u8], row: usize, start: u32, size: u32) -> bool
-    requires { ⌜ start + size ≤ length (now text) ⌝ }
+    requires { ⌜ (start + size ≤ length (now text)) × (allPrintable (valueAt (now text) (start, size)) ≡ true) ⌝ }
     ensures { λ r. ⌜ r ≡ keptRow (getD (rowKinds (tableOf file)) row none) (valueAt (now (text .entry)) (start, size)) ⌝ }
 {
     if size == 0 {
@@ -215,7 +216,7 @@ fn row_kept(file: u32, text: &[u8], row: usize, start: u32, size: u32) -> bool
     }
     let a = start as usize;
     let e = a + (size as usize);
-    kinds::kind_ok(kind, &text[a..e])
+    kinds::printable_kind_ok(kind, &text[a..e])
 }
 
 // 9: the first row whose value is of the wrong kind.

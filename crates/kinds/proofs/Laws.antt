@@ -6,13 +6,14 @@ use Prim.Native.Nat.{ℕ, zero, suc, _+_, _-_, _*_, _<_, _≤_, _^_, zero-le}
 use native.Mathlib.Omega.{arith}
 use native.Mathlib.Nat.{pow-suc, pow-le-pow-right, le-of-suc-le-suc, le-refl, add-zero}
 use native.Mathlib.Numerals.{add-one}
-use borrow.Author.Tests.{leb-true, eqb-true}
+use borrow.Author.Tests.{leb-true, eqb-true, le-leb}
 use lib.Dec.{leb, eqb, lit<}
 use lib.ListN.{length, getD, take, drop, length-take, length-drop, drop-of-length-le, List·getD-eq-default}
 use lib.Seq.{drop-cons, take-all}
+use Rattle.lines.specs.Bytes.{allPrintable}
 use Rattle.lines.proofs.Bools.{and-left, and-right}
 use Rattle.kinds.specs.Digits.{isDigit, allDigits, number, numberFrom}
-use Rattle.kinds.specs.Value.{isSorN, allSorN, isFixed, areDigits, pointPlace, isWordAt, wordIndex, wordsOf, numberedLists, startsWith, isNumber, kindOk}
+use Rattle.kinds.specs.Value.{isSorN, allSorN, isFixed, areDigits, pointPlace, isWordAt, wordIndex, wordsOf, numberedLists, startsWith, isString, isExact, isNumber, kindOk}
 use Rattle.kinds.specs.Kind.{NoKind, kindOf, numbered}
 
 pub all-step : (s : List ℕ) (i : ℕ) → i < length s → allDigits (drop i s) ≡ (isDigit (getD s i 0) && allDigits (drop (i + 1) s))
@@ -176,6 +177,19 @@ module _ (w : ℕ) (v : List ℕ) (e : isNumber w v ≡ true) where
 -- an arm of a `match` on the number of a kind
 pub kind-at : (n : ℕ) (v : List ℕ) {kind : ℕ} {r : Bool} → kind ≡ n → r ≡ kindOk (kindOf n) v → r ≡ kindOk (kindOf kind) v
 kind-at n v e h = h ∙ ap (λ (k : ℕ). kindOk (kindOf k) v) (sym e)
+
+and-true : (b : Bool) → (b && true) ≡ b
+and-true true = refl
+and-true false = refl
+
+-- of a filled value of printable bytes S and C ask for the length alone
+pub string-length : (w : ℕ) (v : List ℕ) → 1 ≤ length v → allPrintable v ≡ true → leb (length v) w ≡ isString w v
+unfolding isString
+string-length w v h p = simp (le-leb 1 (length v) h, p) (sym (and-true (leb (length v) w)))
+
+pub exact-length : (w : ℕ) (v : List ℕ) → 1 ≤ length v → allPrintable v ≡ true → eqb (length v) w ≡ isExact w v
+unfolding isExact
+exact-length w v h p = simp (le-leb 1 (length v) h, p) (sym (and-true (eqb (length v) w)))
 
 -- a number that no kind has lets no value in
 pub no-kind : (n : ℕ) (v : List ℕ) → 28 ≤ n → kindOk (kindOf n) v ≡ false

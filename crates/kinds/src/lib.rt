@@ -3,6 +3,7 @@ ghost use mathlib.Core.Path.{_≡_};
 ghost use mathlib.Core.Bool.{true};
 ghost use Prim.Native.Nat.{_+_, _≤_, _<_, _^_};
 ghost use lib.ListN.{length, take, drop};
+ghost use Rattle.lines.specs.Bytes.{allPrintable};
 ghost use Rattle.kinds.specs.Kind.{kindOf, words, vehicleTypes, categories, yesNo, petrolDirectives, brakeControls, links, gasLinks, counterLinks};
 ghost use Rattle.kinds.specs.Digits.{isDigit, allDigits, number as Digits·number};
 ghost use Rattle.kinds.specs.Value.{isString, isExact, isNumber, isFixed, isLeap, daysIn, isYear, isGregorian, areDigits, isDay, isTime, wordIndex, isWordAt, isWord, wordsOf, startsWith, isDrift, isRevs, isFirstDate, isFirstDay, isSorN, allSorN, isPositions, kindOk, kindKept};
@@ -510,6 +511,33 @@ pub fn kind_ok(kind: u8, value: &[u8]) -> bool
         27 => is_word(7, value),
         _ => false,
     }
+}
+
+// S and C of a filled value of printable bytes: only the length is left to test.
+fn length_ok(kind: u8, value: &[u8]) -> bool
+    requires { ⌜ (kind ≤ 6) × (1 ≤ length (now value)) × (allPrintable (now value) ≡ true) ⌝ }
+    ensures { λ r. ⌜ r ≡ kindOk (kindOf kind) (now (value .entry)) ⌝ }
+{
+    match kind {
+        0 => value.len() <= 10,
+        1 => value.len() <= 64,
+        2 => value.len() <= 92,
+        3 => value.len() <= 320,
+        4 => value.len() == 4,
+        5 => value.len() == 5,
+        _ => value.len() == 172,
+    }
+}
+
+// As `kind_ok`, of a filled value of printable bytes, which one that was read from a line is.
+pub fn printable_kind_ok(kind: u8, value: &[u8]) -> bool
+    requires { ⌜ (1 ≤ length (now value)) × (allPrintable (now value) ≡ true) ⌝ }
+    ensures { λ r. ⌜ r ≡ kindOk (kindOf kind) (now (value .entry)) ⌝ }
+{
+    if 6 < kind {
+        return kind_ok(kind, value);
+    }
+    length_ok(kind, value)
 }
 
 // Whether a value is empty, or filled and of its kind.

@@ -1,10 +1,10 @@
 -- Laws of the tests on bytes, for every crate. Assumes nothing.
 use Prim.Native.Nat.{ℕ, suc, _+_, _≤_}
 use native.Mathlib.Omega.{arith}
-use mathlib.Core.Path.{_≡_, refl, ap, ap₂}
+use mathlib.Core.Path.{_≡_, refl, ap, ap₂, _∙_}
 use mathlib.Core.List.{List, [], _∷_, _++_}
-use mathlib.Core.Bool.{Bool, true, false, cond, false≢true}
-use lib.Dec.{eqb}
+use mathlib.Core.Bool.{Bool, true, false, cond, _&&_, false≢true}
+use lib.Dec.{eqb, eqb·suc-suc, eqb·zero-suc}
 use lib.ListN.{length}
 use borrow.Author.Tests.{eqb-true, eq-eqb}
 use Rattle.lines.specs.Bytes.{isPrintable, allPrintable, sameBytes, printableRun, before, nameRun}
@@ -37,6 +37,11 @@ printable-append [] t p q = q
 printable-append (b ∷ s) t p q =
     rw (and-left (isPrintable b) (allPrintable s) p, printable-append s t (and-right (isPrintable b) (allPrintable s) p) q)
 
+pub printable-after : (s t : List ℕ) → allPrintable (s ++ t) ≡ true → allPrintable t ≡ true
+unfolding allPrintable
+printable-after [] t p = p
+printable-after (b ∷ s) t p = printable-after s t (and-right (isPrintable b) (allPrintable (s ++ t)) p)
+
 cond-le : (t : Bool) {x y m : ℕ} → x ≤ m → y ≤ m → cond t x y ≤ m
 cond-le true h k = h
 cond-le false h k = k
@@ -55,3 +60,13 @@ pub name-le : (s : List ℕ) → nameRun s ≤ length s
 unfolding nameRun
 name-le [] = omega arith
 name-le (b ∷ s) = cond-le (eqb b 61) (omega arith) (cond-le (isPrintable b) (omega (arith, name-le s)) (omega arith))
+
+all-first : (t : Bool) (r n : ℕ) (a : Bool) → eqb r n ≡ a → eqb (cond t (suc r) 0) (suc n) ≡ (t && a)
+all-first true r n a e = eqb·suc-suc r n ∙ e
+all-first false r n a e = eqb·zero-suc n
+
+-- all bytes are printable where the run of printable bytes is the whole list
+pub run-all : (s : List ℕ) → eqb (printableRun s) (length s) ≡ allPrintable s
+unfolding printableRun allPrintable
+run-all [] = refl
+run-all (b ∷ s) = all-first (isPrintable b) (printableRun s) (length s) (allPrintable s) (run-all s)

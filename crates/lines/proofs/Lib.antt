@@ -1,6 +1,8 @@
 pub mod Bools
 pub mod Bytes
 pub mod Loops
+pub mod Lanes
+pub mod Words
 pub mod Reading
 pub mod Lines
 pub mod Layouts

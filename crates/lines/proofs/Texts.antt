@@ -3,19 +3,20 @@
 use Prim.Native.Nat.{ℕ, _+_, _-_, _≤_}
 use native.Mathlib.Omega.{arith}
 use mathlib.Core.Path.{_≡_, refl, ap, ap₂, sym, _∙_}
-use mathlib.Core.Bool.{true}
+use mathlib.Core.Bool.{true, _&&_}
 use mathlib.Core.Option.{Option, none, some}
 use mathlib.Core.List.{List, [], _∷_, _++_, append-assoc}
 use lib.ListN.{length, drop, length-drop, drop-of-length-le}
 use lib.Seq.{take-append-seam, drop-append-seam, drop-drop}
-use Rattle.lines.specs.Bytes.{part}
-use Rattle.lines.specs.Line.{Line, heading, entry, lineEnd, writtenLine, writtenLength, textOf, wellFormed, allWellFormed}
+use Rattle.lines.specs.Bytes.{part, allPrintable}
+use Rattle.lines.specs.Line.{Line, heading, entry, lineEnd, writtenLine, writtenLength, textOf, goodLength, formed, wellFormed, allWellFormed}
 use Rattle.lines.specs.Reading.{lineAt, linesBefore, start}
 use Rattle.lines.specs.Layout.{Layout, done, badAt, headingAt, entryAt, layoutAt, layout, linesIn, onto, layoutOf}
 use Rattle.lines.specs.declared.Cursor.{Cursor}
 use Rattle.lines.specs.declared.LineRead.{LineRead}
 use Rattle.lines.specs.declared.LineRead.the-variants.{End, Bad, Heading, Entry}
 use Rattle.lines.proofs.Bools.{clash, and-left, and-right}
+use Rattle.lines.proofs.Bytes.{printable-after}
 use Rattle.lines.proofs.Writing.{written-length}
 use Rattle.lines.proofs.Lines.{Stands, reads, room, end-is, end-reads, heading-read, entry-read}
 use Rattle.lines.proofs.Layouts.{layout-end, layout-bad, layout-heading, layout-entry}
@@ -49,6 +50,16 @@ value-part s a k v z =
     let t : List ℕ = lineEnd ++ z .rest in
     let d = drop-of s (a + length k) (a + length k + 1) (61 ∷ []) (v ++ t) (drop-of s a (a + length k) k (61 ∷ v ++ t) (entry-here s a k v z) refl) refl in
     part-of s (a + length k + 1) (a + (length k + 1 + length v)) v t d (omega arith)
+
+-- the value of an entry that is read is printable
+pub value-printable : (s : List ℕ) (c : Cursor) (a q e : ℕ) (next : Cursor) → lineAt s c ≡ Entry a q e next → allPrintable (part s (q + 1) e) ≡ true
+unfolding allPrintable wellFormed
+value-printable s c a q e next p =
+    let r = entry-read s c a q e next p in
+    let b = r .name ++ 61 ∷ r .value in
+    let g : r .value ≡ part s (q + 1) e = sym (value-part s (c .at) (r .name) (r .value) (r .stands)) ∙ sym (ap₂ (λ (i j : ℕ). part s (i + 1) j) (r .splits) (r .ends)) in
+    let f = and-left (goodLength (length b) && allPrintable b) (formed (entry (r .name) (r .value))) (r .stands .good) in
+    rw (← g) (printable-after (r .name) (61 ∷ r .value) (and-right (goodLength (length b)) (allPrintable b) f))
 
 -- ---- what a layout says of the line at a position
 

@@ -39,6 +39,10 @@ unfoldable pub before : ℕ → List ℕ → ℕ
 before x [] = 0
 before x (b ∷ s) = cond (eqb b x) 0 (suc (before x s))
 
+-- a byte that a name may hold: printable, and not `=`
+abbrev pub isName : ℕ → Bool
+isName b = cond (eqb b 61) false (isPrintable b)
+
 -- how many printable bytes other than `=` a list begins with
 unfoldable pub nameRun : List ℕ → ℕ
 nameRun [] = 0

@@ -1,4 +1,5 @@
 pub mod Bytes
+pub mod Words
 pub mod Text
 pub mod Line
 pub mod Reading

@@ -1,9 +1,11 @@
 // Lines of a text (01, Lines): read forward, compared and written. No name, heading or size of a file is known here.
 ghost use mathlib.Core.Path.{_≡_};
 ghost use mathlib.Core.List.{_++_};
-ghost use Prim.Native.Nat.{_+_, _≤_, min};
+ghost use Prim.Native.Nat.{_+_, _/_, _<_, _≤_, min};
 ghost use lib.ListN.{length, drop};
-ghost use Rattle.lines.specs.Bytes.{allPrintable, sameBytes, printableRun, nameRun};
+ghost use lib.Count.{trailingZeros};
+ghost use Rattle.lines.specs.Bytes.{isPrintable, isName, allPrintable, sameBytes, printableRun, nameRun};
+ghost use Rattle.lines.specs.Words.{wordAt, stopsAt};
 ghost use Rattle.lines.specs.Line.{heading, entry, writtenLine, writtenLength};
 ghost use Rattle.lines.specs.Reading.{start, isLine, lineAt};
 ghost use Rattle.lines.specs.Writing.{Wrote};
@@ -40,8 +42,63 @@ fn lesser(a: usize, b: usize) -> usize
     if a < b { a } else { b }
 }
 
-// Where the printable bytes from `at` on end.
-fn printable_end(text: &[u8], at: usize) -> usize
+fn wide(b: u8) -> u64
+    ensures { λ r. ⌜ (r ≡ b) × (r < 256) ⌝ }
+{
+    b as u64
+}
+
+// The eight bytes from `i` on as one number, the first lowest. The compiler makes one load of it.
+fn word(text: &[u8], i: usize) -> u64
+    requires { ⌜ i + 8 ≤ length (now text) ⌝ }
+    ensures { λ r. ⌜ r ≡ wordAt (now (text .entry)) 8 i ⌝ }
+{
+    wide(text[i])
+        + wide(text[i + 1]) * 0x100
+        + wide(text[i + 2]) * 0x10000
+        + wide(text[i + 3]) * 0x1000000
+        + wide(text[i + 4]) * 0x100000000
+        + wide(text[i + 5]) * 0x10000000000
+        + wide(text[i + 6]) * 0x1000000000000
+        + wide(text[i + 7]) * 0x100000000000000
+}
+
+// Of the eight bytes from `i` on those that are not printable, each as 128 in its own byte of the number.
+// The high bit of a sum tells: plus 1, that the low seven bits are 7F hex; plus 60 hex, that they are at least 20 hex.
+fn printable_stops(text: &[u8], i: usize) -> u64
+    requires { ⌜ i + 8 ≤ length (now text) ⌝ }
+    ensures { λ r. ⌜ r ≡ stopsAt isPrintable (now (text .entry)) 8 i ⌝ }
+{
+    let x = word(text, i);
+    let low = x & 0x7f7f7f7f7f7f7f7f;
+    let high = low + 0x0101010101010101;
+    let shown = low + 0x6060606060606060;
+    (x | high | (shown ^ 0x8080808080808080)) & 0x8080808080808080
+}
+
+// Of the eight bytes from `i` on those that are `=` or not printable, likewise.
+// Plus 7F hex, the high bit tells that the low seven bits differ from those of `=`.
+fn name_stops(text: &[u8], i: usize) -> u64
+    requires { ⌜ i + 8 ≤ length (now text) ⌝ }
+    ensures { λ r. ⌜ r ≡ stopsAt isName (now (text .entry)) 8 i ⌝ }
+{
+    let x = word(text, i);
+    let low = x & 0x7f7f7f7f7f7f7f7f;
+    let high = low + 0x0101010101010101;
+    let shown = low + 0x6060606060606060;
+    let other = (low ^ 0x3d3d3d3d3d3d3d3d) + 0x7f7f7f7f7f7f7f7f;
+    (x | high | ((shown & other) ^ 0x8080808080808080)) & 0x8080808080808080
+}
+
+// In which byte of a number its lowest 1 stands, 0 for the lowest byte.
+fn first_stop(stops: u64) -> usize
+    ensures { λ r. ⌜ r ≡ trailingZeros 64 stops / 8 ⌝ }
+{
+    (u64::trailing_zeros(stops) / 8) as usize
+}
+
+// Where the printable bytes from `at` on end, byte by byte.
+fn printable_rest(text: &[u8], at: usize) -> usize
     requires { ⌜ at ≤ length (now text) ⌝ }
     ensures { λ r. ⌜ r ≡ at + printableRun (drop at (now (text .entry))) ⌝ }
 {
@@ -59,8 +116,8 @@ fn printable_end(text: &[u8], at: usize) -> usize
     i
 }
 
-// Where the printable bytes other than `=` from `at` on end.
-fn name_end(text: &[u8], at: usize) -> usize
+// Where the printable bytes other than `=` from `at` on end, byte by byte.
+fn name_rest(text: &[u8], at: usize) -> usize
     requires { ⌜ at ≤ length (now text) ⌝ }
     ensures { λ r. ⌜ r ≡ at + nameRun (drop at (now (text .entry))) ⌝ }
 {
@@ -79,6 +136,38 @@ fn name_end(text: &[u8], at: usize) -> usize
         i += 1;
     }
     i
+}
+
+// Where the printable bytes from `at` on end.
+fn printable_end(text: &[u8], at: usize) -> usize
+    requires { ⌜ at ≤ length (now text) ⌝ }
+    ensures { λ r. ⌜ r ≡ at + printableRun (drop at (now (text .entry))) ⌝ }
+{
+    let mut i = at;
+    while 8 <= text.len() - i {
+        let stops = printable_stops(text, i);
+        if stops != 0 {
+            return i + first_stop(stops);
+        }
+        i += 8;
+    }
+    printable_rest(text, i)
+}
+
+// Where the printable bytes other than `=` from `at` on end.
+fn name_end(text: &[u8], at: usize) -> usize
+    requires { ⌜ at ≤ length (now text) ⌝ }
+    ensures { λ r. ⌜ r ≡ at + nameRun (drop at (now (text .entry))) ⌝ }
+{
+    let mut i = at;
+    while 8 <= text.len() - i {
+        let stops = name_stops(text, i);
+        if stops != 0 {
+            return i + first_stop(stops);
+        }
+        i += 8;
+    }
+    name_rest(text, i)
 }
 
 // Whether the bytes from `at` to `end` are as many as a line has, and CR LF follows.
@@ -162,13 +251,17 @@ impl Cursor {
 pub fn all_printable(part: &[u8]) -> bool
     ensures { λ r. ⌜ r ≡ allPrintable (now (part .entry)) ⌝ }
 {
-    let mut i = 0;
-    while i < part.len() {
-        let b = part[i];
-        if b < 32 {
-            return false;
-        }
-        if 126 < b {
+    printable_end(part, 0) == part.len()
+}
+
+// Whether two parts of one length hold the same bytes from `at` on, byte by byte.
+fn equal_rest(a: &[u8], b: &[u8], at: usize) -> bool
+    requires { ⌜ (at ≤ length (now a)) × (length (now a) ≡ length (now b)) ⌝ }
+    ensures { λ r. ⌜ r ≡ sameBytes (drop at (now (a .entry))) (drop at (now (b .entry))) ⌝ }
+{
+    let mut i = at;
+    while i < a.len() {
+        if a[i] != b[i] {
             return false;
         }
         i += 1;
@@ -184,13 +277,13 @@ pub fn equal(a: &[u8], b: &[u8]) -> bool
         return false;
     }
     let mut i = 0;
-    while i < a.len() {
-        if a[i] != b[i] {
+    while 8 <= a.len() - i {
+        if word(a, i) != word(b, i) {
             return false;
         }
-        i += 1;
+        i += 8;
     }
-    true
+    equal_rest(a, b, i)
 }
 
 // The comparison of entry names, apart from that of words and headings.

@@ -15,6 +15,7 @@ use Rattle.reading.specs.Tables.{mostBytes}
 use Rattle.reading.specs.Reading.{rowKinds, Slots, emptySlots, stopped, scanned, passes, fails, sectionsFound, checkGap, checkAbsent, isWrong, checkKinds, Reading, refused, readSlots, judgeSlots, readScan, readText}
 use Rattle.reading.specs.Scanning.{Ready, Scanned}
 use Rattle.reading.proofs.Lookup.{heading-kind, entry-kind}
+use Rattle.lines.specs.Bytes.{allPrintable}
 use Rattle.reading.proofs.Reduce.{empty-at}
 
 -- ---- the test of a row's value
@@ -71,6 +72,7 @@ module _ (t : List Section) (least : ℕ) (s : List ℕ) (a : Slots) (c n : ℕ)
 -- ---- the scan, and what follows from it
 
 pub empty-ready : (t : List Section) (s : List ℕ) → length s ≤ mostBytes → Ready t s (emptySlots (rowCount t))
+unfolding allPrintable
 empty-ready t s l =
     let n = rowCount t in
     record {
@@ -79,6 +81,7 @@ empty-ready t s l =
       lengths-are = length-replicate n 0;
       short = l;
       within = λ (r : ℕ). omega (arith, empty-at n r);
+      printable = λ (r : ℕ). rw (empty-at n r);
     }
 
 module _ (t : List Section) (least : ℕ) (s : List ℕ) (a : Slots) where

@@ -7,13 +7,15 @@ use native.Mathlib.Omega.{arith}
 use lib.Dec.{ltb}
 use lib.ListN.{length, getD, set, length-set}
 use borrow.Author.Tests.{lt-ltb, le-ltb, not-true, not-false}
-use Rattle.lines.specs.Bytes.{part}
+use Rattle.lines.specs.Bytes.{part, allPrintable}
 use Rattle.lines.specs.Reading.{lineAt, linesBefore, start}
 use Rattle.lines.specs.Layout.{layout}
 use Rattle.lines.specs.declared.Cursor.{Cursor}
 use Rattle.lines.specs.declared.LineRead.the-variants.{End, Bad, Heading, Entry}
 use Rattle.lines.proofs.Lines.{heading-moves, entry-moves, bad-number, entry-inside}
+use Rattle.lines.proofs.Texts.{value-printable}
 use Rattle.lines.proofs.Layouts.{layout-end, layout-bad, layout-heading, layout-entry}
+use Rattle.places.specs.Places.{valueAt}
 use Rattle.tables.specs.Section.{Section}
 use Rattle.tables.specs.Row.{rowsBefore, sectionOf}
 use Rattle.reading.specs.Reading.{headingRowOf, entryRowOf, Slots, fill, isFree, stopped, scanned, scan}
@@ -21,24 +23,28 @@ use Rattle.reading.specs.Scanning.{Took, Ready, Scanned, Turn}
 
 -- ---- one row more
 
-within-set : (bs ks : List ℕ) (r b k z : ℕ) → length ks ≡ length bs → b + k ≤ z → ((i : ℕ) → getD bs i 0 + getD ks i 0 ≤ z)
-    → (i : ℕ) → getD (set bs r b) i 0 + getD (set ks r k) i 0 ≤ z
-within-set [] [] r b k z n h f i = f i
-within-set [] (y ∷ ks) r b k z n h f i = absurd (omega arith)
-within-set (x ∷ bs) [] r b k z n h f i = absurd (omega arith)
-within-set (x ∷ bs) (y ∷ ks) zero b k z n h f zero = h
-within-set (x ∷ bs) (y ∷ ks) zero b k z n h f (suc i) = f (suc i)
-within-set (x ∷ bs) (y ∷ ks) (suc r) b k z n h f zero = f zero
-within-set (x ∷ bs) (y ∷ ks) (suc r) b k z n h f (suc i) = within-set bs ks r b k z (omega arith) h (λ (j : ℕ). f (suc j)) i
+-- what holds of each start with its length still does
+each-set : (P : ℕ → ℕ → Type 0) (bs ks : List ℕ) (r b k : ℕ) → length ks ≡ length bs → P b k → ((i : ℕ) → P (getD bs i 0) (getD ks i 0))
+    → (i : ℕ) → P (getD (set bs r b) i 0) (getD (set ks r k) i 0)
+each-set P [] [] r b k n h f i = f i
+each-set P [] (y ∷ ks) r b k n h f i = absurd (omega arith)
+each-set P (x ∷ bs) [] r b k n h f i = absurd (omega arith)
+each-set P (x ∷ bs) (y ∷ ks) zero b k n h f zero = h
+each-set P (x ∷ bs) (y ∷ ks) zero b k n h f (suc i) = f (suc i)
+each-set P (x ∷ bs) (y ∷ ks) (suc r) b k n h f zero = f zero
+each-set P (x ∷ bs) (y ∷ ks) (suc r) b k n h f (suc i) = each-set P bs ks r b k (omega arith) h (λ (j : ℕ). f (suc j)) i
 
-pub fill-ready : (t : List Section) (s : List ℕ) (a : Slots) (r n b k : ℕ) → Ready t s a → b + k ≤ length s → Ready t s (fill a r n b k)
-fill-ready t s a r n b k h w =
+pub fill-ready : (t : List Section) (s : List ℕ) (a : Slots) (r n b k : ℕ) → Ready t s a → b + k ≤ length s → allPrintable (valueAt s (b, k)) ≡ true
+    → Ready t s (fill a r n b k)
+fill-ready t s a r n b k h w p =
+    let l = h .lengths-are ∙ sym (h .starts-are) in
     record {
       lines-are = length-set (a .lineNumbers) r n ∙ h .lines-are;
       starts-are = length-set (a .starts) r b ∙ h .starts-are;
       lengths-are = length-set (a .lengths) r k ∙ h .lengths-are;
       short = h .short;
-      within = within-set (a .starts) (a .lengths) r b k (length s) (h .lengths-are ∙ sym (h .starts-are)) w (h .within);
+      within = each-set (λ (x y : ℕ). x + y ≤ length s) (a .starts) (a .lengths) r b k l w (h .within);
+      printable = each-set (λ (x y : ℕ). allPrintable (valueAt s (x, y)) ≡ true) (a .starts) (a .lengths) r b k l p (h .printable);
     }
 
 -- what the test `!took` says
@@ -77,11 +83,11 @@ module _ (t : List Section) (s : List ℕ) (first a : Slots) (c : Cursor) (cur :
         record { is = k .same ∙ ap (scan t s cur a) (layout-heading s c b e n p) ∙ rw (f, number); still = rw (j .now-is) (k .ready) }
 
     pub turn-heading : Took a new row (n .line) 0 0 true → Turn t s first new n section
-    unfolding scan
+    unfolding scan allPrintable
     turn-heading j =
         let f : isFree (a .lineNumbers) (headingRowOf t (part s b e)) ≡ true = rw (← row-is) (j .was) in
         record {
-          ready = rw (j .now-is) (fill-ready t s a row (n .line) 0 0 (k .ready) (omega arith));
+          ready = rw (j .now-is) (fill-ready t s a row (n .line) 0 0 (k .ready) (omega arith) refl);
           inside = heading-moves s c b e n p .within;
           same = k .same ∙ ap (scan t s cur a) (layout-heading s c b e n p) ∙ rw (f, j .now-is, row-is, number, w);
         }
@@ -112,7 +118,7 @@ module _ (t : List Section) (s : List ℕ) (first a : Slots) (c : Cursor) (cur :
           let f : isFree (a .lineNumbers) (entryRowOf t cur (part s b q)) ≡ true = rw (← w) (j .was) in
           let i = entry-inside s c b q e n p in
           record {
-            ready = rw (j .now-is) (fill-ready t s a row (n .line) (q + 1) (e - (q + 1)) (k .ready) (omega (arith, i .high, i .top)));
+            ready = rw (j .now-is) (fill-ready t s a row (n .line) (q + 1) (e - (q + 1)) (k .ready) (omega (arith, i .high, i .top)) (value-printable s c b q e n p));
             inside = entry-moves s c b q e n p .within;
             same = k .same ∙ ap (scan t s cur a) (layout-entry s c b q e n p) ∙ rw (u, f, j .now-is, w, entry-line);
           }

@@ -1,11 +1,13 @@
 -- What the steps of a scan promise, over lists by row: for the contracts of the code.
 use Prim.Native.Nat.{ℕ, _+_, _≤_}
 use mathlib.Core.Path.{_≡_}
-use mathlib.Core.Bool.{Bool, cond}
+use mathlib.Core.Bool.{Bool, true, cond}
 use mathlib.Core.List.{List}
 use lib.ListN.{length, getD}
+use Rattle.lines.specs.Bytes.{allPrintable}
 use Rattle.lines.specs.Layout.{layout, layoutAt}
 use Rattle.lines.specs.declared.Cursor.{Cursor}
+use Rattle.places.specs.Places.{valueAt}
 use Rattle.tables.specs.Section.{Section}
 use Rattle.tables.specs.Row.{rowCount}
 use Rattle.reading.specs.Tables.{mostBytes}
@@ -16,13 +18,14 @@ pub record Took (a new : Slots) (r n b k : ℕ) (f : Bool) : Type 0 where
   pub was : isFree (a .lineNumbers) r ≡ f
   pub now-is : new ≡ cond f (fill a r n b k) a
 
--- a slot for each row, each value within the text, and a text that is not too long
+-- a slot for each row, each value within the text and printable, and a text that is not too long
 pub record Ready (t : List Section) (s : List ℕ) (a : Slots) : Type 0 where
   pub lines-are : length (a .lineNumbers) ≡ rowCount t
   pub starts-are : length (a .starts) ≡ rowCount t
   pub lengths-are : length (a .lengths) ≡ rowCount t
   pub short : length s ≤ mostBytes
   pub within : (r : ℕ) → getD (a .starts) r 0 + getD (a .lengths) r 0 ≤ length s
+  pub printable : (r : ℕ) → allPrintable (valueAt s (getD (a .starts) r 0, getD (a .lengths) r 0)) ≡ true
 
 -- the scan of a text from the slots `first` ends as x, and leaves the slots `last`
 pub record Scanned (t : List Section) (s : List ℕ) (first last : Slots) (x : Scan) : Type 0 where

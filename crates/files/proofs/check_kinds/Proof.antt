@@ -37,7 +37,10 @@ shared-slice-read-row-kept-2 : tie.Need-shared-slice-read-row-kept-2 Inv-loop μ
 shared-slice-read-row-kept-2 c = omega (arith, c .before .before .before .before .before .before .before .before .pre .0 .lines-are, c .before .before .before .before .before .before .before .before .pre .0 .lengths-are, c .before .before .before .before .before .before .before .before .pre .1)
 
 row-kept-requires : tie.Need-row-kept-requires Inv-loop μ-loop
-row-kept-requires c κs = c .before .before .before .before .before .before .before .before .pre .0 .within (c .before .before .before .loop .r)
+row-kept-requires c κs =
+    let p = c .before .before .before .before .before .before .before .before .pre .0 in
+    let r = c .before .before .before .loop .r in
+    (p .within r, p .printable r)
 
 mul-t17 : tie.Need-mul-t17 Inv-loop μ-loop
 mul-t17 c = search needs

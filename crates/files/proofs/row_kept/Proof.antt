@@ -26,24 +26,24 @@ returns-2 c = rw (sym (c .before .row-kind .ensures) ∙ heading-row (c .before 
 add-e : tie.Need-add-e
 add-e c = search needs
 
-sub-kind-ok : tie.Need-sub-kind-ok
-sub-kind-ok c = search needs
+sub-printable-kind-ok : tie.Need-sub-printable-kind-ok
+sub-printable-kind-ok c = search needs
 
-part-kind-ok-start : tie.Need-part-kind-ok-start
-part-kind-ok-start c = search needs
+part-printable-kind-ok-start : tie.Need-part-printable-kind-ok-start
+part-printable-kind-ok-start c = search needs
 
-part-kind-ok-end : tie.Need-part-kind-ok-end
-part-kind-ok-end c = search needs
+part-printable-kind-ok-end : tie.Need-part-printable-kind-ok-end
+part-printable-kind-ok-end c = search needs
 
-kind-ok-requires : tie.Need-kind-ok-requires
-kind-ok-requires c κs = search needs
+printable-kind-ok-requires : tie.Need-printable-kind-ok-requires
+printable-kind-ok-requires c κs = (search needs, rw add-sub-cancel-left (c .before .before .before .before .before .pre .1))
 
 returns-3 : tie.Need-returns-3
 returns-3 c =
     let x = c .before .before .before .before .before .before .args in
     let k = c .before .before .before .row-kind .result in
-    let e = rw add-sub-cancel-left at (c .kind-ok .ensures) in
-    e ∙ rw (sym (c .before .before .before .row-kind .ensures) ∙ entry-row k (c .before .before .if2 .left)) (filled-kept (kindOf k) (now (x .text)) (x .start) (x .size) (c .before .before .before .before .if1 .left) (c .before .before .before .before .before .before .pre))
+    let e = rw add-sub-cancel-left at (c .printable-kind-ok .ensures) in
+    e ∙ rw (sym (c .before .before .before .row-kind .ensures) ∙ entry-row k (c .before .before .if2 .left)) (filled-kept (kindOf k) (now (x .text)) (x .start) (x .size) (c .before .before .before .before .if1 .left) (c .before .before .before .before .before .before .pre .0))
 
 pub row-kept-spec : {M : Type 1} → statement M
 row-kept-spec =
@@ -53,8 +53,8 @@ row-kept-spec =
     row-kind-requires
     returns-2
     add-e
-    sub-kind-ok
-    part-kind-ok-start
-    part-kind-ok-end
-    kind-ok-requires
+    sub-printable-kind-ok
+    part-printable-kind-ok-start
+    part-printable-kind-ok-end
+    printable-kind-ok-requires
     returns-3)

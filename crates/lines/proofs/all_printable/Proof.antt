@@ -1,56 +1,23 @@
--- `lines::all_printable` meets its contract: what the definition says of the whole, it says from `i` on. Assumes nothing.
-use Prim.Native.Nat.{_-_, _≤_}
-use native.Mathlib.Omega.{arith}
+-- `lines::all_printable` meets its contract: the printable bytes end where the part does. Assumes nothing.
 use borrow.Author.Needs.{needs}
-use mathlib.Core.Path.{_≡_, sym, _∙_}
-use lib.ListN.{length, drop}
-use Rattle.lines.specs.Bytes.{allPrintable}
-use Rattle.lines.proofs.Loops.{printable-yes, printable-low, printable-high, all-more, all-stop, all-end}
+use Prim.Native.Nat.{ℕ}
+use native.Mathlib.Nat.{zero-add}
+use mathlib.Core.Path.{ap, _∙_}
+use lib.Dec.{eqb}
+use lib.ListN.{length}
+use denote.Ref.{now}
+use Rattle.lines.specs.Bytes.{printableRun}
+use Rattle.lines.proofs.Bytes.{run-all}
 use Rattle.lines.proofs.all_printable.Statement.{statement}
 use Rattle.lines.proofs.all_printable.Tie as tie
 
-abbrev Inv-loop : tie.InvT-loop
-Inv-loop s i₀ i = (i ≤ length s) × (allPrintable s ≡ allPrintable (drop i s))
+printable-end-requires : tie.Need-printable-end-requires
+printable-end-requires c κs = search needs
 
-abbrev μ-loop : tie.MeasureT-loop
-μ-loop s i₀ i = length s - i
-
-loop-holds : tie.Need-loop-holds Inv-loop μ-loop
-loop-holds c = search needs
-
-shared-slice-read-b : tie.Need-shared-slice-read-b Inv-loop μ-loop
-shared-slice-read-b c = search needs
-
-returns : tie.Need-returns Inv-loop μ-loop
-returns c = sym (c .before .before .before .loop .inv .1 ∙ all-stop _ _ (c .before .before .loop-test .taken) (printable-low _ (c .if1 .taken)))
-
-returns-2 : tie.Need-returns-2 Inv-loop μ-loop
-returns-2 c = sym (c .before .before .before .before .loop .inv .1 ∙ all-stop _ _ (c .before .before .before .loop-test .taken) (printable-high _ (c .if2 .taken)))
-
-add-i : tie.Need-add-i Inv-loop μ-loop
-add-i c = search needs
-
-loop-less : tie.Need-loop-less Inv-loop μ-loop
-loop-less c = search needs
-
-loop-again : tie.Need-loop-again Inv-loop μ-loop
-loop-again c =
-    (omega arith, c .before .before .before .before .loop .inv .1 ∙ all-more _ _ (c .before .before .before .loop-test .taken) (printable-yes _ (c .before .if1 .left) (c .if2 .left)))
-
-returns-3 : tie.Need-returns-3 Inv-loop μ-loop
-returns-3 c = sym (c .before .loop .inv .1 ∙ all-end _ _ (c .loop-test .left))
+returns : tie.Need-returns
+returns c =
+    let s = now (c .before .before .args .part) in
+    ap (λ (k : ℕ). eqb k (length s)) (c .printable-end .ensures ∙ zero-add (printableRun s)) ∙ run-all s
 
 pub all-printable-spec : {M : Type 1} → statement M
-all-printable-spec =
-    tie.close
-    (tie.spec
-    Inv-loop
-    μ-loop
-    loop-holds
-    shared-slice-read-b
-    returns
-    returns-2
-    add-i
-    loop-less
-    loop-again
-    returns-3)
+all-printable-spec = tie.close (tie.spec printable-end-requires returns)

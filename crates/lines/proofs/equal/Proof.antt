@@ -1,13 +1,13 @@
 -- `lines::equal` meets its contract: what the definition says of the whole, it says from `i` on. Assumes nothing.
+use borrow.Author.Needs.{needs}
 use Prim.Native.Nat.{_-_, _≤_}
 use native.Mathlib.Omega.{arith}
-use borrow.Author.Needs.{needs}
 use mathlib.Core.Path.{_≡_, sym, _∙_}
 use lib.ListN.{length, drop}
 use denote.Ref.{now}
 use Rattle.lines.specs.Bytes.{sameBytes}
 use Rattle.lines.proofs.Bytes.{same-length}
-use Rattle.lines.proofs.Loops.{same-more, same-stop, same-end}
+use Rattle.lines.proofs.Words.{words-same, words-differ}
 use Rattle.lines.proofs.equal.Statement.{statement}
 use Rattle.lines.proofs.equal.Tie as tie
 
@@ -23,17 +23,23 @@ returns c = sym (same-length _ _ (c .if1 .taken))
 loop-holds : tie.Need-loop-holds Inv-loop μ-loop
 loop-holds c = search needs
 
-shared-slice-read-if2 : tie.Need-shared-slice-read-if2 Inv-loop μ-loop
-shared-slice-read-if2 c = search needs
+sub-loop : tie.Need-sub-loop Inv-loop μ-loop
+sub-loop c = search needs
 
-shared-slice-read-if2-2 : tie.Need-shared-slice-read-if2-2 Inv-loop μ-loop
-shared-slice-read-if2-2 c = search needs
+word-requires : tie.Need-word-requires Inv-loop μ-loop
+word-requires c κs = search needs
+
+word-requires-2 : tie.Need-word-requires-2 Inv-loop μ-loop
+word-requires-2 c κs = search needs
 
 returns-2 : tie.Need-returns-2 Inv-loop μ-loop
 returns-2 c =
     let l = c .before .before .before .before in
-    let x = l .before .before .args in
-    sym (l .loop .inv .2 ∙ same-stop (now (x .a)) (now (x .b)) (l .loop .i) (omega arith) (omega arith) (c .if2 .taken))
+    let x = l .before .before .before .before .args in
+    sym
+    (l .loop .inv .2
+    ∙ words-differ (now (x .a)) (now (x .b)) (λ k. l .before .before .before .shared-slice-known .given k .fits) (λ k. l .before .before .shared-slice-known2 .given k .fits) 8 (l .loop .i) (omega arith) (omega arith)
+    (λ e. c .if2 .taken (c .before .before .word .ensures ∙ e ∙ sym (c .before .word2 .ensures))))
 
 add-i : tie.Need-add-i Inv-loop μ-loop
 add-i c = search needs
@@ -44,14 +50,19 @@ loop-less c = search needs
 loop-again : tie.Need-loop-again Inv-loop μ-loop
 loop-again c =
     let l = c .before .before .before .before in
-    let x = l .before .before .args in
-    (omega arith, omega arith, l .loop .inv .2 ∙ same-more (now (x .a)) (now (x .b)) (l .loop .i) (omega arith) (omega arith) (c .if2 .left))
+    let x = l .before .before .before .before .args in (
+      omega arith,
+      omega arith,
+      l .loop .inv .2
+          ∙ words-same (now (x .a)) (now (x .b)) (λ k. l .before .before .before .shared-slice-known .given k .fits) (λ k. l .before .before .shared-slice-known2 .given k .fits) 8 (l .loop .i) (omega arith) (omega arith)
+          (sym (c .before .before .word .ensures) ∙ c .if2 .left ∙ c .before .word2 .ensures),
+    )
+
+equal-rest-requires : tie.Need-equal-rest-requires Inv-loop μ-loop
+equal-rest-requires c κs = search needs
 
 returns-3 : tie.Need-returns-3 Inv-loop μ-loop
-returns-3 c =
-    let l = c .before in
-    let x = l .before .before .args in
-    sym (l .loop .inv .2 ∙ same-end (now (x .a)) (now (x .b)) (l .loop .i) (omega arith) (omega arith))
+returns-3 c = c .equal-rest .ensures ∙ sym (c .before .before .loop .inv .2)
 
 pub equal-spec : {M : Type 1} → statement M
 equal-spec =
@@ -61,10 +72,12 @@ equal-spec =
     μ-loop
     returns
     loop-holds
-    shared-slice-read-if2
-    shared-slice-read-if2-2
+    sub-loop
+    word-requires
+    word-requires-2
     returns-2
     add-i
     loop-less
     loop-again
+    equal-rest-requires
     returns-3)

@@ -1,11 +1,13 @@
 -- `lines::name_end` meets its contract: what the definition says from `at` on, it says from `i` on. Assumes nothing.
 use borrow.Author.Needs.{needs}
-use Prim.Native.Nat.{_+_, _-_, _≤_}
+use Prim.Native.Nat.{ℕ, _+_, _-_, _/_, _≤_}
 use native.Mathlib.Omega.{arith}
-use mathlib.Core.Path.{_≡_, sym, _∙_}
+use mathlib.Core.Path.{_≡_, sym, ap, _∙_}
 use lib.ListN.{length, drop}
+use lib.Count.{trailingZeros, trailing-le}
+use denote.Ref.{now}
 use Rattle.lines.specs.Bytes.{nameRun}
-use Rattle.lines.proofs.Loops.{printable-yes, printable-low, printable-high, name-equals, name-stop, name-more, name-stops}
+use Rattle.lines.proofs.Words.{name-passed, name-found}
 use Rattle.lines.proofs.name_end.Statement.{statement}
 use Rattle.lines.proofs.name_end.Tie as tie
 
@@ -18,17 +20,23 @@ abbrev μ-loop : tie.MeasureT-loop
 loop-holds : tie.Need-loop-holds Inv-loop μ-loop
 loop-holds c = search needs
 
-shared-slice-read-b : tie.Need-shared-slice-read-b Inv-loop μ-loop
-shared-slice-read-b c = search needs
+sub-loop : tie.Need-sub-loop Inv-loop μ-loop
+sub-loop c = search needs
+
+name-stops-requires : tie.Need-name-stops-requires Inv-loop μ-loop
+name-stops-requires c κs = search needs
+
+first-stop-requires : tie.Need-first-stop-requires Inv-loop μ-loop
+first-stop-requires c κs = search needs
+
+add-result : tie.Need-add-result Inv-loop μ-loop
+add-result c = omega (arith, trailing-le 64 (c .before .before .name-stops .result))
 
 returns : tie.Need-returns Inv-loop μ-loop
-returns c = sym (c .before .before .before .loop .inv .1 ∙ name-equals _ _ (c .before .before .loop-test .taken) (c .if1 .taken))
-
-returns-2 : tie.Need-returns-2 Inv-loop μ-loop
-returns-2 c = sym (c .before .before .before .before .loop .inv .1 ∙ name-stop _ _ (c .before .before .before .loop-test .taken) (c .before .if1 .left) (printable-low _ (c .if2 .taken)))
-
-returns-3 : tie.Need-returns-3 Inv-loop μ-loop
-returns-3 c = sym (c .before .before .before .before .before .loop .inv .1 ∙ name-stop _ _ (c .before .before .before .before .loop-test .taken) (c .before .before .if1 .left) (printable-high _ (c .if3 .taken)))
+returns c =
+    let l = c .before .before .before .before in
+    ap (λ (k : ℕ). l .loop .i + k) (c .first-stop .ensures ∙ ap (λ (m : ℕ). trailingZeros 64 m / 8) (c .before .before .name-stops .ensures))
+    ∙ sym (l .loop .inv .1 ∙ name-found (now (l .before .before .args .text)) (l .loop .i) (omega arith) (λ e. c .before .if1 .taken (c .before .before .name-stops .ensures ∙ e)))
 
 add-i : tie.Need-add-i Inv-loop μ-loop
 add-i c = search needs
@@ -37,10 +45,15 @@ loop-less : tie.Need-loop-less Inv-loop μ-loop
 loop-less c = search needs
 
 loop-again : tie.Need-loop-again Inv-loop μ-loop
-loop-again c = (omega arith, c .before .before .before .before .before .loop .inv .1 ∙ name-more _ _ (c .before .before .before .before .loop-test .taken) (c .before .before .if1 .left) (printable-yes _ (c .before .if2 .left) (c .if3 .left)))
+loop-again c =
+    let l = c .before .before .before in
+    (omega arith, l .loop .inv .1 ∙ name-passed (now (l .before .before .args .text)) (l .loop .i) (omega arith) (sym (c .before .name-stops .ensures) ∙ c .if1 .left))
 
-returns-4 : tie.Need-returns-4 Inv-loop μ-loop
-returns-4 c = sym (c .before .loop .inv .1 ∙ name-stops _ _ (c .loop-test .left))
+name-rest-requires : tie.Need-name-rest-requires Inv-loop μ-loop
+name-rest-requires c κs = search needs
+
+returns-2 : tie.Need-returns-2 Inv-loop μ-loop
+returns-2 c = c .name-rest .ensures ∙ sym (c .before .before .loop .inv .1)
 
 pub name-end-spec : {M : Type 1} → statement M
 name-end-spec =
@@ -49,11 +62,13 @@ name-end-spec =
     Inv-loop
     μ-loop
     loop-holds
-    shared-slice-read-b
+    sub-loop
+    name-stops-requires
+    first-stop-requires
+    add-result
     returns
-    returns-2
-    returns-3
     add-i
     loop-less
     loop-again
-    returns-4)
+    name-rest-requires
+    returns-2)
