@@ -1,11 +1,12 @@
-/* The judge of MCTCNet2 test sets: a whole set judged, one file read, one file written, names of entries and headings.
+/* The judge of MCTCNet2 test sets: a whole set judged, one file read, one file written, names of entries and headings,
+ * the due column of one file.
  *
  * Linked from libmctc.a. Every function answers for whatever bytes and numbers it is lent, keeps no state, allocates
  * nothing and always returns.
  *
  * An array is lent as a pointer and a length, in this order. The length counts elements: bytes, or numbers of 32 bits.
  * The pointer of an empty array is not null, and is aligned for its elements. No array that a call writes to (places of
- * mctc_judge and mctc_read, output, answer) overlaps another array of the same call.
+ * mctc_judge, mctc_read and mctc_due, output, column, answer) overlaps another array of the same call.
  *
  * Files: 1 new booking (AC2), 2 old booking (ACC), 3 drift, 4 suspension, 5 gas, 6 the analyser's identification answer.
  *
@@ -40,10 +41,10 @@
  *     1        0                                  file, 0 for none
  *     2        0                                  line from 1, 0 for none
  *     3        judge: axles of drift              0
- *              read: axles; write: length
+ *              read, due: axles; write: length
  *              names: length
  *     4        judge: axles of suspension         0
- *              names: heading
+ *              names: heading; due: entries
  *     5        judge: mark of drift, 0 or 1       0
  *     6        judge: mark of suspension          0
  *     7        judge: mark of gas                 0
@@ -113,7 +114,7 @@ extern "C" {
 #define MCTC_FILE_OR_AXLES 16
 /* Start plus length of a pair is above the text's length: the line that the entry would have. */
 #define MCTC_PAIR_OUTSIDE 17
-/* The output is too short: line 0. */
+/* The output is too short, or the column: line 0. */
 #define MCTC_OUTPUT_TOO_SHORT 18
 
 /* Judges a whole set: the stem of its files and six slices, each empty where it is not given. Refuses with 1 to 15.
@@ -170,6 +171,29 @@ uint32_t mctc_entry_name(uint32_t file, uint32_t entry,
 uint32_t mctc_heading_name(uint32_t file, uint32_t heading,
                            uint8_t *output, size_t output_length,
                            uint32_t *answer, size_t answer_length);
+
+/* What is asked of an entry: its value is filled; is empty; may be either. */
+#define MCTC_DUE 1
+#define MCTC_NOT_DUE 2
+#define MCTC_FREE 3
+
+/* Gives the due column of one file, by its number: for each of its entries, in the order of its pairs, MCTC_DUE,
+ * MCTC_NOT_DUE or MCTC_FREE. AC2's values decide, and for gas its own too. No entry is held to its column, so that it
+ * serves sets that mctc_judge refuses, where AC2 and this file pass 3 to 9. For file 1 the text is AC2 once more.
+ *
+ * Refuses, in this order, with 1; for AC2 with 11 where it is empty, then 3 to 9; for the file with 16 where the number
+ * is not 1 to 5, 11 where the text is empty, then 3 to 9; with 18 where the column has fewer numbers than the file has
+ * entries. A refusal carries the file as handed in, 1 where it is AC2's, 0 with 1. Refused: the column stays.
+ *
+ * Accepted: answer 3 is the axle count, 0 for files 1, 2 and 5; answer 4 is how many entries the column has, at most
+ * 53. Column numbers past them stay. The places have the pairs of this file; all others are 0. With a category L, ACC is
+ * not read, whatever its text: its column has no entries. */
+uint32_t mctc_due(uint32_t file,
+                  const uint8_t *ac2, size_t ac2_length,
+                  const uint8_t *text, size_t text_length,
+                  uint32_t *places, size_t places_length,
+                  uint32_t *column, size_t column_length,
+                  uint32_t *answer, size_t answer_length);
 
 #ifdef __cplusplus
 }

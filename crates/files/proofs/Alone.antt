@@ -44,7 +44,7 @@ module _ (n : ℕ) (s p : List ℕ) where
         let g = filled ∙ v .1 in
         record { answer = rw (g, k); places = rw g (v .2) }
 
-fixed-least : (n : ℕ) → ofNumber 0 (λ f. length (fixedSections f)) n ≤ ofNumber 0 leastSections n
+pub fixed-least : (n : ℕ) → ofNumber 0 (λ f. length (fixedSections f)) n ≤ ofNumber 0 leastSections n
 unfolding ofNumber leastSections sections fixedSections axleSections axlesFrom
 fixed-least zero = omega arith
 fixed-least (suc zero) = omega arith
@@ -54,7 +54,7 @@ fixed-least (suc (suc (suc (suc zero)))) = omega arith
 fixed-least (suc (suc (suc (suc (suc zero))))) = omega arith
 fixed-least (suc (suc (suc (suc (suc (suc n)))))) = omega arith
 
-few-sections : (n : ℕ) → length (tableOf n) ≤ 10
+pub few-sections : (n : ℕ) → length (tableOf n) ≤ 10
 unfolding ofNumber tableOf sections fixedSections axleSections axlesFrom
 few-sections zero = omega arith
 few-sections (suc zero) = omega arith

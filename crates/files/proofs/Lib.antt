@@ -4,3 +4,4 @@ pub mod Numbers
 pub mod Steps
 pub mod Theorem
 pub mod Alone
+pub mod Pairs

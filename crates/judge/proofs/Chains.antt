@@ -13,6 +13,7 @@ use Rattle.tables.proofs.Numbers.{first-pairs}
 use Rattle.tables.proofs.Axles.{entries-most}
 use Rattle.reading.specs.Reading.{Reading, refused, read}
 use Rattle.files.specs.Files.{readFile}
+use Rattle.files.proofs.Pairs.{few-axles, rooms-fit, own-pairs}
 use Rattle.due.specs.Booking.{bookingIn}
 use Rattle.rules.specs.Values.{pairsOf, newValues, gasValues, NewHeld, GasHeld}
 use Rattle.rules.specs.Slices.{sliceRight, isRead, answerRight}
@@ -32,8 +33,7 @@ use Rattle.judge.specs.declared.Step.{Step}
 use Rattle.judge.specs.declared.Step.the-variants.{Stop, Go}
 use Rattle.judge.specs.declared.Check.{Check}
 use Rattle.judge.specs.declared.Check.the-variants.{Pass, Refuse}
-use Rattle.judge.proofs.Numbers.{few-axles, rooms-fit}
-use Rattle.judge.proofs.Text.{own-pairs, Later, book-kept, new-pairs}
+use Rattle.judge.proofs.Text.{Later, book-kept, new-pairs}
 
 -- ---- pairs that are 0
 

@@ -1,18 +1,16 @@
 -- Files by number, and how many pairs they have. Assumes nothing.
-use Prim.Native.Nat.{ℕ, _+_, _*_, _≤_}
+use Prim.Native.Nat.{ℕ, _≤_}
 use native.Mathlib.Omega.{arith}
 use mathlib.Core.Path.{_≡_, ap, sym, subst, _∙_}
-use mathlib.Core.Bool.{Bool, true, false}
 use mathlib.Core.List.{List, []}
 use lib.ListN.{length}
 use Rattle.places.specs.Places.{pairsAt, valuesAt, Within}
-use Rattle.tables.specs.File.{File, ac2, acc, drift, suspension, gas, fileNumber, allSections, entries, room, firstPair, leastPlaces, ofNumber, tableOf}
-use Rattle.tables.proofs.Numbers.{first-pairs, room-in}
-use Rattle.files.specs.Files.{AxleCount}
+use Rattle.tables.specs.File.{File, ac2, acc, drift, suspension, gas, fileNumber, allSections, room, firstPair, ofNumber, tableOf}
+use Rattle.tables.proofs.Numbers.{first-pairs}
 use Rattle.due.specs.Booking.{bookingIn}
 use Rattle.due.specs.declared.Booking.{Booking}
 use Rattle.rules.specs.Values.{newValues, NewHeld}
-use Rattle.rules.proofs.Pairs.{new-count, gas-count, of-number}
+use Rattle.rules.proofs.Pairs.{new-room, of-number}
 use Rattle.judge.specs.Steps.{fileNumbered}
 
 -- ---- the file of a number
@@ -27,16 +25,6 @@ module _ (file : ℕ) (e : fileNumber (fileNumbered file) ≡ file) where
 
 -- ---- counts
 
-pub book-room : room ac2 ≡ length (entries ac2 0)
-book-room = first-pairs .6 ∙ sym (new-count 0)
-
-pub gas-room : (n : ℕ) → room gas ≡ length (entries gas n)
-gas-room n = first-pairs .10 ∙ sym (gas-count n)
-
-pub few-axles : (b : Bool) (n : ℕ) → AxleCount b n → n ≤ 9
-few-axles true n c = c .1
-few-axles false n c = omega arith
-
 pub few-entries : (f : File) → room f ≤ 64
 few-entries ac2 = omega (arith, first-pairs)
 few-entries acc = omega (arith, first-pairs)
@@ -44,14 +32,10 @@ few-entries drift = omega (arith, first-pairs)
 few-entries suspension = omega (arith, first-pairs)
 few-entries gas = omega (arith, first-pairs)
 
-pub rooms-fit : (f : File) → 2 * (firstPair f + room f) ≤ leastPlaces
-unfolding leastPlaces
-rooms-fit f = omega (arith, room-in f)
-
 -- ---- AC2's values
 
 pub booking-ready : (s p : List ℕ) → NewHeld s p → (278 ≤ length p) × Within s (pairsAt p (firstPair ac2) (room ac2))
-booking-ready s p h = (omega (arith, first-pairs .5, h .0), subst (λ (n : ℕ). Within s (pairsAt p (firstPair ac2) n)) (sym book-room) (h .1))
+booking-ready s p h = (omega (arith, first-pairs .5, h .0), subst (λ (n : ℕ). Within s (pairsAt p (firstPair ac2) n)) (sym (new-room 0)) (h .1))
 
 pub booking-is : (s p : List ℕ) (b : Booking) → b ≡ bookingIn (valuesAt s p (firstPair ac2) (room ac2)) → b ≡ bookingIn (newValues s p)
-booking-is s p b e = e ∙ ap (λ (n : ℕ). bookingIn (valuesAt s p (firstPair ac2) n)) book-room
+booking-is s p b e = e ∙ ap (λ (n : ℕ). bookingIn (valuesAt s p (firstPair ac2) n)) (new-room 0)

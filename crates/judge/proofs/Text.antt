@@ -6,11 +6,10 @@ use mathlib.Core.List.{List, map}
 use lib.ListN.{length, take, drop}
 use Rattle.refusals.specs.Refusals.{numberOf}
 use Rattle.places.specs.Places.{Pair, setPairs, pairsAt, valueAt, Within}
-use Rattle.places.proofs.Laws.{set-length, pairs-before, pairs-set, drop-pairs}
+use Rattle.places.proofs.Laws.{set-length, pairs-before, drop-pairs}
 use Rattle.tables.specs.Section.{Section}
 use Rattle.tables.specs.File.{File, ac2, acc, drift, suspension, gas, fileNumber, hasAxles, fixedSections, allSections, leastSections, entries, firstPair, leastPlaces}
 use Rattle.tables.proofs.Numbers.{first-pairs}
-use Rattle.tables.proofs.Axles.{entries-most}
 use Rattle.reading.specs.Reading.{read}
 use Rattle.reading.proofs.Tables.{tables-distinct}
 use Rattle.reading.proofs.Theorem.{sound}
@@ -21,6 +20,7 @@ use Rattle.files.specs.declared.TextAnswer.{TextAnswer}
 use Rattle.files.specs.declared.TextAnswer.the-variants.{Sections, Faulty}
 use Rattle.files.proofs.Alone.{count-in}
 use Rattle.files.proofs.Theorem as T
+use Rattle.files.proofs.Pairs.{few-axles, pairs-fit, own-pairs}
 use Rattle.rules.specs.Values.{pairsOf, newValues, NewHeld}
 use Rattle.rules.specs.Answer.{isMarked}
 use Rattle.rules.proofs.Pairs.{new-count}
@@ -28,17 +28,9 @@ use Rattle.sets.specs.Judge.{FileRead, fileRead, stops, goes, booked, fileCheck
 use Rattle.judge.specs.Steps.{fileNumbered, Own, Ready, ValuesReady, valuesStep, JudgesValues, JudgesFile, textStep}
 use Rattle.judge.specs.declared.Step.{Step}
 use Rattle.judge.specs.declared.Step.the-variants.{Stop, Go}
-use Rattle.judge.proofs.Numbers.{by-file, table, few-axles, rooms-fit}
+use Rattle.judge.proofs.Numbers.{by-file, table}
 
--- ---- pairs of a file that was read
-
-pub pairs-fit : (f : File) (t : List ℕ) (c : ℕ) (ps : List Pair) → T.FileRead f t c ps → 2 * (firstPair f + length ps) ≤ leastPlaces
-pairs-fit f t c ps r = omega (arith, r .many, entries-most f (axlesOf f c) (few-axles (hasAxles f) (axlesOf f c) (r .counted .count)), rooms-fit f)
-
-pub own-pairs : (f : File) (n : ℕ) (ps : List Pair) (p : List ℕ) → length ps ≡ length (entries f n) → 2 * (firstPair f + length ps) ≤ leastPlaces → leastPlaces ≤ length p
-    → pairsOf f n (setPairs (firstPair f) ps p) ≡ ps
-own-pairs f n ps p m h l =
-    ap (λ (k : ℕ). pairsAt (setPairs (firstPair f) ps p) (firstPair f) k) (sym m) ∙ pairs-set (firstPair f) ps p (omega (arith, h, l))
+-- ---- AC2's pairs
 
 -- AC2's pairs stay when a later file is read
 abbrev pub Later : File → Type 0

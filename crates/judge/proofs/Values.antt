@@ -17,6 +17,7 @@ use Rattle.tables.specs.File.{File, ac2, acc, drift, suspension, gas, fileNumbe
 use Rattle.tables.proofs.Axles.{entries-most}
 use Rattle.reading.proofs.Sections.{rows-entries}
 use Rattle.files.specs.Files.{axlesOf}
+use Rattle.files.proofs.Pairs.{rooms-fit}
 use Rattle.due.specs.Booking.{bookingIn}
 use Rattle.due.specs.Conditions.{linksIn, withLinks, conditionsOf, gasValues, gasValuesIn}
 use Rattle.due.specs.Due.{dueIn, filledPairs, firstNotAsDueFrom, firstNotAsDue}
@@ -31,10 +32,11 @@ use Rattle.rules.specs.Answer.{isMarked}
 use Rattle.rules.specs.declared.BrokenRule.{BrokenRule}
 use Rattle.rules.specs.declared.RuleCheck.{RuleCheck}
 use Rattle.rules.specs.declared.RuleCheck.the-variants.{Kept, Broken}
+use Rattle.rules.proofs.Pairs.{gas-room}
 use Rattle.sets.specs.Judge.{stops, checkRule, checkedFile, firstFailed}
 use Rattle.judge.specs.Steps.{fileNumbered, ValuesReady, readAt, valuesStep, JudgesValues}
 use Rattle.judge.specs.declared.Step.the-variants.{Stop, Go}
-use Rattle.judge.proofs.Numbers.{by-file, table, gas-room, few-entries, rooms-fit, booking-ready, booking-is}
+use Rattle.judge.proofs.Numbers.{by-file, table, few-entries, booking-ready, booking-is}
 
 gas-own : (f : File) (n : ℕ) (t p : List ℕ) → gasValuesIn (fileNumber f) (valuesAt t p (firstPair gas) (room gas)) ≡ gasValues f (valuesOf f n t p)
 gas-own ac2 n t p = gas-values-file ac2 (valuesAt t p (firstPair gas) (room gas))

@@ -22,7 +22,11 @@ use Rattle.sets.specs.Judge as J
 use Rattle.sets.specs.declared.Acceptance.{Acceptance}
 use Rattle.sets.specs.declared.SetAnswer.{SetAnswer}
 use Rattle.sets.specs.declared.SetAnswer.the-variants as SetAnswer
-use Rattle.mctc.specs.Answers.{answerSize, answered, refusalNumbers, readNumbers, writeNumbers, nameNumbers, markNumber, setNumbers, Filled}
+use Rattle.columns.specs.Column as C
+use Rattle.columns.specs.declared.ColumnAcceptance.{ColumnAcceptance}
+use Rattle.columns.specs.declared.ColumnAnswer.{ColumnAnswer}
+use Rattle.columns.specs.declared.ColumnAnswer.the-variants as ColumnAnswer
+use Rattle.mctc.specs.Answers.{answerSize, answered, refusalNumbers, readNumbers, writeNumbers, nameNumbers, markNumber, setNumbers, dueNumbers, Filled}
 
 -- eight numbers put one after another
 pub eight : (p q : List ℕ) (n f l d e g h i : ℕ) → q ≡ cleared answerSize p →
@@ -62,3 +66,9 @@ module _ (a b : List ℕ) (r : ℕ) where
       d ≡ markNumber (x .driftmark) → u ≡ markNumber (x .suspensionmark) → g ≡ markNumber (x .gasmark) →
       Put 0 0 0 (x .driftaxles) (x .suspensionaxles) d u g → Filled (setNumbers (J.answerIs y)) a b r
   set-accepted y x e d u g i j k h = rw e (record { number = h .0; answer = rw (i, j, k) at (h .1) })
+
+  pub column-refused : (y : ColumnAnswer) (x : Refusal) → y ≡ ColumnAnswer.Refused x → Filled (refusalNumbers x) a b r → Filled (dueNumbers (C.answerIs y)) a b r
+  column-refused y x e h = rw e h
+
+  pub column-given : (y : ColumnAnswer) (x : ColumnAcceptance) → y ≡ ColumnAnswer.Column x → Put 0 0 0 (x .axles) (x .count) 0 0 0 → Filled (dueNumbers (C.answerIs y)) a b r
+  column-given y x e h = rw e (record { number = h .0; answer = h .1 })

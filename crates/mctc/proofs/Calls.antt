@@ -16,8 +16,10 @@ use Rattle.sets.specs.Judge as J
 use Rattle.sets.specs.Records.{Slices}
 use Rattle.sets.specs.declared.SetAnswer.{SetAnswer}
 use Rattle.judge.specs.Judged.{SetJudged, Demanded}
-use Rattle.mctc.specs.Answers.{answerSize, readNumbers, writeNumbers, nameNumbers, setNumbers, Filled}
-use Rattle.mctc.specs.Calls.{tooShort, ReadCall, WriteCall, NameCall, JudgeCall}
+use Rattle.columns.specs.Column as C
+use Rattle.columns.specs.declared.ColumnAnswer.{ColumnAnswer}
+use Rattle.mctc.specs.Answers.{answerSize, readNumbers, writeNumbers, nameNumbers, setNumbers, dueNumbers, Filled}
+use Rattle.mctc.specs.Calls.{tooShort, ReadCall, WriteCall, NameCall, JudgeCall, DueCall}
 
 -- an answer array that is too short: nothing is done
 module _ (a : List ℕ) (l : length a < answerSize) where
@@ -34,6 +36,9 @@ module _ (a : List ℕ) (l : length a < answerSize) where
   judge-short stem s p =
       let b = lt-leb answerSize (length a) l in
       record { number = rw b; answer = rw b; places = rw b; demand3 = λ h. absurd (omega arith) }
+
+  pub due-short : (file : ℕ) (s t p d : List ℕ) → DueCall file s t p p d d a a tooShort
+  due-short file s t p d = let b = lt-leb answerSize (length a) l in record { number = rw b; answer = rw b; places = rw b; column = rw b }
 
 -- one that is long enough: what was answered is in it
 module _ (a b : List ℕ) (r : ℕ) (l : answerSize ≤ length a) where
@@ -65,3 +70,10 @@ module _ (a b : List ℕ) (r : ℕ) (l : answerSize ≤ length a) where
         places = rw t (h .places);
         demand3 = λ z. subst (λ (y : J.Answer). Demanded stem s p y q) (h .answer) (h .demand3);
       }
+
+  pub due-done : (file : ℕ) (s t p q d e : List ℕ) (x : ColumnAnswer) → C.Gives file (C.dueColumn file s t p (length d)) p q d e x → Filled (dueNumbers (C.answerIs x)) a b r
+      → DueCall file s t p q d e a b r
+  due-done file s t p q d e x h f =
+      let z = le-leb answerSize (length a) l in
+      let g = subst (λ (y : C.Answer). Filled (dueNumbers y) a b r) (h .answer) f in
+      record { number = rw z (g .number); answer = rw z (g .answer); places = rw z (h .places); column = rw z (h .column) }

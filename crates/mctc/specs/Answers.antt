@@ -10,6 +10,7 @@ use Rattle.files.specs.Alone as F
 use Rattle.writing.specs.Writing as W
 use Rattle.names.specs.Names as N
 use Rattle.sets.specs.Judge as J
+use Rattle.columns.specs.Column as C
 
 -- how many numbers of the array are set
 abbrev pub answerSize : ℕ
@@ -51,3 +52,8 @@ setNumbers (J.acceptance d u x y z) = 0 ∷ 0 ∷ 0 ∷ d ∷ u ∷ markNumber x
 pub record Filled (ns before after : List ℕ) (r : ℕ) : Type 0 where
   pub number : r ≡ getD ns 0 0
   pub answer : after ≡ answered ns before
+
+-- the due column of a file: its axle count, and how many entries the column has
+abbrev pub dueNumbers : C.Answer → List ℕ
+dueNumbers (C.refusal k f l) = k ∷ f ∷ l ∷ []
+dueNumbers (C.column n m) = 0 ∷ 0 ∷ 0 ∷ n ∷ m ∷ []

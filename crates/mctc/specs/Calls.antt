@@ -13,7 +13,9 @@ use Rattle.names.specs.Names as N
 use Rattle.sets.specs.Records.{Slices}
 use Rattle.sets.specs.Judge.{judge}
 use Rattle.judge.specs.Judged.{Demanded}
-use Rattle.mctc.specs.Answers.{answerSize, answered, readNumbers, writeNumbers, nameNumbers, setNumbers}
+use Rattle.columns.specs.Column as C
+use Rattle.columns.specs.Column.{dueColumn, placesOf, columnAfter}
+use Rattle.mctc.specs.Answers.{answerSize, answered, readNumbers, writeNumbers, nameNumbers, setNumbers, dueNumbers}
 
 -- what a call answers where the answer array is too short: the largest number, which no refusal has
 abbrev pub tooShort : ℕ
@@ -59,3 +61,10 @@ pub record JudgeCall (stem : List ℕ) (s : Slices) (p q a b : List ℕ) (r : �
   pub answer : b ≡ answerAfter (setNumbers (judge stem s p .0)) a
   pub places : q ≡ whereFits a (judge stem s p .1) p
   pub demand3 : answerSize ≤ length a → Demanded stem s p (judge stem s p .0) q
+
+-- the due column of one file (01, Due entries): AC2's text s, the file's t, column d before and e after
+pub record DueCall (file : ℕ) (s t p q d e a b : List ℕ) (r : ℕ) : Type 0 where
+  pub number : r ≡ returned (dueNumbers (C.answerOf (dueColumn file s t p (length d)))) a
+  pub answer : b ≡ answerAfter (dueNumbers (C.answerOf (dueColumn file s t p (length d)))) a
+  pub places : q ≡ whereFits a (placesOf file (dueColumn file s t p (length d)) p) p
+  pub column : e ≡ whereFits a (columnAfter (dueColumn file s t p (length d)) d) d

@@ -1,6 +1,6 @@
 // The interface for C (include/mctc.h): a whole set judged, one file read alone, one file written, names of entries
-// and headings copied. Each call fills an array of numbers that the caller lends with its answer, and returns the first
-// of them.
+// and headings copied, the due column of one file. Each call fills an array of numbers that the caller lends with its
+// answer, and returns the first of them.
 ghost use mathlib.Core.Path.{_≡_};
 ghost use mathlib.Core.List.{[], _∷_};
 ghost use Prim.Native.Nat.{_≤_};
@@ -10,8 +10,10 @@ ghost use Rattle.writing.specs.Writing as W;
 ghost use Rattle.names.specs.Names as N;
 ghost use Rattle.sets.specs.Judge as J;
 ghost use Rattle.judge.specs.Judged.{slicesOf};
-ghost use Rattle.mctc.specs.Answers.{answerSize, answered, refusalNumbers, readNumbers, writeNumbers, nameNumbers, markNumber, setNumbers, Filled};
-ghost use Rattle.mctc.specs.Calls.{ReadCall, WriteCall, NameCall, JudgeCall};
+ghost use Rattle.columns.specs.Column as C;
+ghost use Rattle.mctc.specs.Answers.{answerSize, answered, refusalNumbers, readNumbers, writeNumbers, nameNumbers, markNumber, setNumbers, dueNumbers, Filled};
+ghost use Rattle.mctc.specs.Calls.{ReadCall, WriteCall, NameCall, JudgeCall, DueCall};
+use columns::ColumnAnswer;
 use files::FileAnswer;
 use names::NameAnswer;
 use refusals::Refusal;
@@ -235,4 +237,38 @@ pub extern "C" fn mctc_heading_name(
     }
     let copied = names::copy_heading(file, section, output);
     fill_name(answer, copied)
+}
+
+// What the due column of a file says besides its numbers.
+fn fill_column(answer: &mut [u32], given: ColumnAnswer) -> u32
+    requires { ⌜ answerSize ≤ length (now answer) ⌝ }
+    ensures { λ r. ⌜ Filled (dueNumbers (C.answerIs given)) (now (answer .entry)) (now (answer .exit)) r ⌝ }
+{
+    match given {
+        ColumnAnswer::Refused(x) => fill_refusal(answer, x),
+        ColumnAnswer::Column(a) => {
+            let axles = a.axles;
+            let count = a.count;
+            fill(answer, 0, 0, 0, axles, count, 0, 0, 0)
+        }
+    }
+}
+
+// The due column of one file (01, Due entries).
+#[no_mangle]
+pub extern "C" fn mctc_due(
+    file: u32,
+    ac2: &[u8],
+    text: &[u8],
+    places: &mut [u32],
+    column: &mut [u32],
+    answer: &mut [u32],
+) -> u32
+    ensures { λ r. ⌜ DueCall file (now (ac2 .entry)) (now (text .entry)) (now (places .entry)) (now (places .exit)) (now (column .entry)) (now (column .exit)) (now (answer .entry)) (now (answer .exit)) r ⌝ }
+{
+    if answer.len() < ANSWER_SIZE {
+        return TOO_SHORT;
+    }
+    let given = columns::due_column(file, ac2, text, places, column);
+    fill_column(answer, given)
 }

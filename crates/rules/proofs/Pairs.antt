@@ -2,7 +2,7 @@
 use Prim.Native.Nat.{ℕ, zero, suc, _+_, _-_, _*_, _≤_, _<_}
 use native.Mathlib.Omega.{arith}
 use native.Mathlib.Nat.{add-zero, add-sub-cancel-left}
-use mathlib.Core.Path.{_≡_, refl, _∙_}
+use mathlib.Core.Path.{_≡_, refl, sym, _∙_}
 use mathlib.Core.List.{List, [], map}
 use lib.ListN.{length, getD, take, drop, length-append, length-drop}
 use lib.Seq.{length-take-le}
@@ -58,6 +58,15 @@ first-pairs = (refl, refl, refl, refl, refl)
 pub least-places : leastPlaces ≡ 278
 unfolding leastPlaces pairCount rooms room entries sections fixedSections axleSections axlesFrom axleEntries entriesOf newBooking oldBooking sixteen tester protocol measurement driftAxle suspensionAxle analysis analyser counter speedTest allKeyDates allKeyBodies fuelAnalysis
 least-places = refl
+
+-- a file without axles has as many entries as it has room
+pub new-room : (n : ℕ) → room ac2 ≡ length (entries ac2 n)
+unfolding room
+new-room n = new-count 9 ∙ sym (new-count n)
+
+pub gas-room : (n : ℕ) → room gas ≡ length (entries gas n)
+unfolding room
+gas-room n = gas-count 9 ∙ sym (gas-count n)
 
 -- ---- a pair of a file that is held
 

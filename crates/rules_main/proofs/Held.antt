@@ -11,7 +11,7 @@ use lib.ListN.{length}
 use Rattle.places.specs.Places.{startOf, lengthOf, pairsAt, Within}
 use Rattle.tables.specs.File.{File, ac2, gas, entries, firstPair, room, fileNumber, ofNumber}
 use Rattle.rules.specs.Values.{NewHeld, GasHeld, NumberHeld}
-use Rattle.rules.proofs.Pairs.{new-count, gas-count, of-number, of-others, number-held}
+use Rattle.rules.proofs.Pairs.{new-room, gas-room, of-number, of-others, number-held}
 
 -- ---- pairs one after the other
 
@@ -51,15 +51,6 @@ no-counts m n h1 h2 h3 h4 h5 =
 
 -- ---- AC2 and gas by their numbers
 
--- a file without axles has as many entries as it has room
-new-room : room ac2 ≡ length (entries ac2 0)
-unfolding room
-new-room = new-count 9 ∙ sym (new-count 0)
-
-gas-room : room gas ≡ length (entries gas 0)
-unfolding room
-gas-room = gas-count 9 ∙ sym (gas-count 0)
-
 module _ (t p : List ℕ) where
   pub new-numbered : NumberHeld 1 0 t p → NewHeld t p
   new-numbered h = number-held ac2 1 0 t p refl h
@@ -68,10 +59,10 @@ module _ (t p : List ℕ) where
   gas-numbered h = number-held gas 5 0 t p refl h
 
   pub new-within : NewHeld t p → Within t (pairsAt p (firstPair ac2) (room ac2))
-  new-within h = rw new-room (h .1)
+  new-within h = rw (new-room 0) (h .1)
 
   -- gas has no axles, however many are asked for
   pub gas-within : (m n : ℕ) → m ≡ 5 → NumberHeld m n t p → Within t (pairsAt p (firstPair gas) (room gas))
   gas-within m n e h =
       let g = number-held gas m n t p e h .1 in
-      rw (gas-room, gas-count 0) (rw (gas-count n) at g)
+      rw (gas-room n) g

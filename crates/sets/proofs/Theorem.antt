@@ -10,10 +10,10 @@ use borrow.Author.Tests.{le-leb, lt-leb, leb-true}
 use Rattle.lines.proofs.Bools.{clash}
 use Rattle.places.specs.Places.{Pair, startOf, lengthOf, valueAt, cleared}
 use Rattle.places.proofs.Laws.{cleared-length, cleared-drop, cleared-zero}
-use Rattle.tables.specs.File.{File, ac2, drift, suspension, gas, files, hasAxles, sections, room, firstPair, leastPlaces, mostAxles}
+use Rattle.tables.specs.File.{File, ac2, drift, suspension, gas, files, hasAxles, sections, room, firstPair, leastPlaces}
 use Rattle.tables.proofs.Axles.{entries-most}
 use Rattle.reading.specs.Fitting.{StartOf}
-use Rattle.files.specs.Files.{AxleCount}
+use Rattle.files.proofs.Pairs.{few-axles}
 use Rattle.due.specs.Booking.{bookingIn}
 use Rattle.places.proofs.Values.{value-length}
 use Rattle.rules.specs.Slices.{goodStem, statedOf, isRead}
@@ -25,11 +25,6 @@ use Rattle.sets.specs.Demand3.{IsAccepted, markOf, Placed, Returned, Exa
 use Rattle.sets.proofs.Steps.{require-inv}
 use Rattle.sets.proofs.Places.{pairAt, within-get, used-pair, unused-pair, places-beyond, places-length}
 use Rattle.sets.proofs.Set.{recordOf, SetPassed, slices-sound, counted, no-values, passed-lawful, passed-fits, slices-complete}
-
--- a count of axles is at most nine
-few-axles : (b : Bool) (n : ℕ) → AxleCount b n → n ≤ mostAxles
-few-axles true n c = c .1
-few-axles false n c = omega arith
 
 no-mark : (f : File) → isMarked f [] ≡ false
 unfolding isMarked

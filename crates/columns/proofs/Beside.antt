@@ -1,0 +1,186 @@
+-- A file beside what AC2 says: what each call of `column_beside` asks, and a law for each way out. Assumes nothing.
+use Prim.Native.Nat.{ℕ, _+_, _-_, _≤_, _<_}
+use native.Mathlib.Omega.{arith}
+use mathlib.Core.Path.{_≡_, refl, ap, ap₂, sym, subst, _∙_}
+use mathlib.Core.Bool.{Bool, true, false, cond}
+use mathlib.Core.List.{List, [], _++_, map}
+use lib.ListN.{length, drop}
+use borrow.Author.Tests.{le-leb, lt-leb}
+use Rattle.refusals.specs.Refusals.{numberOf}
+use Rattle.refusals.specs.declared.Refusal.{Refusal}
+use Rattle.refusals.specs.declared.RefusalKind.the-variants.{OutputTooShort}
+use Rattle.places.specs.Places.{setPairs, pairsAt, valueAt, valuesAt, cleared, Within}
+use Rattle.tables.specs.Section.{Section, entriesOf}
+use Rattle.tables.specs.Row.{rowsBefore}
+use Rattle.tables.specs.File.{File, ac2, acc, drift, suspension, gas, ofNumber, fixedSections, allSections, entries, room, firstPair, leastPlaces, tableOf}
+use Rattle.tables.proofs.Files.{table-of}
+use Rattle.tables.proofs.Numbers.{first-pairs}
+use Rattle.tables.proofs.Axles.{entries-most}
+use Rattle.reading.specs.Reading.{Reading}
+use Rattle.reading.proofs.Sections.{rows-entries}
+use Rattle.files.specs.Files.{axlesOf}
+use Rattle.files.specs.Alone.{readAlone, ReadsAlone}
+use Rattle.files.specs.declared.FileAnswer.{FileAnswer}
+use Rattle.files.specs.declared.FileAnswer.the-variants as FileAnswer
+use Rattle.files.proofs.Pairs.{same-file, AloneRead, rooms-fit, refused-inv, by-alone, alone-few, alone-sections, alone-length, alone-pairs, alone-cleared}
+use Rattle.due.specs.Booking.{bookingIn}
+use Rattle.due.specs.Conditions.{linksIn, withLinks, conditionsOf, gasValues, gasValuesIn}
+use Rattle.due.specs.Due.{dueOf, dueIn}
+use Rattle.due.specs.declared.Booking.{Booking}
+use Rattle.due.specs.declared.Conditions.{Conditions}
+use Rattle.due.proofs.Entries.{due-file, gas-values-file}
+use Rattle.rules.specs.Slices.{isRead}
+use Rattle.rules.proofs.Pairs.{gas-room}
+use Rattle.columns.specs.Column.{numbersFrom, columnOf, Outcome, refuses, gives, givesFile, givesRead, givesBeside, fitting, refusal, column, Gives}
+use Rattle.columns.specs.declared.ColumnAnswer.{ColumnAnswer}
+use Rattle.columns.specs.declared.ColumnAnswer.the-variants.{Column, Refused}
+use Rattle.columns.proofs.Numbers.{numbers-length, numbers-same}
+
+-- values that are gas's alone
+gas-same : (f : File) (v w : List (List ℕ)) → (f ≡ gas → v ≡ w) → gasValues f v ≡ gasValues f w
+gas-same ac2 v w h = refl
+gas-same acc v w h = refl
+gas-same drift v w h = refl
+gas-same suspension v w h = refl
+gas-same gas v w h = h refl
+
+module _ (file : ℕ) (t p q : List ℕ) (n : ℕ) (x : AloneRead file t p q n) where
+  abbrev f : File
+  f = x .file
+
+  abbrev own : List (List ℕ)
+  own = map (valueAt t) (x .pairs)
+
+  abbrev size : ℕ
+  size = length (entries f n)
+
+  -- ---- what is asked
+
+  module _ (k : ℕ) (ek : k ≡ ofNumber 0 (λ f. length (fixedSections f)) file) where
+    sections-are : n + k ≡ x .count
+    sections-are = omega (arith, ek, by-alone x 0 (λ f. length (fixedSections f)), x .axles-are, x .least)
+
+    pub sections-few : n + k ≤ 10
+    sections-few = omega (arith, sections-are, alone-sections x)
+
+    module _ (r : ℕ) (er : r ≡ rowsBefore (tableOf file) (n + k)) where
+      rows-are : r ≡ n + k + size
+      unfolding entries
+      rows-are =
+          er ∙ ap₂ (λ (y : List Section) (m : ℕ). rowsBefore y m) (ap tableOf (x .number-is) ∙ table-of f) sections-are
+          ∙ rows-entries (allSections f) (x .count) (x .most)
+          ∙ ap₂ (λ (m : ℕ) (y : List Section). m + length (entriesOf y)) (sym sections-are) (x .is .counted .sections-are)
+          ∙ ap (λ (m : ℕ). n + k + length (entries f m)) (sym (x .axles-are))
+
+      pub rows-enough : n + k ≤ r
+      rows-enough = omega (arith, rows-are)
+
+      pub count-is : r - (n + k) ≡ size
+      count-is = omega (arith, rows-are)
+
+      pub count-few : r - (n + k) ≤ 139
+      count-few = omega (arith, count-is, entries-most f n (alone-few x), rooms-fit f, first-pairs .5)
+
+  gas-pairs : f ≡ gas → pairsAt q (firstPair gas) (room gas) ≡ x .pairs
+  gas-pairs e =
+      ap (λ (m : ℕ). pairsAt q (firstPair gas) m) (gas-room n)
+      ∙ ap (λ (g : File). pairsAt q (firstPair g) (length (entries g n))) (sym e) ∙ alone-pairs x
+
+  pub conditions-ready : (278 ≤ length q) × (file ≡ 5 → Within t (pairsAt q (firstPair gas) (room gas)))
+  conditions-ready = (
+    omega (arith, alone-length x, x .enough, first-pairs .5),
+    λ e. subst (Within t) (sym (gas-pairs (same-file f gas file (x .number-is) e))) (x .is .within),
+  )
+
+  -- ---- the column
+
+  module _ (a : List (List ℕ)) (b : Booking) (eb : b ≡ bookingIn a) (c : Conditions) (ec : c ≡ withLinks b (linksIn (gasValuesIn file (valuesAt t q (firstPair gas) (room gas))))) where
+    conditions-are : c ≡ conditionsOf a (gasValues f own)
+    unfolding conditionsOf
+    conditions-are =
+        let v = valuesAt t q (firstPair gas) (room gas) in
+        let g : gasValuesIn file v ≡ gasValues f own
+        = ap (λ (m : ℕ). gasValuesIn m v) (x .number-is) ∙ gas-values-file f v ∙ gas-same f v own (λ e. ap (map (valueAt t)) (gas-pairs e)) in
+        ec ∙ ap₂ (λ (y : Booking) (z : List (List ℕ)). withLinks y (linksIn z)) eb g
+
+    pub column-is : (m : ℕ) → m ≡ size → numbersFrom (λ i. dueIn file i c) 0 m ≡ columnOf f (axlesOf f (x .count)) a own
+    unfolding columnOf
+    column-is m em =
+        numbers-same (λ i. dueIn file i c) (λ i. dueOf f i (conditionsOf a (gasValues f own))) (λ i. ap₂ (λ (j : ℕ) (y : Conditions). dueIn j i y) (x .number-is) conditions-are ∙ due-file f i (conditionsOf a (gasValues f own))) 0 m
+        ∙ ap (numbersFrom (λ i. dueOf f i (conditionsOf a (gasValues f own))) 0) (em ∙ ap (λ (j : ℕ). length (entries f j)) (x .axles-are))
+
+  column-size : (a : List (List ℕ)) → length (columnOf f (axlesOf f (x .count)) a own) ≡ size
+  unfolding columnOf
+  column-size a =
+      numbers-length (λ i. dueOf f i (conditionsOf a (gasValues f own))) 0 (length (entries f (axlesOf f (x .count))))
+      ∙ ap (λ (j : ℕ). length (entries f j)) (sym (x .axles-are))
+
+  outcome-is : (a : List (List ℕ)) → givesRead file a t (readAlone file t) ≡ givesFile f a t (x .count) (x .pairs)
+  outcome-is a = ap (givesRead file a t) (x .reading-is) ∙ by-alone x (refuses 16 file 0) (λ f. givesFile f a t (x .count) (x .pairs))
+
+  -- ---- 18, or the column
+
+  module _ (out : List ℕ) (a : List (List ℕ)) (m : ℕ) (em : m ≡ size) where
+    abbrev read-as : Outcome
+    read-as = givesFile f a t (x .count) (x .pairs)
+
+    many : length (columnOf f (axlesOf f (x .count)) a own) ≡ m
+    many = column-size a ∙ sym em
+
+    pub too-short : length out < m → (k : ℕ) → k ≡ leastPlaces
+        → Gives file (fitting file (length out) (givesRead file a t (readAlone file t))) p (cleared k q) out out (Refused (record { kind = OutputTooShort; file = file; line = 0 }))
+    too-short l k ek =
+        let o : fitting file (length out) (givesRead file a t (readAlone file t)) ≡ refuses 18 file 0
+        = ap (fitting file (length out)) (outcome-is a)
+        ∙ ap (λ (y : Bool). cond y read-as (refuses 18 file 0)) (lt-leb (length (columnOf f (axlesOf f (x .count)) a own)) (length out) (omega (arith, many, l))) in
+        rw o (record {
+          answer = refl;
+          places = rw (le-leb leastPlaces (length p) (x .enough)) (ap (λ (j : ℕ). cleared j q) ek ∙ alone-cleared x);
+          column = refl;
+        })
+
+    pub given : m ≤ length out → (c : Conditions) → numbersFrom (λ i. dueIn file i c) 0 m ≡ columnOf f (axlesOf f (x .count)) a own
+        → Gives file (fitting file (length out) (givesRead file a t (readAlone file t))) p q out (numbersFrom (λ i. dueIn file i c) 0 m ++ drop m out) (Column (record { axles = n; count = m }))
+    given l c ec =
+        let o : fitting file (length out) (givesRead file a t (readAlone file t)) ≡ read-as
+        = ap (fitting file (length out)) (outcome-is a)
+        ∙ ap (λ (y : Bool). cond y read-as (refuses 18 file 0)) (le-leb (length (columnOf f (axlesOf f (x .count)) a own)) (length out) (omega (arith, many, l))) in
+        rw o (record {
+          answer = ap₂ (λ (j y : ℕ). column j y) (x .axles-are) (sym many);
+          places = x .places-are ∙ ap (λ (j : ℕ). setPairs j (x .pairs) (cleared leastPlaces p)) (sym (by-alone x 0 firstPair));
+          column = ap₂ (λ (y : List ℕ) (j : ℕ). y ++ drop j out) ec (sym many);
+        })
+
+-- ---- the ways out of `column_beside`
+
+module _ (file : ℕ) (t p out : List ℕ) (b : Booking) (u : Bool) (eu : u ≡ ofNumber true (λ f. isRead f b true) file) (a : List (List ℕ)) (eb : b ≡ bookingIn a) where
+  abbrev Left : List ℕ → List ℕ → ColumnAnswer → Type 0
+  Left q after r = Gives file (fitting file (length out) (givesBeside file a t)) p q out after r
+
+  test : (v : Bool) → u ≡ v → givesBeside file a t ≡ cond v (givesRead file a t (readAlone file t)) (gives 0 [] [])
+  test v e =
+      ap (λ (y : Bool). cond y (givesRead file a t (readAlone file t)) (gives 0 [] []))
+      (ap (λ (y : Booking). ofNumber true (λ f. isRead f y true) file) (sym eb) ∙ sym eu ∙ e)
+
+  pub beside-unread : u ≡ false → (k : ℕ) → k ≡ leastPlaces → Left (cleared k p) out (Column (record { axles = 0; count = 0 }))
+  unfolding setPairs
+  beside-unread e k ek =
+      let o : fitting file (length out) (givesBeside file a t) ≡ gives 0 [] []
+      = ap (fitting file (length out)) (test false e)
+      ∙ ap (λ (y : Bool). cond y (gives 0 [] []) (refuses 18 file 0)) (le-leb 0 (length out) (omega arith)) in
+      rw o (record { answer = refl; places = ap (λ (j : ℕ). cleared j p) ek; column = refl })
+
+  -- of a file that is read
+  pub beside-read : u ≡ true → (q after : List ℕ) (r : ColumnAnswer) → Gives file (fitting file (length out) (givesRead file a t (readAlone file t))) p q out after r → Left q after r
+  beside-read e q after r g = subst (λ (y : Outcome). Gives file (fitting file (length out) y) p q out after r) (sym (test true e)) g
+
+  pub beside-refused : u ≡ true → leastPlaces ≤ length p → (q : List ℕ) (r : FileAnswer) → ReadsAlone file t p q r → (x : Refusal) → r ≡ FileAnswer.Refused x → Left q out (Refused x)
+  beside-refused e l q r w x ex =
+      let v = refused-inv w x ex l in
+      let o : fitting file (length out) (givesRead file a t (readAlone file t)) ≡ refuses (numberOf (x .kind)) file (x .line)
+      = ap (λ (y : Reading). fitting file (length out) (givesRead file a t y)) (v .0) in
+      beside-read e q out (Refused x) (rw o (record {
+        answer = ap (λ (m : ℕ). refusal (numberOf (x .kind)) m (x .line)) (sym (v .1));
+        places = rw (le-leb leastPlaces (length p) l) (v .2);
+        column = refl;
+      }))

@@ -1,0 +1,4 @@
+pub mod Numbers
+pub mod Beside
+pub mod After
+pub mod Ten

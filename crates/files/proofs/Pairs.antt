@@ -1,0 +1,180 @@
+-- The pairs of a file that was read stand in the places; and what an answer of reading alone says. Assumes nothing.
+use Prim.Native.Nat.{ℕ, _+_, _*_, _-_, _≤_, _<_}
+use native.Mathlib.Omega.{arith}
+use mathlib.Core.Path.{_≡_, refl, ap, ap₂, sym, subst, _∙_}
+use mathlib.Core.Bool.{Bool, true, false, cond}
+use mathlib.Core.Option.{some}
+use mathlib.Core.List.{List}
+use lib.Dec.{eqb, leb}
+use lib.ListN.{length}
+use borrow.Author.Tests.{leb-true, le-leb, lt-leb}
+use Rattle.lines.proofs.Bools.{clash}
+use Rattle.refusals.specs.Refusals.{numberOf}
+use Rattle.refusals.specs.declared.Refusal.{Refusal}
+use Rattle.places.specs.Places.{Pair, setPairs, pairsAt, cleared, Within}
+use Rattle.places.proofs.Laws.{set-length, pairs-set, drop-pairs, cleared-length, cleared-drop}
+use Rattle.tables.specs.Section.{Section}
+use Rattle.tables.specs.File.{File, fileNumber, fileOf, isFile, ofNumber, hasAxles, fixedSections, allSections, leastSections, entries, room, firstPair, leastPlaces, tableOf}
+use Rattle.tables.proofs.Files.{of-file, table-of, file-of, is-file}
+use Rattle.tables.proofs.Numbers.{room-in}
+use Rattle.tables.proofs.Axles.{entries-most}
+use Rattle.reading.specs.Reading.{Reading, refused, read}
+use Rattle.reading.proofs.Tables.{tables-distinct}
+use Rattle.reading.proofs.Theorem.{sound}
+use Rattle.files.specs.Files.{readBy, readFile, readNumbered, axlesOf, AxleCount}
+use Rattle.files.specs.Alone.{refusal, acceptance, answerIs, answerOf, pairsSet, readGiven, readAlone, aloneAnswer, alonePlaces, ReadsAlone}
+use Rattle.files.specs.declared.FileAcceptance.{FileAcceptance}
+use Rattle.files.specs.declared.FileAnswer.{FileAnswer}
+use Rattle.files.specs.declared.FileAnswer.the-variants.{Accepted, Refused}
+use Rattle.files.proofs.Theorem.{by-inv, FileRead, read-sound}
+use Rattle.files.proofs.Alone.{fixed-least, few-sections}
+
+-- what is said of a file's number is said of the file
+by-number : {A : Type 0} (d : A) (g : File → A) (f : File) (n : ℕ) → n ≡ fileNumber f → ofNumber d g n ≡ g f
+by-number d g f n e = ap (ofNumber d g) e ∙ of-file d g f
+
+-- a number has one file
+pub same-file : (f g : File) (n : ℕ) → n ≡ fileNumber f → n ≡ fileNumber g → f ≡ g
+same-file f g n d e =
+    let h : some f ≡ some g = sym (file-of f) ∙ ap fileOf (sym d ∙ e) ∙ file-of g in
+    cc
+
+-- ---- pairs of a file that was read
+
+-- a count of axles is at most nine
+pub few-axles : (b : Bool) (n : ℕ) → AxleCount b n → n ≤ 9
+few-axles true n c = c .1
+few-axles false n c = omega arith
+
+pub rooms-fit : (f : File) → 2 * (firstPair f + room f) ≤ leastPlaces
+unfolding leastPlaces
+rooms-fit f = omega (arith, room-in f)
+
+pub pairs-fit : (f : File) (t : List ℕ) (c : ℕ) (ps : List Pair) → FileRead f t c ps → 2 * (firstPair f + length ps) ≤ leastPlaces
+pairs-fit f t c ps r = omega (arith, r .many, entries-most f (axlesOf f c) (few-axles (hasAxles f) (axlesOf f c) (r .counted .count)), rooms-fit f)
+
+-- the pairs that were set are there
+pub own-pairs : (f : File) (n : ℕ) (ps : List Pair) (p : List ℕ) → length ps ≡ length (entries f n) → 2 * (firstPair f + length ps) ≤ leastPlaces → leastPlaces ≤ length p
+    → pairsAt (setPairs (firstPair f) ps p) (firstPair f) (length (entries f n)) ≡ ps
+own-pairs f n ps p m h l =
+    ap (λ (k : ℕ). pairsAt (setPairs (firstPair f) ps p) (firstPair f) k) (sym m) ∙ pairs-set (firstPair f) ps p (omega (arith, h, l))
+
+-- ---- a text that was read alone
+
+alone-inv : (n : ℕ) (s : List ℕ) (c : ℕ) (ps : List Pair) (ls : List ℕ) → readAlone n s ≡ read c ps ls → (isFile n ≡ true) × (readNumbered n s ≡ read c ps ls)
+unfolding readAlone readGiven
+alone-inv n s c ps ls e = go (isFile n) refl e
+  where
+    full : (b : Bool) → cond b (refused 11 0) (readNumbered n s) ≡ read c ps ls → readNumbered n s ≡ read c ps ls
+    full true e = clash (cc)
+    full false e = e
+
+    go : (b : Bool) → isFile n ≡ b → cond b (readGiven n s) (refused 16 0) ≡ read c ps ls → (isFile n ≡ true) × (readNumbered n s ≡ read c ps ls)
+    go true h e = (h, full (eqb (length s) 0) e)
+    go false h e = clash (cc)
+
+-- what acceptance with this axle count says: places p before, q after
+pub record AloneRead (n : ℕ) (s p q : List ℕ) (axles : ℕ) : Type 0 where
+  pub enough : leastPlaces ≤ length p
+  pub file : File
+  pub number-is : n ≡ fileNumber file
+  pub count : ℕ
+  pub pairs : List Pair
+  pub lines : List ℕ
+  pub reading-is : readAlone n s ≡ read count pairs lines
+  pub is : FileRead file s count pairs
+  pub least : length (fixedSections file) ≤ count
+  pub most : count ≤ length (allSections file)
+  pub axles-are : axles ≡ axlesOf file count
+  pub places-are : q ≡ setPairs (firstPair file) pairs (cleared leastPlaces p)
+
+module _ (n : ℕ) (s p q : List ℕ) (axles : ℕ) (l : leastPlaces ≤ length p) (c : ℕ) (ps : List Pair) (ls : List ℕ) where
+  alone-read : readAlone n s ≡ read c ps ls → acceptance axles ≡ answerOf n (read c ps ls) → q ≡ pairsSet n (read c ps ls) (cleared leastPlaces p) → AloneRead n s p q axles
+  alone-read e a d =
+      let v = alone-inv n s c ps ls e in
+      let f : File = is-file n (v .0) .0 in
+      let g : n ≡ fileNumber f = is-file n (v .0) .1 in
+      let fixed : ofNumber 0 (λ f. length (fixedSections f)) n ≡ length (fixedSections f) = by-number 0 (λ f. length (fixedSections f)) f n g in
+      let some : ofNumber 0 leastSections n ≡ leastSections f = by-number 0 leastSections f n g in
+      let r : readFile f s ≡ read c ps ls = sym (ap₂ (λ (t : List Section) (m : ℕ). readBy t m s) (ap tableOf g ∙ table-of f) some) ∙ v .1 in
+      let i = sound (allSections f) (leastSections f) s (tables-distinct f) c ps ls (by-inv (allSections f) (leastSections f) s c ps ls r .1) .is in
+      let k : axles ≡ c - ofNumber 0 (λ f. length (fixedSections f)) n = cc in
+      record {
+        enough = l;
+        file = f;
+        number-is = g;
+        count = c;
+        pairs = ps;
+        lines = ls;
+        reading-is = e;
+        is = read-sound f s c ps ls r;
+        least = omega (arith, fixed-least n, i .enough);
+        most = i .most;
+        axles-are = k ∙ ap (λ (m : ℕ). c - m) fixed;
+        places-are = d ∙ ap (λ (m : ℕ). setPairs m ps (cleared leastPlaces p)) (by-number 0 firstPair f n g);
+      }
+
+module _ {n : ℕ} {s p q : List ℕ} {r : FileAnswer} (w : ReadsAlone n s p q r) where
+  pub accepted-inv : (x : FileAcceptance) → r ≡ Accepted x → AloneRead n s p q (x .axles)
+  unfolding aloneAnswer alonePlaces
+  accepted-inv x e = go (leb leastPlaces (length p)) refl (sym (ap answerIs e) ∙ w .answer) (w .places)
+    where
+      given : leastPlaces ≤ length p → (v : Reading) → readAlone n s ≡ v → acceptance (x .axles) ≡ answerOf n v → q ≡ pairsSet n v (cleared leastPlaces p) → AloneRead n s p q (x .axles)
+      given l (refused k i) h a d = clash (cc)
+      given l (read c ps ls) h a d = alone-read n s p q (x .axles) l c ps ls h a d
+
+      go : (b : Bool) → leb leastPlaces (length p) ≡ b → acceptance (x .axles) ≡ cond b (answerOf n (readAlone n s)) (refusal 1 0 0)
+          → q ≡ cond b (pairsSet n (readAlone n s) (cleared leastPlaces p)) p → AloneRead n s p q (x .axles)
+      go true h a d = given (leb-true leastPlaces (length p) h) (readAlone n s) refl a d
+      go false h a d = clash (cc)
+
+  -- where there are places enough
+  pub refused-inv : (x : Refusal) → r ≡ Refused x → leastPlaces ≤ length p
+      → (readAlone n s ≡ refused (numberOf (x .kind)) (x .line)) × (n ≡ x .file) × (q ≡ cleared leastPlaces p)
+  unfolding aloneAnswer alonePlaces
+  refused-inv x e l =
+      let b = le-leb leastPlaces (length p) l in
+      given (readAlone n s) refl (rw b at (sym (ap answerIs e) ∙ w .answer)) (rw b at (w .places))
+    where
+      given : (v : Reading) → readAlone n s ≡ v → refusal (numberOf (x .kind)) (x .file) (x .line) ≡ answerOf n v → q ≡ pairsSet n v (cleared leastPlaces p)
+          → (readAlone n s ≡ refused (numberOf (x .kind)) (x .line)) × (n ≡ x .file) × (q ≡ cleared leastPlaces p)
+      given (refused k i) h a d = (cc, cc, d)
+      given (read c ps ls) h a d = clash (cc)
+
+  pub short-inv : (x : Refusal) → r ≡ Refused x → length p < leastPlaces → (refusal (numberOf (x .kind)) (x .file) (x .line) ≡ refusal 1 0 0) × (q ≡ p)
+  unfolding aloneAnswer alonePlaces
+  short-inv x e l =
+      let b = lt-leb leastPlaces (length p) l in
+      (rw b at (sym (ap answerIs e) ∙ w .answer), rw b at (w .places))
+
+module _ {n : ℕ} {s p q : List ℕ} {axles : ℕ} (x : AloneRead n s p q axles) where
+  -- what is said of the number is said of the file
+  pub by-alone : {A : Type 0} (d : A) (g : File → A) → ofNumber d g n ≡ g (x .file)
+  by-alone d g = by-number d g (x .file) n (x .number-is)
+
+  pub alone-few : axles ≤ 9
+  alone-few = omega (arith, x .axles-are, few-axles (hasAxles (x .file)) (axlesOf (x .file) (x .count)) (x .is .counted .count))
+
+  pub alone-sections : x .count ≤ 10
+  alone-sections = omega (arith, x .most, few-sections n, ap length (ap tableOf (x .number-is) ∙ table-of (x .file)))
+
+  pub alone-many : length (x .pairs) ≡ length (entries (x .file) axles)
+  alone-many = x .is .many ∙ ap (λ (m : ℕ). length (entries (x .file) m)) (sym (x .axles-are))
+
+  pub alone-length : length q ≡ length p
+  alone-length = ap length (x .places-are) ∙ set-length (firstPair (x .file)) (x .pairs) (cleared leastPlaces p) ∙ cleared-length leastPlaces p (x .enough)
+
+  -- its pairs are those of the text
+  pub alone-pairs : pairsAt q (firstPair (x .file)) (length (entries (x .file) axles)) ≡ x .pairs
+  alone-pairs =
+      ap (λ (y : List ℕ). pairsAt y (firstPair (x .file)) (length (entries (x .file) axles))) (x .places-are)
+      ∙ own-pairs (x .file) axles (x .pairs) (cleared leastPlaces p) alone-many (pairs-fit (x .file) s (x .count) (x .pairs) (x .is)) (omega (arith, cleared-length leastPlaces p (x .enough), x .enough))
+
+  pub alone-within : Within s (pairsAt q (firstPair (x .file)) (length (entries (x .file) axles)))
+  alone-within = subst (Within s) (sym alone-pairs) (x .is .within)
+
+  -- past the pairs nothing was written
+  pub alone-cleared : cleared leastPlaces q ≡ cleared leastPlaces p
+  alone-cleared =
+      ap (cleared leastPlaces) (x .places-are)
+      ∙ simp (drop-pairs leastPlaces (firstPair (x .file)) (x .pairs) (cleared leastPlaces p) (pairs-fit (x .file) s (x .count) (x .pairs) (x .is)), cleared-drop leastPlaces p)
