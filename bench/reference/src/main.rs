@@ -15,7 +15,7 @@ use std::path::Path;
 use std::process::ExitCode;
 use std::time::Instant;
 
-use outside::judge::{Judge, Reference, Set, ANSWER};
+use outside::judge::{Reference, Set};
 use outside::reference::judging::{judge_set, read_alone};
 use outside::reference::tables::GAS;
 use outside::reference::PLACES;
@@ -75,13 +75,12 @@ fn load(folder: &Path) -> Result<Set, String> {
 }
 
 fn check(set: &Set) {
-    let mut places = [0; PLACES];
-    let mut answer = [0; ANSWER];
-    Reference.judge(set, &mut places, &mut answer);
-    for number in answer {
+    let outcome = Reference.judge(set);
+    for number in outcome.answer {
         print!("{number} ");
     }
-    let sum = places
+    let sum = outcome
+        .places
         .iter()
         .fold(0u32, |sum, place| sum.wrapping_mul(31).wrapping_add(*place));
     println!("{sum}");

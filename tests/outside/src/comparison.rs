@@ -1,22 +1,48 @@
 //! Generated calls, made by a judge and by the reference and compared: the answer, every
-//! place, every output byte.
+//! place, every number of a column, every output byte.
 
 use crate::generator::{self, Record};
 use crate::judge::{
-    answer_before, make, make_with_answer, places_before, Call, Judge, Outcome, Reference, ANSWER,
-    OUTPUT_BEFORE, SHORT_ANSWER,
+    answer_before, column_before, make, make_with_answer, places_before, Call, Judge, Outcome,
+    Reference, ANSWER, OUTPUT_BEFORE, SHORT_ANSWER,
 };
 use crate::mutator;
 use crate::random::Random;
-use crate::reference::tables::{table, AC2, DRIFT, GAS, SUSPENSION};
+use crate::reference::tables::{
+    entry_name, heading_name, table, AC2, DRIFT, GAS, IDENTIFICATION, SUSPENSION,
+};
 use crate::reference::PLACES;
 use crate::replay::to_text;
 use crate::report::Report;
 
+/// How many calls of each sort are generated.
+#[derive(Clone, Copy)]
+pub struct Amounts {
+    pub sets: u64,
+    pub reads: u64,
+    pub writes: u64,
+    pub columns: u64,
+}
+
 /// Calls of each sort in one run.
-pub const SETS: u64 = 100_000;
-pub const READS: u64 = 20_000;
-pub const WRITES: u64 = 20_000;
+pub const ONE_RUN: Amounts = Amounts {
+    sets: 100_000,
+    reads: 20_000,
+    writes: 20_000,
+    columns: 40_000,
+};
+
+impl Amounts {
+    /// So many times as many.
+    pub fn times(self, runs: u64) -> Amounts {
+        Amounts {
+            sets: runs * self.sets,
+            reads: runs * self.reads,
+            writes: runs * self.writes,
+            columns: runs * self.columns,
+        }
+    }
+}
 
 /// Calls of each sort that are also made with answer arrays of other lengths.
 const OTHER_ANSWERS: u64 = 500;
@@ -27,6 +53,7 @@ const REWRITTEN: u64 = 10;
 const FIRST_SET: u64 = 1 << 40;
 const FIRST_READ: u64 = 2 << 40;
 const FIRST_WRITE: u64 = 3 << 40;
+const FIRST_COLUMN: u64 = 4 << 40;
 
 /// A generated call.
 pub struct Case {
@@ -42,11 +69,10 @@ fn accepted(values: &[u32], places: Vec<u32>, output: Vec<u8>) -> Outcome {
     let mut answer = vec![0; ANSWER];
     answer[3..3 + values.len()].copy_from_slice(values);
     Outcome {
-        returned: 0,
         answer,
         places,
         output,
-        touched_outside: false,
+        ..Outcome::default()
     }
 }
 
@@ -145,6 +171,65 @@ pub fn write_case(seed: u64) -> Case {
     }
 }
 
+/// The due column of one file.
+pub fn column_case(seed: u64) -> Case {
+    let mut random = Random::new(seed);
+    let column = mutator::columns::column(&mut random);
+    let places = places_before(mutator::places_length(&mut random));
+    let call = Call::Due {
+        file: column.file,
+        ac2: column.ac2,
+        text: column.text,
+        places,
+        column: column_before(column.length),
+    };
+    Case {
+        seed,
+        call,
+        changes: column.changes,
+        known: None,
+    }
+}
+
+/// Numbers that are no entry's and no section's in any file.
+const PAST_ALL: [u32; 5] = [64, 255, 256, 65_536, u32::MAX];
+
+/// Every name and heading, numbers past the last, and files that have none; the output too short, just long enough
+/// and longer.
+pub fn name_cases() -> Vec<Case> {
+    let files = (0..=IDENTIFICATION + 1).chain(PAST_ALL);
+    let numbers = || (0..60).chain(PAST_ALL);
+    let pairs = files.flat_map(|file| numbers().map(move |number| (file, number)));
+    pairs
+        .flat_map(|(file, number)| {
+            let entry = entry_name(file, number).map_or(0, |(name, _)| name.len());
+            let heading = heading_name(file, number).map_or(0, str::len);
+            let entries = output_sizes(entry).map(move |size| Call::EntryName {
+                file,
+                entry: number,
+                output: vec![OUTPUT_BEFORE; size],
+            });
+            let headings = output_sizes(heading).map(move |size| Call::HeadingName {
+                file,
+                section: number,
+                output: vec![OUTPUT_BEFORE; size],
+            });
+            entries.chain(headings)
+        })
+        .map(|call| Case {
+            seed: 0,
+            call,
+            changes: Vec::new(),
+            known: None,
+        })
+        .collect()
+}
+
+/// Sizes of the output about the length of a name.
+fn output_sizes(length: usize) -> impl Iterator<Item = usize> {
+    [0, length.saturating_sub(1), length, length + 1, 64].into_iter()
+}
+
 /// Answer, and what differs from the other outcome.
 fn describe(name: &str, outcome: &Outcome, other: &Outcome) -> String {
     let mut text = format!(
@@ -160,6 +245,11 @@ fn describe(name: &str, outcome: &Outcome, other: &Outcome) -> String {
     for (at, (a, b)) in outcome.places.iter().zip(&other.places).enumerate() {
         if a != b {
             text += &format!("  place {at}: {a}\n");
+        }
+    }
+    for (at, (a, b)) in outcome.column.iter().zip(&other.column).enumerate() {
+        if a != b {
+            text += &format!("  column {at}: {a}\n");
         }
     }
     for (at, (a, b)) in outcome.output.iter().zip(&other.output).enumerate() {
@@ -207,17 +297,11 @@ pub fn compare(subject: &dyn Judge, case: &Case) -> Result<Outcome, String> {
 
 /// The call with answer arrays that are too short, or longer than needed.
 fn compare_other_answers(subject: &dyn Judge, case: &Case) -> Result<(), String> {
-    let (places_before, output_before) = match &case.call {
-        Call::Judge { places, .. } | Call::Read { places, .. } => (places.clone(), Vec::new()),
-        Call::Write { places, output, .. } => (places.clone(), output.clone()),
-    };
     for length in [0, 1, 15] {
         let untouched = Outcome {
             returned: SHORT_ANSWER,
             answer: answer_before(length),
-            places: places_before.clone(),
-            output: output_before.clone(),
-            touched_outside: false,
+            ..case.call.before()
         };
         let found = make_with_answer(subject, &case.call, length);
         if found != untouched {
@@ -349,45 +433,81 @@ fn compare_rewritten(subject: &dyn Judge, case: &Case, outcome: &Outcome) -> Res
     Ok(())
 }
 
-/// Makes and compares the calls of `runs` runs.
-pub fn run(subject: &dyn Judge, runs: u64) -> Result<Report, String> {
-    run_of(subject, runs * SETS, runs * READS, runs * WRITES)
+/// In a lawful file each entry is filled or empty as the column says.
+fn check_column_of_lawful(case: &Case, outcome: &Outcome) -> Result<(), String> {
+    let Call::Due { file, .. } = &case.call else {
+        return Ok(());
+    };
+    let first = table(*file).first_pair;
+    let pairs = outcome.places[2 * first..].chunks(2);
+    let column = &outcome.column[..outcome.answer[4] as usize];
+    let agrees = |(due, pair): (&u32, &[u32])| *due == if pair[1] > 0 { 1 } else { 2 } || *due == 3;
+    if column.iter().zip(pairs).all(agrees) {
+        return Ok(());
+    }
+    let name = Reference.name();
+    let both = (name, outcome);
+    Err(difference(
+        "a lawful file disagrees with its column",
+        case,
+        both,
+        both,
+    ))
 }
 
-/// Makes and compares so many calls of each sort.
-pub fn run_of(subject: &dyn Judge, sets: u64, reads: u64, writes: u64) -> Result<Report, String> {
-    let mut report = Report::default();
-    for at in 0..sets {
-        let case = set_case(FIRST_SET + at);
+/// Makes the cases of one sort, with answer arrays of other lengths too; `then` looks at each outcome.
+fn run_sort(
+    subject: &dyn Judge,
+    report: &mut Report,
+    cases: impl Iterator<Item = Case>,
+    mut then: impl FnMut(&mut Report, &Case, &Outcome) -> Result<(), String>,
+) -> Result<(), String> {
+    for (case, at) in cases.zip(0..) {
         let outcome = compare(subject, &case)?;
         report.add(&case.call, outcome.refusal());
+        then(report, &case, &outcome)?;
+        if at < OTHER_ANSWERS {
+            compare_other_answers(subject, &case)?;
+        }
+    }
+    Ok(())
+}
+
+/// Makes and compares so many calls of each sort, and those for every name and heading.
+pub fn run_of(subject: &dyn Judge, amounts: Amounts) -> Result<Report, String> {
+    let mut report = Report::default();
+    let sets = (0..amounts.sets).map(|at| set_case(FIRST_SET + at));
+    let mut at = 0;
+    run_sort(subject, &mut report, sets, |report, case, outcome| {
         if outcome.accepted() && at % REWRITTEN == 0 {
-            compare_rewritten(subject, &case, &outcome)?;
+            compare_rewritten(subject, case, outcome)?;
             report.rewritten += 1;
         }
-        if at < OTHER_ANSWERS {
-            compare_other_answers(subject, &case)?;
-        }
-    }
-    for at in 0..reads {
-        let case = read_case(FIRST_READ + at);
-        let outcome = compare(subject, &case)?;
-        report.add(&case.call, outcome.refusal());
-        if at < OTHER_ANSWERS {
-            compare_other_answers(subject, &case)?;
-        }
-    }
-    for at in 0..writes {
-        let case = write_case(FIRST_WRITE + at);
-        let outcome = compare(subject, &case)?;
-        report.add(&case.call, outcome.refusal());
+        at += 1;
+        Ok(())
+    })?;
+    let reads = (0..amounts.reads).map(|at| read_case(FIRST_READ + at));
+    run_sort(subject, &mut report, reads, |_, _, _| Ok(()))?;
+    let writes = (0..amounts.writes).map(|at| write_case(FIRST_WRITE + at));
+    run_sort(subject, &mut report, writes, |report, case, outcome| {
         if outcome.accepted() {
-            compare_read_back(subject, &case, &outcome)?;
+            compare_read_back(subject, case, outcome)?;
             report.read_back += 1;
         }
-        if at < OTHER_ANSWERS {
-            compare_other_answers(subject, &case)?;
+        Ok(())
+    })?;
+    let columns = (0..amounts.columns).map(|at| column_case(FIRST_COLUMN + at));
+    run_sort(subject, &mut report, columns, |report, case, outcome| {
+        if outcome.accepted() {
+            report.add_column(&case.call, outcome);
+            if case.changes.is_empty() {
+                check_column_of_lawful(case, outcome)?;
+            }
         }
-    }
+        Ok(())
+    })?;
+    run_sort(subject, &mut report, name_cases().into_iter(), |_, _, _| {
+        Ok(())
+    })?;
     Ok(report)
 }

@@ -1,8 +1,9 @@
-//! The three calls, the trait that both judges implement, and one call made.
+//! The calls, the trait that the judges implement, and one call made.
 
-use crate::reference::judging::{judge_set, read_alone, Slices};
+use crate::reference::judging::{due_alone, judge_set, read_alone, Slices};
+use crate::reference::tables::{entry_name, heading_name};
 use crate::reference::writing::write_file;
-use crate::reference::Refusal;
+use crate::reference::{Refusal, PLACES};
 
 /// The answer array holds at least this many numbers.
 pub const ANSWER: usize = 16;
@@ -37,30 +38,55 @@ impl Set {
     }
 }
 
-/// The three calls. The answer holds 01's number (0 for acceptance), file and line; with
-/// acceptance, from [3] on: axle counts of drift and suspension and the marks of drift,
-/// suspension and gas (judge), the axle count (read), the length (write); else 0. Each call
-/// gives back the number.
+/// The arrays that a call is lent, some empty where it has no use for them.
+pub struct Arrays<'a> {
+    pub places: &'a mut [u32],
+    pub column: &'a mut [u32],
+    pub output: &'a mut [u8],
+    pub answer: &'a mut [u32],
+}
+
+/// One who answers calls.
 pub trait Judge {
     fn name(&self) -> &'static str;
 
-    fn judge(&self, set: &Set, places: &mut [u32], answer: &mut [u32]) -> u32;
-
-    fn read(&self, file: u32, text: &[u8], places: &mut [u32], answer: &mut [u32]) -> u32;
-
-    fn write(
-        &self,
-        text: &[u8],
-        places: &[u32],
-        file: u32,
-        axles: u32,
-        output: &mut [u8],
-        answer: &mut [u32],
-    ) -> u32;
+    /// Makes the call. The answer holds 01's number (0 for acceptance), file and line; with
+    /// acceptance, from [3] on: axle counts of drift and suspension and the marks of drift,
+    /// suspension and gas (judge), the axle count (read), the length (write), the axle count
+    /// and the number of entries (due), the length and the number of the section (names);
+    /// else 0. What comes back is the number.
+    fn answer(&self, call: &Call, lent: Arrays) -> u32;
 }
 
 /// The reference as a judge.
 pub struct Reference;
+
+impl Judge for Reference {
+    fn name(&self) -> &'static str {
+        "reference"
+    }
+
+    fn answer(&self, call: &Call, lent: Arrays) -> u32 {
+        if lent.answer.len() < ANSWER {
+            return SHORT_ANSWER;
+        }
+        fill_answer(
+            lent.answer,
+            reference_result(call, lent.places, lent.column, lent.output),
+        )
+    }
+}
+
+impl Reference {
+    /// A whole set judged.
+    pub fn judge(&self, set: &Set) -> Outcome {
+        let call = Call::Judge {
+            set: set.clone(),
+            places: places_before(PLACES),
+        };
+        make(self, &call)
+    }
+}
 
 /// Fills the answer array: the refusal, or 0, 0, 0 and the values of the acceptance.
 fn fill_answer(answer: &mut [u32], result: Result<Vec<u32>, Refusal>) -> u32 {
@@ -74,16 +100,15 @@ fn fill_answer(answer: &mut [u32], result: Result<Vec<u32>, Refusal>) -> u32 {
     answer[0]
 }
 
-impl Judge for Reference {
-    fn name(&self) -> &'static str {
-        "reference"
-    }
-
-    fn judge(&self, set: &Set, places: &mut [u32], answer: &mut [u32]) -> u32 {
-        if answer.len() < ANSWER {
-            return SHORT_ANSWER;
-        }
-        let result = judge_set(set.as_slices(), places).map(|acceptance| {
+/// The values of an acceptance, or the refusal.
+fn reference_result(
+    call: &Call,
+    places: &mut [u32],
+    column: &mut [u32],
+    output: &mut [u8],
+) -> Result<Vec<u32>, Refusal> {
+    match call {
+        Call::Judge { set, .. } => judge_set(set.as_slices(), places).map(|acceptance| {
             vec![
                 acceptance.drift_axles,
                 acceptance.suspension_axles,
@@ -91,33 +116,34 @@ impl Judge for Reference {
                 u32::from(acceptance.suspension_mark),
                 u32::from(acceptance.gas_mark),
             ]
-        });
-        fill_answer(answer, result)
-    }
-
-    fn read(&self, file: u32, text: &[u8], places: &mut [u32], answer: &mut [u32]) -> u32 {
-        if answer.len() < ANSWER {
-            return SHORT_ANSWER;
+        }),
+        Call::Read { file, text, .. } => read_alone(*file, text, places).map(|axles| vec![axles]),
+        Call::Write {
+            text, file, axles, ..
+        } => write_file(text, places, *file, *axles, output).map(|length| vec![length as u32]),
+        Call::Due {
+            file, ac2, text, ..
+        } => due_alone(*file, ac2, text, places, column).map(|(axles, count)| vec![axles, count]),
+        Call::EntryName { file, entry, .. } => copy_name(*file, entry_name(*file, *entry), output),
+        Call::HeadingName { file, section, .. } => {
+            let heading = heading_name(*file, *section);
+            copy_name(*file, heading.map(|heading| (heading, *section)), output)
         }
-        let result = read_alone(file, text, places).map(|axles| vec![axles]);
-        fill_answer(answer, result)
     }
+}
 
-    fn write(
-        &self,
-        text: &[u8],
-        places: &[u32],
-        file: u32,
-        axles: u32,
-        output: &mut [u8],
-        answer: &mut [u32],
-    ) -> u32 {
-        if answer.len() < ANSWER {
-            return SHORT_ANSWER;
-        }
-        let result = write_file(text, places, file, axles, output);
-        fill_answer(answer, result.map(|length| vec![length as u32]))
-    }
+/// A name into the output; its length and the number of its section. 16 where there is none, 18 where the output is too
+/// short.
+fn copy_name(
+    file: u32,
+    named: Option<(&str, u32)>,
+    output: &mut [u8],
+) -> Result<Vec<u32>, Refusal> {
+    let (name, section) = named.ok_or(Refusal::new(16, file, 0))?;
+    let part = output.get_mut(..name.len());
+    part.ok_or(Refusal::new(18, file, 0))?
+        .copy_from_slice(name.as_bytes());
+    Ok(vec![name.len() as u32, section])
 }
 
 /// A call with all that it is lent, each array with what it holds before.
@@ -139,14 +165,50 @@ pub enum Call {
         axles: u32,
         output: Vec<u8>,
     },
+    Due {
+        file: u32,
+        ac2: Vec<u8>,
+        text: Vec<u8>,
+        places: Vec<u32>,
+        column: Vec<u32>,
+    },
+    EntryName {
+        file: u32,
+        entry: u32,
+        output: Vec<u8>,
+    },
+    HeadingName {
+        file: u32,
+        section: u32,
+        output: Vec<u8>,
+    },
+}
+
+impl Call {
+    /// What the arrays that it is lent, besides the answer, hold before.
+    pub fn before(&self) -> Outcome {
+        let (places, column, output): (&[u32], &[u32], &[u8]) = match self {
+            Call::Judge { places, .. } | Call::Read { places, .. } => (places, &[], &[]),
+            Call::Write { places, output, .. } => (places, &[], output),
+            Call::Due { places, column, .. } => (places, column, &[]),
+            Call::EntryName { output, .. } | Call::HeadingName { output, .. } => (&[], &[], output),
+        };
+        Outcome {
+            places: places.to_vec(),
+            column: column.to_vec(),
+            output: output.to_vec(),
+            ..Outcome::default()
+        }
+    }
 }
 
 /// All that a call gives back or leaves behind.
-#[derive(Clone, Debug, PartialEq, Eq)]
+#[derive(Clone, Debug, Default, PartialEq, Eq)]
 pub struct Outcome {
     pub returned: u32,
     pub answer: Vec<u32>,
     pub places: Vec<u32>,
+    pub column: Vec<u32>,
     pub output: Vec<u8>,
     /// Whether something before or behind a lent array was changed.
     pub touched_outside: bool,
@@ -171,6 +233,11 @@ pub fn answer_before(length: usize) -> Vec<u32> {
 /// What lent places hold before, where nothing else is said.
 pub fn places_before(length: usize) -> Vec<u32> {
     (0..length).map(|i| 0xA500_0000 + i as u32).collect()
+}
+
+/// What a lent column holds before.
+pub fn column_before(length: usize) -> Vec<u32> {
+    (0..length).map(|i| 0xB700_0000 + i as u32).collect()
 }
 
 /// What output bytes hold before.
@@ -216,34 +283,27 @@ pub fn make(judge: &dyn Judge, call: &Call) -> Outcome {
 
 /// Makes the call with an answer array of this length.
 pub fn make_with_answer(judge: &dyn Judge, call: &Call, answer_length: usize) -> Outcome {
+    let before = call.before();
     let mut answer = Lent::new(&answer_before(answer_length), 0x5EED_5EED);
-    let (before, output_before): (&[u32], &[u8]) = match call {
-        Call::Judge { places, .. } | Call::Read { places, .. } => (places, &[]),
-        Call::Write { places, output, .. } => (places, output),
+    let mut places = Lent::new(&before.places, 0x5EED_5EED);
+    let mut column = Lent::new(&before.column, 0x5EED_5EED);
+    let mut output = Lent::new(&before.output, 0x5E);
+    let lent = Arrays {
+        places: places.part(),
+        column: column.part(),
+        output: output.part(),
+        answer: answer.part(),
     };
-    let mut places = Lent::new(before, 0x5EED_5EED);
-    let mut output = Lent::new(output_before, 0x5E);
-    let returned = match call {
-        Call::Judge { set, .. } => judge.judge(set, places.part(), answer.part()),
-        Call::Read { file, text, .. } => judge.read(*file, text, places.part(), answer.part()),
-        Call::Write {
-            text, file, axles, ..
-        } => judge.write(
-            text,
-            places.part(),
-            *file,
-            *axles,
-            output.part(),
-            answer.part(),
-        ),
-    };
+    let returned = judge.answer(call, lent);
     Outcome {
         returned,
         touched_outside: answer.touched_outside()
             || places.touched_outside()
+            || column.touched_outside()
             || output.touched_outside(),
         answer: answer.into_vec(),
         places: places.into_vec(),
+        column: column.into_vec(),
         output: output.into_vec(),
     }
 }

@@ -65,13 +65,16 @@ fn run_all() -> Result<(), String> {
     let start = Instant::now();
     run_only_vectors()?;
     let subject = subject();
-    let report = comparison::run(subject.as_ref(), runs)?;
+    let amounts = comparison::ONE_RUN.times(runs);
+    let report = comparison::run_of(subject.as_ref(), amounts)?;
     println!(
-        "{}: agrees with the reference on {} sets, {} files read alone, {} writings",
+        "{}: agrees with the reference on {} sets, {} files read alone, {} writings, {} due columns, {} names and headings",
         subject.name(),
-        runs * comparison::SETS,
-        runs * comparison::READS,
-        runs * comparison::WRITES
+        amounts.sets,
+        amounts.reads,
+        amounts.writes,
+        amounts.columns,
+        report.names()
     );
     report.print();
     println!("seconds: {:.1}", start.elapsed().as_secs_f64());

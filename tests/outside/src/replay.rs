@@ -3,11 +3,13 @@
 //! - `judge stem slice1 .. slice6 | places lent`
 //! - `read file text | places lent`
 //! - `write text file axles | places | output size`
+//! - `due file ac2 text | places lent | column lent`
+//! - `entry_name file entry | output size`, `heading_name file section | output size`
 //!
 //! Bytes as hexadecimal digits, `-` for none.
 
 use crate::hex::{from_hex, to_hex};
-use crate::judge::{places_before, Call, Set, OUTPUT_BEFORE};
+use crate::judge::{column_before, places_before, Call, Set, OUTPUT_BEFORE};
 
 pub fn numbers_to_text(numbers: &[u32]) -> String {
     if numbers.is_empty() {
@@ -69,13 +71,45 @@ pub fn to_text(call: &Call) -> String {
             numbers_to_text(places),
             output.len()
         ),
+        Call::Due {
+            file,
+            ac2,
+            text,
+            places,
+            column,
+        } => format!(
+            "due {file} {} {} | {} | {}",
+            to_hex(ac2),
+            to_hex(text),
+            places.len(),
+            column.len()
+        ),
+        Call::EntryName {
+            file,
+            entry,
+            output,
+        } => format!("entry_name {file} {entry} | {}", output.len()),
+        Call::HeadingName {
+            file,
+            section,
+            output,
+        } => format!("heading_name {file} {section} | {}", output.len()),
+    }
+}
+
+fn two_numbers(text: &str) -> Result<(u32, u32), String> {
+    match numbers_from_text(text)?.as_slice() {
+        [first, second] => Ok((*first, *second)),
+        _ => Err(format!("not two numbers: {text}")),
     }
 }
 
 pub fn from_text(line: &str) -> Result<Call, String> {
     let (word, rest) = line.split_once(' ').ok_or("no call")?;
     let columns: Vec<&str> = rest.split('|').map(str::trim).collect();
-    let lent = |text: &str| number_from_text(text).map(|n| places_before(n as usize));
+    let length = |text: &str| number_from_text(text).map(|n| n as usize);
+    let lent = |text: &str| length(text).map(places_before);
+    let output = |text: &str| length(text).map(|n| vec![OUTPUT_BEFORE; n]);
     match (word, columns.as_slice()) {
         ("judge", [set, places]) => Ok(Call::Judge {
             set: set_from_text(set)?,
@@ -99,7 +133,38 @@ pub fn from_text(line: &str) -> Result<Call, String> {
                 places: numbers_from_text(places)?,
                 file: number_from_text(file)?,
                 axles: number_from_text(axles)?,
-                output: vec![OUTPUT_BEFORE; number_from_text(size)? as usize],
+                output: output(size)?,
+            })
+        }
+        ("due", [what, places, column]) => {
+            let words: Vec<&str> = what.split_whitespace().collect();
+            let [file, ac2, text] = words.as_slice() else {
+                return Err("not file and two texts".to_string());
+            };
+            Ok(Call::Due {
+                file: number_from_text(file)?,
+                ac2: from_hex(ac2)?,
+                text: from_hex(text)?,
+                places: lent(places)?,
+                column: length(column).map(column_before)?,
+            })
+        }
+        ("entry_name", [numbers, size]) => {
+            let (file, entry) = two_numbers(numbers)?;
+            let output = output(size)?;
+            Ok(Call::EntryName {
+                file,
+                entry,
+                output,
+            })
+        }
+        ("heading_name", [numbers, size]) => {
+            let (file, section) = two_numbers(numbers)?;
+            let output = output(size)?;
+            Ok(Call::HeadingName {
+                file,
+                section,
+                output,
             })
         }
         _ => Err(format!("no call of these columns: {word}")),

@@ -2,7 +2,7 @@
 
 use std::collections::BTreeMap;
 
-use crate::judge::Call;
+use crate::judge::{Call, Outcome};
 use crate::reference::tables::{table, AC2, ACC, GAS, SUSPENSION};
 use crate::reference::Refusal;
 
@@ -21,21 +21,27 @@ const JUDGE_13: &str = "judge 13";
 const READ_9: &str = "read 9";
 const WRITE_9: &str = "write 9";
 const WRITE_17: &str = "write 17";
+const COLUMN_DUE: &str = "column, due";
+const COLUMN_NOT_DUE: &str = "column, not due";
+const COLUMN_FREE: &str = "column, free";
 
-/// The three calls and the numbers that each must reach.
-const CALLS: [(&str, &[usize]); 3] = [
+/// The calls and the numbers that each must reach.
+const CALLS: [(&str, &[usize]); 6] = [
     (
         "judge",
         &[0, 1, 2, 3, 4, 5, 6, 7, 8, 9, 10, 11, 12, 13, 14, 15],
     ),
     ("read", &[0, 1, 3, 4, 5, 6, 7, 8, 9, 11, 16]),
     ("write", &[0, 1, 9, 16, 17, 18]),
+    ("due", &[0, 1, 3, 4, 5, 6, 7, 8, 9, 11, 16, 18]),
+    ("entry name", &[0, 16, 18]),
+    ("heading", &[0, 16, 18]),
 ];
 
 #[derive(Default)]
 pub struct Report {
     /// By call, then by number.
-    counts: [[u64; NUMBERS]; 3],
+    counts: [[u64; NUMBERS]; 6],
     /// How often each noted refusal was reached at each entry.
     reached: BTreeMap<&'static str, BTreeMap<EntryOf, u64>>,
     /// Written files that were read back.
@@ -142,6 +148,9 @@ fn reachable() -> Vec<(&'static str, Vec<EntryOf>)> {
         (READ_9, fitting(&|_| true)),
         (WRITE_9, fitting(&|_| true)),
         (WRITE_17, fitting(&|_| true)),
+        (COLUMN_DUE, fitting(&|entry| !is_free(entry))),
+        (COLUMN_NOT_DUE, fitting(&is_conditional)),
+        (COLUMN_FREE, fitting(&is_free)),
     ]
 }
 
@@ -152,6 +161,9 @@ impl Report {
             Call::Judge { .. } => 0,
             Call::Read { .. } => 1,
             Call::Write { .. } => 2,
+            Call::Due { .. } => 3,
+            Call::EntryName { .. } => 4,
+            Call::HeadingName { .. } => 5,
         };
         self.counts[which][refusal.number as usize] += 1;
         let (file, line) = (refusal.file, refusal.line);
@@ -173,13 +185,34 @@ impl Report {
             _ => None,
         };
         if let Some((what, entry)) = noted {
-            *self
-                .reached
-                .entry(what)
-                .or_default()
-                .entry(entry)
-                .or_default() += 1;
+            self.note(what, entry);
         }
+    }
+
+    fn note(&mut self, what: &'static str, entry: EntryOf) {
+        let entries = self.reached.entry(what).or_default();
+        *entries.entry(entry).or_default() += 1;
+    }
+
+    /// Notes what an accepted column says of each entry.
+    pub fn add_column(&mut self, call: &Call, outcome: &Outcome) {
+        let Call::Due { file, .. } = call else {
+            return;
+        };
+        let column = outcome.column.iter().take(outcome.answer[4] as usize);
+        for (due, entry) in column.zip(entries_of(*file)) {
+            let what = match due {
+                1 => COLUMN_DUE,
+                2 => COLUMN_NOT_DUE,
+                _ => COLUMN_FREE,
+            };
+            self.note(what, entry);
+        }
+    }
+
+    /// How many calls for names and headings were made.
+    pub fn names(&self) -> u64 {
+        self.counts[4..].iter().flatten().sum()
     }
 
     /// How often a noted refusal was reached at an entry.
@@ -211,10 +244,14 @@ impl Report {
     }
 
     pub fn print(&self) {
-        println!("number      judge       read      write");
+        let head: Vec<String> = CALLS
+            .iter()
+            .map(|(call, _)| format!("{call:>10}"))
+            .collect();
+        println!("number {}", head.join(" "));
         for number in 0..NUMBERS {
-            let [judge, read, write] = self.counts.map(|counts| counts[number]);
-            println!("{number:6} {judge:10} {read:10} {write:10}");
+            let counts = self.counts.map(|counts| format!("{:10}", counts[number]));
+            println!("{number:6} {}", counts.join(" "));
         }
         println!("files read back after writing: {}", self.read_back);
         println!("accepted sets written and judged again: {}", self.rewritten);

@@ -39,7 +39,7 @@ fn outcome(answer: Vec<u32>, places: Vec<u32>, output: Vec<u8>) -> Outcome {
         answer,
         places,
         output,
-        touched_outside: false,
+        ..Outcome::default()
     }
 }
 

@@ -1,7 +1,9 @@
 //! The runner itself: it finds the faults of wrong judges, and its calls can be made again.
 
-use outside::comparison::{read_case, run_of, set_case, write_case};
-use outside::judge::{Judge, Reference, Set};
+use outside::comparison::{
+    column_case, name_cases, read_case, run_of, set_case, write_case, Amounts,
+};
+use outside::judge::{Arrays, Call, Judge, Reference};
 use outside::replay;
 
 /// The fault of a wrong judge.
@@ -17,7 +19,19 @@ enum Fault {
     OutputBytesBehind,
     AnswerTooShort,
     ReadsNoMark,
+    AllDue,
+    ColumnPastEntries,
+    NameCut,
+    HeadingOfFirstSection,
 }
+
+/// Enough to find each fault.
+const FEW: Amounts = Amounts {
+    sets: 500,
+    reads: 200,
+    writes: 200,
+    columns: 200,
+};
 
 struct Wrong(Fault);
 
@@ -26,56 +40,59 @@ impl Judge for Wrong {
         "wrong"
     }
 
-    fn judge(&self, set: &Set, places: &mut [u32], answer: &mut [u32]) -> u32 {
-        let number = Reference.judge(set, places, answer);
+    /// The reference's answer, spoilt.
+    fn answer(&self, call: &Call, lent: Arrays) -> u32 {
+        let Arrays {
+            places,
+            column,
+            output,
+            answer,
+        } = lent;
+        let lent = Arrays {
+            places: &mut *places,
+            column: &mut *column,
+            output: &mut *output,
+            answer: &mut *answer,
+        };
+        let number = Reference.answer(call, lent);
         if answer.len() < 16 {
             if let (Fault::AnswerTooShort, Some(first)) = (self.0, answer.first_mut()) {
                 *first = 0;
             }
             return number;
         }
-        match self.0 {
-            Fault::RefusesAll => answer[0] = 4,
-            Fault::AcceptsAll => answer.fill(0),
-            Fault::ZeroPlaces => places.fill(0),
-            Fault::FixedLine => answer[2] = answer[2].min(1),
-            Fault::StopsAfterAxle1 => answer[3] = answer[3].min(1),
-            Fault::PlacesPast278 if places.len() > 278 => places[278] = 0,
-            Fault::ReadsNoMark => answer[7] = 0,
+        let accepted = number == 0;
+        match (self.0, call) {
+            (Fault::RefusesAll, Call::Judge { .. }) => answer[0] = 4,
+            (Fault::AcceptsAll, Call::Judge { .. }) => answer.fill(0),
+            (Fault::ZeroPlaces, Call::Judge { .. }) => places.fill(0),
+            (Fault::FixedLine, Call::Judge { .. }) => answer[2] = answer[2].min(1),
+            (Fault::StopsAfterAxle1, Call::Judge { .. }) => answer[3] = answer[3].min(1),
+            (Fault::PlacesPast278, Call::Judge { .. }) if places.len() > 278 => places[278] = 0,
+            (Fault::ReadsNoMark, Call::Judge { .. }) => answer[7] = 0,
+            (Fault::WritesNothing, Call::Write { output: before, .. }) => {
+                output.copy_from_slice(before);
+            }
+            (Fault::OutputBytesBehind, Call::Write { .. }) if accepted => {
+                output[answer[3] as usize..].fill(0);
+            }
+            (Fault::AllDue, Call::Due { .. }) if accepted => {
+                column[..answer[4] as usize].fill(1);
+            }
+            (Fault::ColumnPastEntries, Call::Due { .. }) if accepted => {
+                column[answer[4] as usize..].fill(0);
+            }
+            (Fault::NameCut, Call::EntryName { .. }) if accepted => answer[3] -= 1,
+            (Fault::HeadingOfFirstSection, Call::HeadingName { .. }) => answer[4] = 0,
             _ => {}
         }
         answer[0]
-    }
-
-    fn read(&self, file: u32, text: &[u8], places: &mut [u32], answer: &mut [u32]) -> u32 {
-        Reference.read(file, text, places, answer)
-    }
-
-    fn write(
-        &self,
-        text: &[u8],
-        places: &[u32],
-        file: u32,
-        axles: u32,
-        output: &mut [u8],
-        answer: &mut [u32],
-    ) -> u32 {
-        let before = output.to_vec();
-        let number = Reference.write(text, places, file, axles, output, answer);
-        match self.0 {
-            Fault::WritesNothing => output.copy_from_slice(&before),
-            Fault::OutputBytesBehind if number == 0 && answer.len() >= 16 => {
-                output[answer[3] as usize..].fill(0);
-            }
-            _ => {}
-        }
-        number
     }
 }
 
 #[test]
 fn the_reference_agrees_with_itself() {
-    let report = run_of(&Reference, 500, 200, 200).expect("no difference");
+    let report = run_of(&Reference, FEW).expect("no difference");
     // Too few calls to reach everything.
     assert!(!report.missing().is_empty());
 }
@@ -83,7 +100,13 @@ fn the_reference_agrees_with_itself() {
 #[cfg(feature = "library")]
 #[test]
 fn the_library_agrees_with_the_reference() {
-    if let Err(difference) = run_of(&outside::library::Library, 2000, 500, 500) {
+    let amounts = Amounts {
+        sets: 2000,
+        reads: 500,
+        writes: 500,
+        columns: 500,
+    };
+    if let Err(difference) = run_of(&outside::library::Library, amounts) {
         panic!("{difference}");
     }
 }
@@ -101,8 +124,12 @@ fn faults_are_found() {
         Fault::OutputBytesBehind,
         Fault::AnswerTooShort,
         Fault::ReadsNoMark,
+        Fault::AllDue,
+        Fault::ColumnPastEntries,
+        Fault::NameCut,
+        Fault::HeadingOfFirstSection,
     ] {
-        match run_of(&Wrong(fault), 500, 200, 200) {
+        match run_of(&Wrong(fault), FEW) {
             Ok(_) => panic!("{fault:?} was not found"),
             Err(text) => {
                 // The last line is the call.
@@ -115,10 +142,16 @@ fn faults_are_found() {
 
 #[test]
 fn calls_as_text_come_back() {
-    for seed in 0..200 {
-        for case in [set_case(seed), read_case(seed), write_case(seed)] {
-            let again = replay::from_text(&replay::to_text(&case.call)).expect("a call");
-            assert!(again == case.call, "seed {seed}");
-        }
+    let generated = (0..200).flat_map(|seed| {
+        [
+            set_case(seed),
+            read_case(seed),
+            write_case(seed),
+            column_case(seed),
+        ]
+    });
+    for case in generated.chain(name_cases()) {
+        let again = replay::from_text(&replay::to_text(&case.call)).expect("a call");
+        assert!(again == case.call, "seed {}", case.seed);
     }
 }

@@ -1,8 +1,9 @@
 //! Changes to lawful sets, files and writings, most of them unlawful.
 //!
 //! - `values`: values at the boundaries of their kinds. - `files`: changes to one file.
-//! - `sets`: changes to a set. - `writings`: changes to a writing.
+//! - `sets`: changes to a set. - `writings`: changes to a writing. - `columns`: due columns.
 
+pub mod columns;
 pub mod files;
 pub mod sets;
 pub mod values;

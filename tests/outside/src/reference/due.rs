@@ -39,6 +39,18 @@ fn condition_p(ac2: &FileRead) -> bool {
     is_moped(ac2) || ac2.value("DirettivaEmissioniGasMotociclo") == b"NESSUNA"
 }
 
+/// What 01 asks of each entry of a file, in entry order: 1 filled, 2 empty, 3 free.
+pub fn due_column(read: &FileRead, ac2: &FileRead) -> Vec<u32> {
+    let entries = read.entries();
+    let due = entries.map(|(entry, _)| due(&entry.name, read, ac2));
+    due.map(|due| match due {
+        Due::Filled => 1,
+        Due::Empty => 2,
+        Due::Free => 3,
+    })
+    .collect()
+}
+
 /// 01, row 10: "filled, not due; or due, empty", in entry order.
 pub fn judge_due(read: &FileRead, ac2: &FileRead) -> Result<(), Refusal> {
     for (entry, found) in read.entries() {

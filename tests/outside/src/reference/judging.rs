@@ -1,7 +1,7 @@
 //! 01, Judging: a whole set, and one file alone.
 
 use super::bookings::{judge_ac2, judge_acc};
-use super::due::{is_l, judge_due};
+use super::due::{due_column, is_l, judge_due};
 use super::files::{read_file, FileRead};
 use super::identification::judge_identification;
 use super::kinds::number;
@@ -32,11 +32,7 @@ struct SetRead<'a> {
 /// 01, Judging: "The answer is acceptance .. or a refusal"; the places are filled. "Order:
 /// 1, 2, then slices 1 to 6."
 pub fn judge_set(set: Slices, places: &mut [u32]) -> Result<Acceptance, Refusal> {
-    // 01, row 1: "places too short; they stay (file 0)".
-    if places.len() < PLACES {
-        return Err(Refusal::new(1, 0, 0));
-    }
-    places[..PLACES].fill(0);
+    clear_places(places)?;
     let read = read_set(set)?;
     let files = [
         Some(&read.ac2),
@@ -186,17 +182,53 @@ fn judge_slice_6(bytes: &[u8], gas: Option<&FileRead>) -> Result<(), Refusal> {
 /// where it is empty, then 3 to 9 as above, with the same places and axle count; other
 /// files' pairs hold 0, after a refusal but 1 all pairs do". The axle count.
 pub fn read_alone(file: u32, text: &[u8], places: &mut [u32]) -> Result<u32, Refusal> {
+    clear_places(places)?;
+    let read = read_by_number(file, text)?;
+    read.fill_places(places);
+    Ok(read.axles as u32)
+}
+
+/// 01, row 1: "places too short; they stay (file 0)"; otherwise all pairs are 0 at first.
+fn clear_places(places: &mut [u32]) -> Result<(), Refusal> {
     if places.len() < PLACES {
         return Err(Refusal::new(1, 0, 0));
     }
     places[..PLACES].fill(0);
+    Ok(())
+}
+
+/// One file alone: 16, 11, then 3 to 9.
+fn read_by_number(file: u32, text: &[u8]) -> Result<FileRead<'_>, Refusal> {
     if !(AC2..=GAS).contains(&file) {
         return Err(Refusal::new(16, file, 0));
     }
     if text.is_empty() {
         return Err(Refusal::new(11, file, 0));
     }
-    let read = read_file(file, text)?;
+    read_file(file, text)
+}
+
+/// What 01, Due entries, asks of each entry of one file: AC2 read alone, then the file, both as by `read_alone`; 18
+/// where the column is shorter than the file's entries. Axle count and number of entries. An old booking with category L
+/// is not read and has none.
+pub fn due_alone(
+    file: u32,
+    ac2: &[u8],
+    text: &[u8],
+    places: &mut [u32],
+    column: &mut [u32],
+) -> Result<(u32, u32), Refusal> {
+    clear_places(places)?;
+    let ac2 = read_by_number(AC2, ac2)?;
+    if file == ACC && is_l(&ac2) {
+        return Ok((0, 0));
+    }
+    let read = read_by_number(file, text)?;
+    let due = due_column(&read, &ac2);
+    if column.len() < due.len() {
+        return Err(Refusal::new(18, file, 0));
+    }
     read.fill_places(places);
-    Ok(read.axles as u32)
+    column[..due.len()].copy_from_slice(&due);
+    Ok((read.axles as u32, due.len() as u32))
 }

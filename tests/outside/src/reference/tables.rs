@@ -44,6 +44,28 @@ impl Table {
     }
 }
 
+/// The name of an entry, numbered from 0 in the order of the file's pairs, and the number of its section.
+pub fn entry_name(file: u32, entry: u32) -> Option<(&'static str, u32)> {
+    let sections = sections_of(file).iter().zip(0..);
+    let mut entries = sections
+        .flat_map(|(section, at)| section.entries.iter().map(move |entry| (&*entry.name, at)));
+    entries.nth(entry as usize)
+}
+
+/// A heading, numbered from 0.
+pub fn heading_name(file: u32, section: u32) -> Option<&'static str> {
+    let section = sections_of(file).get(section as usize)?;
+    Some(&section.heading)
+}
+
+/// All sections of a file, none where it is not 1 to 5.
+fn sections_of(file: u32) -> &'static [Section] {
+    match file {
+        AC2..=GAS => &table(file).sections,
+        _ => &[],
+    }
+}
+
 /// The table of file 1 to 5.
 pub fn table(file: u32) -> &'static Table {
     static TABLES: OnceLock<[Table; 5]> = OnceLock::new();

@@ -1,0 +1,240 @@
+//! The proved judge of MCTCNet2 test sets (libmctc.a), for Rust.
+//!
+//! Each function here lends the library arrays of the right size and gives its answer as a `Result`: what acceptance
+//! carries, or a [`Refusal`] with document 01's number, file and line. `include/mctc.h` documents the calls; [`lent`]
+//! has them as they stand there, for callers that lend their own arrays.
+//!
+//! Files: 1 new booking (AC2), 2 old booking (ACC), 3 drift, 4 suspension, 5 gas, 6 the analyser's identification
+//! answer.
+//!
+//! ```
+//! let ac2 = b"[DatiLibrettoVeicolo]\r\nTarga=FG482KL\r\n";
+//! let set = mctc::Set { stem: b"AB123456", ac2, ..Default::default() };
+//! let mut places = mctc::Places::default();
+//! let refusal = mctc::judge(&set, &mut places).unwrap_err();
+//! assert_eq!(refusal.to_string(), "refusal 6, file 1, line 2");
+//! ```
+
+#![deny(unsafe_op_in_unsafe_fn)]
+
+pub mod lent;
+
+use std::fmt;
+use std::ops::Range;
+
+/// How many numbers places have at least.
+pub const PLACES: usize = 278;
+
+/// How many numbers an answer has at least.
+pub const ANSWER: usize = 16;
+
+/// The most entries of a file: gas has 53.
+const MOST_ENTRIES: usize = 53;
+
+/// No name and no heading is longer.
+const LONGEST_NAME: usize = 64;
+
+/// A set as handed in: the files' common name and six texts, each empty where it is not given.
+#[derive(Clone, Copy, Debug, Default)]
+pub struct Set<'a> {
+    pub stem: &'a [u8],
+    pub ac2: &'a [u8],
+    pub acc: &'a [u8],
+    pub drift: &'a [u8],
+    pub suspension: &'a [u8],
+    pub gas: &'a [u8],
+    pub identification: &'a [u8],
+}
+
+/// Why a call was refused.
+#[derive(Clone, Copy, Debug, PartialEq, Eq)]
+pub struct Refusal {
+    /// 1 to 18, as in document 01.
+    pub number: u32,
+    /// 0 for none.
+    pub file: u32,
+    /// From 1; 0 for none.
+    pub line: u32,
+}
+
+impl fmt::Display for Refusal {
+    fn fmt(&self, to: &mut fmt::Formatter) -> fmt::Result {
+        let Refusal { number, file, line } = self;
+        write!(to, "refusal {number}, file {file}, line {line}")
+    }
+}
+
+impl std::error::Error for Refusal {}
+
+/// What the acceptance of a set carries.
+#[derive(Clone, Copy, Debug, PartialEq, Eq)]
+pub struct Acceptance {
+    /// 0 where drift is not given.
+    pub drift_axles: u32,
+    /// 0 where suspension is not given.
+    pub suspension_axles: u32,
+    /// The file is given with CodErrore filled.
+    pub drift_mark: bool,
+    pub suspension_mark: bool,
+    pub gas_mark: bool,
+}
+
+/// Start and length of each value in its file.
+#[derive(Clone, Debug, PartialEq, Eq)]
+pub struct Places([u32; PLACES]);
+
+impl Default for Places {
+    fn default() -> Places {
+        Places([0; PLACES])
+    }
+}
+
+impl Places {
+    /// All 278 numbers.
+    pub fn numbers(&self) -> &[u32; PLACES] {
+        &self.0
+    }
+
+    /// Where the value of an entry stands in its file, entries numbered from 0 in the order of the file's table. None
+    /// for a number that is no entry's, and for an entry that was not read: its pair is 0, and no value starts at 0.
+    pub fn value(&self, file: u32, entry: usize) -> Option<Range<usize>> {
+        let [start, length] = self.pair(file, entry)?.map(|number| number as usize);
+        (start > 0).then(|| start..start + length)
+    }
+
+    fn pair(&self, file: u32, entry: usize) -> Option<[u32; 2]> {
+        let (first, count) = pairs_of(file)?;
+        if entry >= count {
+            return None;
+        }
+        let at = 2 * (first + entry);
+        self.0.get(at..at + 2)?.try_into().ok()
+    }
+}
+
+/// A file's first pair, and how many it has.
+fn pairs_of(file: u32) -> Option<(usize, usize)> {
+    match file {
+        1 => Some((0, 12)),
+        2 => Some((12, 6)),
+        3 => Some((18, 25)),
+        4 => Some((43, 43)),
+        5 => Some((86, MOST_ENTRIES)),
+        _ => None,
+    }
+}
+
+/// What is asked of an entry.
+#[derive(Clone, Copy, Debug, PartialEq, Eq)]
+pub enum Due {
+    /// Must be filled.
+    Due,
+    /// Must be empty.
+    NotDue,
+    /// May be filled or empty.
+    Free,
+}
+
+impl Due {
+    fn from_number(number: &u32) -> Due {
+        match number {
+            1 => Due::Due,
+            2 => Due::NotDue,
+            _ => Due::Free,
+        }
+    }
+}
+
+/// What is due in one file, entry by entry in the order of its table.
+#[derive(Clone, Debug, PartialEq, Eq)]
+pub struct Column {
+    pub axles: u32,
+    /// Empty for an old booking that is not read (category L).
+    pub entries: Vec<Due>,
+}
+
+/// The name of an entry, and the number of the heading that it stands under, from 0.
+#[derive(Clone, Debug, PartialEq, Eq)]
+pub struct EntryName {
+    pub name: String,
+    pub section: u32,
+}
+
+/// Judges a whole set; the places have the pairs of all files that were read.
+pub fn judge(set: &Set, places: &mut Places) -> Result<Acceptance, Refusal> {
+    answered(|answer| lent::judge(set, &mut places.0, answer)).map(|values| {
+        let [drift_axles, suspension_axles, drift, suspension, gas] = values;
+        Acceptance {
+            drift_axles,
+            suspension_axles,
+            drift_mark: drift == 1,
+            suspension_mark: suspension == 1,
+            gas_mark: gas == 1,
+        }
+    })
+}
+
+/// Reads one file alone. The axle count, 0 for files 1, 2 and 5; the places have the pairs of this file.
+pub fn read(file: u32, text: &[u8], places: &mut Places) -> Result<u32, Refusal> {
+    answered(|answer| lent::read(file, text, &mut places.0, answer)).map(|[axles, ..]| axles)
+}
+
+/// Writes one file from a text and the pairs of its values, in the order of its table. The length of what is written.
+pub fn write(
+    text: &[u8],
+    places: &Places,
+    file: u32,
+    axles: u32,
+    output: &mut [u8],
+) -> Result<usize, Refusal> {
+    answered(|answer| lent::write(text, &places.0, file, axles, output, answer))
+        .map(|[length, ..]| length as usize)
+}
+
+/// What is due in one file, by the values of AC2 and of that file; AC2's own text is handed in twice for file 1. The
+/// places have the pairs of the file.
+pub fn due(file: u32, ac2: &[u8], text: &[u8], places: &mut Places) -> Result<Column, Refusal> {
+    let mut column = [0; MOST_ENTRIES];
+    let [axles, count, ..] =
+        answered(|answer| lent::due(file, ac2, text, &mut places.0, &mut column, answer))?;
+    let entries = column.iter().take(count as usize);
+    Ok(Column {
+        axles,
+        entries: entries.map(Due::from_number).collect(),
+    })
+}
+
+/// The name of an entry, numbered from 0 in the order of the file's pairs, nine axles counted.
+pub fn entry_name(file: u32, entry: u32) -> Result<EntryName, Refusal> {
+    let mut output = [0; LONGEST_NAME];
+    let [length, section, ..] =
+        answered(|answer| lent::entry_name(file, entry, &mut output, answer))?;
+    Ok(EntryName {
+        name: text_of(&output, length),
+        section,
+    })
+}
+
+/// A heading with its brackets, numbered from 0: the fixed ones, then those of axles 1 to 9.
+pub fn heading_name(file: u32, section: u32) -> Result<String, Refusal> {
+    let mut output = [0; LONGEST_NAME];
+    let [length, ..] = answered(|answer| lent::heading_name(file, section, &mut output, answer))?;
+    Ok(text_of(&output, length))
+}
+
+fn text_of(output: &[u8], length: u32) -> String {
+    let bytes = output.get(..length as usize).unwrap_or(output);
+    String::from_utf8_lossy(bytes).into_owned()
+}
+
+/// Makes a call with an answer array of its own: numbers 3 to 7 of an acceptance, or the refusal.
+fn answered(call: impl FnOnce(&mut [u32]) -> u32) -> Result<[u32; 5], Refusal> {
+    let mut answer = [0; ANSWER];
+    call(&mut answer);
+    let [number, file, line, values @ .., _, _, _, _, _, _, _, _] = answer;
+    if number == 0 {
+        Ok(values)
+    } else {
+        Err(Refusal { number, file, line })
+    }
+}

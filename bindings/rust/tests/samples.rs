@@ -1,0 +1,110 @@
+//! The calls of the binding on the repository's samples.
+
+use std::fs;
+use std::path::Path;
+
+use mctc::{Acceptance, Due, Places, Refusal, Set};
+
+fn sample(name: &str) -> Vec<u8> {
+    let samples = Path::new(env!("CARGO_MANIFEST_DIR")).join("../../samples");
+    fs::read(samples.join(name)).expect("a sample")
+}
+
+fn refusal(number: u32, file: u32, line: u32) -> Refusal {
+    Refusal { number, file, line }
+}
+
+#[test]
+fn a_set_is_judged() {
+    let ac2 = sample("accepted-trailer/AC204711.ac2");
+    let drift = sample("accepted-trailer/AC204711.der");
+    let mut set = Set {
+        stem: b"AC204711",
+        ac2: &ac2,
+        drift: &drift,
+        ..Set::default()
+    };
+    let mut places = Places::default();
+    let acceptance = Acceptance {
+        drift_axles: 3,
+        suspension_axles: 0,
+        drift_mark: true,
+        suspension_mark: false,
+        gas_mark: false,
+    };
+    assert_eq!(mctc::judge(&set, &mut places), Ok(acceptance));
+    let third = places.value(3, 18).expect("the third axle");
+    assert_eq!(&drift[third], b"12.34");
+    assert_eq!(places.value(3, 19), None, "there is no fourth axle");
+    assert_eq!(places.value(2, 0), None, "the old booking is not given");
+    assert_eq!(
+        places.value(3, usize::MAX),
+        None,
+        "no entry has this number"
+    );
+
+    set.stem = b"AC20471";
+    assert_eq!(mctc::judge(&set, &mut places), Err(refusal(2, 0, 0)));
+    assert_eq!(
+        mctc::judge(&Set::default(), &mut places),
+        Err(refusal(2, 0, 0))
+    );
+}
+
+#[test]
+fn a_file_is_read_and_written() {
+    let text = sample("accepted-car/AA123456.SOS");
+    let mut places = Places::default();
+    let axles = mctc::read(4, &text, &mut places).expect("it is read");
+    assert_eq!(axles, 2);
+    let mut output = vec![0; text.len()];
+    assert_eq!(
+        mctc::write(&text, &places, 4, axles, &mut output),
+        Ok(text.len())
+    );
+    assert!(output.starts_with(b"[Sospensioni]\r\nMarca="));
+    assert_eq!(
+        mctc::write(&text, &places, 4, axles, &mut []),
+        Err(refusal(18, 4, 0))
+    );
+    assert_eq!(mctc::read(4, &[], &mut places), Err(refusal(11, 4, 0)));
+    assert_eq!(mctc::read(6, &text, &mut places), Err(refusal(16, 6, 0)));
+}
+
+#[test]
+fn a_column_says_what_is_due() {
+    let ac2 = sample("refused-10-filled/AB121010.AC2");
+    let mut places = Places::default();
+    let column = mctc::due(1, &ac2, &ac2, &mut places).expect("a column");
+    let found: Vec<bool> = (0..column.entries.len())
+        .map(|entry| {
+            places
+                .value(1, entry)
+                .is_some_and(|value| !value.is_empty())
+        })
+        .collect();
+    let disagreeing: Vec<usize> = (0..12)
+        .filter(|at| column.entries[*at] != if found[*at] { Due::Due } else { Due::NotDue })
+        .collect();
+    // Turbo, filled and not due.
+    assert_eq!(disagreeing, [6]);
+    assert_eq!(mctc::due(1, &[], &[], &mut places), Err(refusal(11, 1, 0)));
+
+    let drift = sample("refused-09/AB120009.DER");
+    assert_eq!(
+        mctc::due(3, &ac2, &drift, &mut places),
+        Err(refusal(9, 3, 19))
+    );
+}
+
+#[test]
+fn entries_and_headings_have_names() {
+    let last = mctc::entry_name(5, 52).expect("the last entry of gas");
+    assert_eq!((last.name.as_str(), last.section), ("COMinAcc", 1));
+    assert_eq!(mctc::entry_name(5, 53), Err(refusal(16, 5, 0)));
+    assert_eq!(
+        mctc::heading_name(4, 9).as_deref(),
+        Ok("[SospensioniAsse_9]")
+    );
+    assert_eq!(mctc::heading_name(4, 10), Err(refusal(16, 4, 0)));
+}

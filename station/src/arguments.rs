@@ -1,0 +1,237 @@
+//! The words of the command line.
+
+use std::ffi::{OsStr, OsString};
+use std::os::unix::ffi::OsStrExt;
+use std::path::PathBuf;
+
+use crate::help;
+use crate::output::Trouble;
+use crate::read::Input;
+use crate::shown::{self, counted};
+
+/// What the program is asked to do.
+#[derive(Debug, PartialEq, Eq)]
+pub enum Command {
+    /// A text of `help`.
+    Print(&'static str),
+    JudgeSet {
+        folder: PathBuf,
+        stem: OsString,
+        json: bool,
+    },
+    JudgeFolder {
+        folder: PathBuf,
+        json: bool,
+    },
+    Due {
+        folder: PathBuf,
+        stem: OsString,
+    },
+    Read(Input),
+    Format {
+        input: Input,
+        new: Option<PathBuf>,
+    },
+}
+
+pub fn parse(words: &[OsString]) -> Result<Command, Trouble> {
+    let Some((first, rest)) = words.split_first() else {
+        return Err(Trouble("no command; see `mctc --help`".to_string()));
+    };
+    match first.to_str() {
+        Some("--help" | "-h" | "help") => Ok(Command::Print(help::PROGRAM)),
+        Some("--version" | "-V") => Ok(Command::Print(help::VERSION)),
+        Some("judge") => command(&JUDGE, rest),
+        Some("due") => command(&DUE, rest),
+        Some("read") => command(&READ, rest),
+        Some("format") => command(&FORMAT, rest),
+        _ => {
+            let word = shown::name(first);
+            Err(Trouble(format!("no command {word}; see `mctc --help`")))
+        }
+    }
+}
+
+/// A subcommand: the options that it knows, and what is made of its words.
+struct Grammar {
+    name: &'static str,
+    help: &'static str,
+    json: bool,
+    file: bool,
+    output: bool,
+    make: fn(Given) -> Result<Command, Trouble>,
+}
+
+const JUDGE: Grammar = Grammar {
+    name: "judge",
+    help: help::JUDGE,
+    json: true,
+    file: false,
+    output: false,
+    make: judge,
+};
+
+const DUE: Grammar = Grammar {
+    name: "due",
+    help: help::DUE,
+    json: false,
+    make: due,
+    ..JUDGE
+};
+
+const READ: Grammar = Grammar {
+    name: "read",
+    help: help::READ,
+    json: false,
+    file: true,
+    make: read,
+    ..JUDGE
+};
+
+const FORMAT: Grammar = Grammar {
+    name: "format",
+    help: help::FORMAT,
+    output: true,
+    make: format,
+    ..READ
+};
+
+/// The words behind a subcommand, sorted.
+#[derive(Default)]
+struct Given {
+    words: Vec<OsString>,
+    help: bool,
+    json: bool,
+    file: Option<OsString>,
+    output: Option<OsString>,
+}
+
+fn command(grammar: &Grammar, words: &[OsString]) -> Result<Command, Trouble> {
+    let see_help = |trouble: Trouble| {
+        let Trouble(message) = trouble;
+        Trouble(format!(
+            "{}: {message}; see `mctc {0} --help`",
+            grammar.name
+        ))
+    };
+    let given = grammar.sort(words).map_err(see_help)?;
+    if given.help {
+        return Ok(Command::Print(grammar.help));
+    }
+    (grammar.make)(given).map_err(see_help)
+}
+
+impl Grammar {
+    fn sort(&self, words: &[OsString]) -> Result<Given, Trouble> {
+        let mut given = Given::default();
+        let mut words = words.iter();
+        while let Some(word) = words.next() {
+            let (option, attached) = split_option(word);
+            let slot = match option {
+                b"--" => {
+                    given.words.extend(words.by_ref().cloned());
+                    continue;
+                }
+                b"--help" | b"-h" => {
+                    given.help = true;
+                    continue;
+                }
+                b"--json" if self.json && attached.is_none() => {
+                    given.json = true;
+                    continue;
+                }
+                b"--file" if self.file => &mut given.file,
+                b"--output" if self.output => &mut given.output,
+                [b'-', _, ..] => return Err(about("no option", word)),
+                _ => {
+                    given.words.push(word.clone());
+                    continue;
+                }
+            };
+            let value = attached.or_else(|| words.next().cloned());
+            let value = value.ok_or_else(|| about("nothing behind", word))?;
+            if slot.replace(value).is_some() {
+                return Err(about("given twice:", OsStr::from_bytes(option)));
+            }
+        }
+        Ok(given)
+    }
+}
+
+/// `--option=value` in its two parts; any other word as it is.
+fn split_option(word: &OsStr) -> (&[u8], Option<OsString>) {
+    let bytes = word.as_bytes();
+    let sign = bytes.iter().position(|byte| *byte == b'=');
+    match sign.filter(|_| bytes.starts_with(b"--")) {
+        Some(sign) => {
+            let (option, rest) = bytes.split_at(sign);
+            let value = rest.get(1..).unwrap_or_default();
+            (option, Some(OsStr::from_bytes(value).to_owned()))
+        }
+        None => (bytes, None),
+    }
+}
+
+fn about(what: &str, word: &OsStr) -> Trouble {
+    Trouble(format!("{what} {}", shown::name(word)))
+}
+
+fn judge(given: Given) -> Result<Command, Trouble> {
+    let json = given.json;
+    if given.words.len() == 1 {
+        let [folder] = exactly(given.words, "a folder")?;
+        let folder = folder.into();
+        return Ok(Command::JudgeFolder { folder, json });
+    }
+    let (folder, stem) = folder_and_stem(given.words, "a folder, and a stem for one set")?;
+    Ok(Command::JudgeSet { folder, stem, json })
+}
+
+fn due(given: Given) -> Result<Command, Trouble> {
+    let (folder, stem) = folder_and_stem(given.words, "a folder and a stem")?;
+    Ok(Command::Due { folder, stem })
+}
+
+fn read(given: Given) -> Result<Command, Trouble> {
+    input(given.words, given.file.as_deref()).map(Command::Read)
+}
+
+fn format(given: Given) -> Result<Command, Trouble> {
+    let input = input(given.words, given.file.as_deref())?;
+    let new = given.output.map(PathBuf::from);
+    Ok(Command::Format { input, new })
+}
+
+fn folder_and_stem(words: Vec<OsString>, what: &str) -> Result<(PathBuf, OsString), Trouble> {
+    let [folder, stem] = exactly(words, what)?;
+    if stem.as_bytes().contains(&b'/') {
+        let message = "a stem is the name of the set's files without folder and ending, and not";
+        return Err(about(message, &stem));
+    }
+    Ok((folder.into(), stem))
+}
+
+fn input(words: Vec<OsString>, number: Option<&OsStr>) -> Result<Input, Trouble> {
+    let [path] = exactly(words, "one file")?;
+    let path = PathBuf::from(path);
+    let number = number.map(number_of).transpose()?;
+    Ok(Input { path, number })
+}
+
+fn number_of(word: &OsStr) -> Result<u32, Trouble> {
+    let number = word.to_str().and_then(|word| word.parse().ok());
+    number.ok_or_else(|| about("--file takes a number from 1 to 5, and not", word))
+}
+
+fn exactly<const COUNT: usize>(
+    words: Vec<OsString>,
+    what: &str,
+) -> Result<[OsString; COUNT], Trouble> {
+    let found = words.len();
+    if words.iter().any(|word| word.is_empty()) {
+        return Err(Trouble("a word is empty".to_string()));
+    }
+    words
+        .try_into()
+        .map_err(|_| Trouble(format!("name {what}; {} given", counted(found, "word"))))
+}

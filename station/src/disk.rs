@@ -1,0 +1,195 @@
+//! The files of a set on disk.
+
+use std::collections::BTreeMap;
+use std::ffi::{OsStr, OsString};
+use std::fs::{self, File};
+use std::io::{self, ErrorKind, Read};
+use std::os::unix::ffi::OsStrExt;
+use std::path::{Path, PathBuf};
+
+use crate::file_types::split_name;
+use crate::output::Trouble;
+use crate::shown;
+
+/// What is read of a file at most: one byte more than a file may have (01, Lines).
+///
+/// The library answers for the bytes that are read as it would for the whole file. Past 16,384 bytes files 1 to 5 are
+/// refused with 3, whatever they hold; an old booking with category L is not read, whatever its length; past 512 bytes
+/// the serial answer is refused with 14; and 11 asks only whether a file is empty. No refusal of these has a line.
+const MOST_READ: u64 = 16_385;
+
+/// A file that was read.
+pub struct FileOnDisk {
+    /// Its name as it is shown.
+    pub name: String,
+    pub text: Vec<u8>,
+}
+
+/// The files of one stem.
+pub struct SetOnDisk {
+    pub stem: Vec<u8>,
+    files: [Option<FileOnDisk>; 6],
+}
+
+/// The names in a folder that have one of the six endings.
+pub struct Folder {
+    path: PathBuf,
+    names: BTreeMap<Vec<u8>, [Vec<OsString>; 6]>,
+}
+
+impl Folder {
+    pub fn list(path: &Path) -> Result<Folder, Trouble> {
+        let trouble = |error: io::Error| {
+            let (path, why) = (shown::name(path), why(&error));
+            Trouble(format!("{path}: {why}; name the folder of the sets"))
+        };
+        let mut names: BTreeMap<Vec<u8>, [Vec<OsString>; 6]> = BTreeMap::new();
+        for entry in fs::read_dir(path).map_err(trouble)? {
+            let name = entry.map_err(trouble)?.file_name();
+            if let Some((stem, file)) = split_name(name.as_bytes()) {
+                let files = names.entry(stem.to_vec()).or_default();
+                if let Some(names) = place(file.number).and_then(|at| files.get_mut(at)) {
+                    names.push(name);
+                }
+            }
+        }
+        Ok(Folder {
+            path: path.to_path_buf(),
+            names,
+        })
+    }
+
+    /// All stems, in the order of their bytes.
+    pub fn stems(&self) -> impl ExactSizeIterator<Item = &[u8]> {
+        self.names.keys().map(Vec::as_slice)
+    }
+
+    /// Reads the files of a stem. Absent is not given; what cannot be read is trouble.
+    pub fn set(&self, stem: &[u8]) -> Result<SetOnDisk, Trouble> {
+        let mut set = SetOnDisk {
+            stem: stem.to_vec(),
+            files: Default::default(),
+        };
+        if let Some(names) = self.names.get(stem) {
+            for (file, names) in set.files.iter_mut().zip(names) {
+                *file = self.read_one_of(names)?;
+            }
+        }
+        Ok(set)
+    }
+
+    /// The file with one of these names, which differ only in the case of their endings.
+    fn read_one_of(&self, names: &[OsString]) -> Result<Option<FileOnDisk>, Trouble> {
+        match names {
+            [] => Ok(None),
+            [name] => match read_file(&self.path.join(name), name) {
+                Ok(file) => Ok(Some(file)),
+                Err(Trouble(why)) => Err(Trouble(format!(
+                    "{why}; mend this, or take it out of the folder"
+                ))),
+            },
+            [..] => {
+                let mut names: Vec<String> = names.iter().map(shown::name).collect();
+                names.sort();
+                Err(Trouble(format!(
+                    "{}: {} differ only in capitals and small letters; remove all but one",
+                    shown::name(&self.path),
+                    names.join(" and ")
+                )))
+            }
+        }
+    }
+}
+
+impl SetOnDisk {
+    pub fn file(&self, number: u32) -> Option<&FileOnDisk> {
+        self.files.get(place(number)?)?.as_ref()
+    }
+
+    /// The text of a file, empty where it is absent.
+    pub fn text(&self, number: u32) -> &[u8] {
+        self.file(number).map_or(&[], |file| &file.text)
+    }
+
+    pub fn is_given(&self, number: u32) -> bool {
+        !self.text(number).is_empty()
+    }
+
+    /// Whether the folder has none of its files.
+    pub fn is_absent(&self) -> bool {
+        self.files.iter().all(Option::is_none)
+    }
+
+    /// The names of the files that are there and empty.
+    pub fn empty_files(&self) -> impl Iterator<Item = &str> {
+        let there = self.files.iter().flatten();
+        let empty = there.filter(|file| file.text.is_empty());
+        empty.map(|file| file.name.as_str())
+    }
+
+    /// The stem as it is shown.
+    pub fn stem_shown(&self) -> String {
+        stem_shown(&self.stem)
+    }
+
+    pub fn lent(&self) -> mctc::Set<'_> {
+        mctc::Set {
+            stem: &self.stem,
+            ac2: self.text(1),
+            acc: self.text(2),
+            drift: self.text(3),
+            suspension: self.text(4),
+            gas: self.text(5),
+            identification: self.text(6),
+        }
+    }
+}
+
+/// Where file 1 to 6 stands among six.
+fn place(number: u32) -> Option<usize> {
+    usize::try_from(number).ok()?.checked_sub(1)
+}
+
+/// A stem as it is shown.
+pub fn stem_shown(stem: &[u8]) -> String {
+    shown::name(OsStr::from_bytes(stem))
+}
+
+/// Reads a file under the name that it is shown by. Only a regular file is opened: another kind may block or have no
+/// end.
+pub fn read_file(path: &Path, name: &OsStr) -> Result<FileOnDisk, Trouble> {
+    let trouble = |why: &str| Trouble(format!("{}: {why}", shown::name(path)));
+    let kind = fs::metadata(path).map_err(|error| match error.kind() {
+        ErrorKind::NotFound if path.is_symlink() => {
+            trouble("is a link to a file that does not exist")
+        }
+        _ => trouble(&why(&error)),
+    })?;
+    if kind.is_dir() {
+        return Err(trouble("is a folder, not a file"));
+    }
+    if !kind.is_file() {
+        return Err(trouble("is a device, pipe or socket, not a file"));
+    }
+    let text = read_start(path).map_err(|error| trouble(&why(&error)))?;
+    Ok(FileOnDisk {
+        name: shown::name(name),
+        text,
+    })
+}
+
+fn read_start(path: &Path) -> io::Result<Vec<u8>> {
+    let mut text = Vec::new();
+    File::open(path)?.take(MOST_READ).read_to_end(&mut text)?;
+    Ok(text)
+}
+
+/// Why something on disk cannot be used.
+fn why(error: &io::Error) -> String {
+    match error.kind() {
+        ErrorKind::NotFound => "does not exist".to_string(),
+        ErrorKind::PermissionDenied => "may not be used: permission denied".to_string(),
+        ErrorKind::NotADirectory => "is not a folder".to_string(),
+        _ => format!("cannot be used: {error}"),
+    }
+}

@@ -1,0 +1,137 @@
+//! `mctc due FOLDER STEM`: entry by entry what is due and what is found.
+
+use std::ffi::OsStr;
+use std::os::unix::ffi::OsStrExt;
+use std::path::Path;
+
+use mctc::{Column, Due, Places};
+
+use crate::disk::{Folder, SetOnDisk};
+use crate::explain::{explain, Subject};
+use crate::file_types::{FileType, FILE_TYPES};
+use crate::judge::counts_as_not_given;
+use crate::output::{Output, Status, Trouble};
+use crate::table;
+
+/// The new booking, whose values say what is due.
+const AC2: u32 = 1;
+
+/// The file without entries.
+const SERIAL_ANSWER: u32 = 6;
+
+pub fn run(folder: &Path, stem: &OsStr, out: &mut Output) -> Result<Status, Trouble> {
+    let set = Folder::list(folder)?.set(stem.as_bytes())?;
+    out.text(&format!(
+        "{}: entries due and entries found\n",
+        set.stem_shown()
+    ))?;
+    let mut status = Status::Accepted;
+    for file in &FILE_TYPES {
+        let part = part(&set, file);
+        out.text(&format!(
+            "\nFile {}, {}: {}",
+            file.number, file.title, part.text
+        ))?;
+        status = status.max(part.status);
+    }
+    let end = match status {
+        Status::Accepted => "Every entry that was read agrees with what is due.",
+        _ => "Something disagrees or was refused: see above.",
+    };
+    out.text(&format!("\n{end}\n`mctc judge` judges the whole set.\n"))?;
+    Ok(status)
+}
+
+/// What is printed of one file, and whether all of it agrees.
+struct Part {
+    text: String,
+    status: Status,
+}
+
+impl Part {
+    fn agrees(text: String) -> Part {
+        let status = Status::Accepted;
+        Part { text, status }
+    }
+
+    fn refused(text: String) -> Part {
+        let status = Status::Refused;
+        Part { text, status }
+    }
+}
+
+fn part(set: &SetOnDisk, file: &FileType) -> Part {
+    let number = file.number;
+    let name = set.file(number).map(|on_disk| on_disk.name.as_str());
+    match name {
+        _ if number == AC2 => column(set, number, name.unwrap_or("not given")),
+        None => Part::agrees("not given\n".to_string()),
+        Some(name) if !set.is_given(number) => Part::agrees(counts_as_not_given(name) + "\n"),
+        Some(name) if number == SERIAL_ANSWER => Part::agrees(format!("{name}, no entries\n")),
+        Some(name) => column(set, number, name),
+    }
+}
+
+/// The column of a file, or why it has none.
+fn column(set: &SetOnDisk, number: u32, name: &str) -> Part {
+    let mut places = Places::default();
+    match mctc::due(number, set.text(AC2), set.text(number), &mut places) {
+        Ok(column) if column.entries.is_empty() => {
+            Part::agrees(format!("{name}, not read with category L\n"))
+        }
+        Ok(column) => two_columns(number, name, &column, &places),
+        Err(refusal) if refusal.file != number => {
+            Part::refused(format!("{name}\n  no column: the new booking is refused\n"))
+        }
+        Err(refusal) => {
+            let explained = explain(refusal, Subject::of_set(set, number)).page();
+            let number = refusal.number;
+            Part::refused(format!(
+                "{name}\n  no column: refused, number {number}\n{explained}"
+            ))
+        }
+    }
+}
+
+fn two_columns(number: u32, name: &str, column: &Column, places: &Places) -> Part {
+    let mut text = format!("{name}\n{}", row("", "due", "found", ""));
+    let mut disagreeing = 0;
+    for section in table::sections(number) {
+        let mut rows = String::new();
+        for entry in &section.entries {
+            let Some(due) = column.entries.get(entry.number) else {
+                continue;
+            };
+            let value = places.value(number, entry.number).unwrap_or_default();
+            let (due, found, mark) = judged(*due, !value.is_empty());
+            rows += &row(&entry.name, due, found, mark);
+            disagreeing += usize::from(!mark.is_empty());
+        }
+        if !rows.is_empty() {
+            text += &format!("{}\n{rows}", section.heading);
+        }
+    }
+    if disagreeing == 0 {
+        return Part::agrees(text);
+    }
+    text += &format!("  entries that disagree: {disagreeing}\n");
+    Part::refused(text)
+}
+
+/// The words of the two columns, and the mark where they disagree.
+fn judged(due: Due, filled: bool) -> (&'static str, &'static str, &'static str) {
+    let found = if filled { "filled" } else { "empty" };
+    match (due, filled) {
+        (Due::Due, true) => ("due", found, ""),
+        (Due::Due, false) => ("due", found, "<-- due, but empty"),
+        (Due::NotDue, true) => ("not due", found, "<-- filled, but not due"),
+        (Due::NotDue, false) => ("not due", found, ""),
+        (Due::Free, _) => ("free", found, ""),
+    }
+}
+
+/// A line of at most 78 columns: no name has more than 34.
+fn row(name: &str, due: &str, found: &str, mark: &str) -> String {
+    let line = format!("  {name:34}  {due:7}  {found:6}  {mark}");
+    format!("{}\n", line.trim_end())
+}

@@ -1,0 +1,90 @@
+//! The texts of `--help` and `--version`.
+
+pub const VERSION: &str = concat!("mctc ", env!("CARGO_PKG_VERSION"), "\n");
+
+pub const PROGRAM: &str = "\
+mctc: judges MCTCNet2 test sets with the proved library
+
+  mctc judge FOLDER STEM [--json]   judge one set
+  mctc judge FOLDER [--json]        judge all sets of a folder
+  mctc due FOLDER STEM              entry by entry: what is due, what is found
+  mctc read FILE [--file N]         one file alone, with its values
+  mctc format FILE [--file N] [--output NEW]
+                                    one file written in table order
+  mctc COMMAND --help               more about a command
+  mctc --version
+
+A set is the files of a folder that have one stem, such as AB123456:
+
+  AB123456.AC2   1  new booking
+  AB123456.ACC   2  old booking
+  AB123456.DER   3  drift
+  AB123456.SOS   4  suspension
+  AB123456.GAS   5  gas
+  AB123456.ID    6  the analyser's serial answer
+
+Endings stand in capitals or small letters. A file that is absent or empty is
+not given.
+
+Exit status: 0 accepted; 1 refused; 2 bad usage, or a file cannot be read.
+";
+
+pub const JUDGE: &str = "\
+mctc judge FOLDER STEM [--json]
+mctc judge FOLDER [--json]
+
+Judges one set, or every set of the folder. A refusal has its number, what it
+means, the file, the line and its text (bytes that cannot be printed as \\xHH),
+and what to do.
+
+With STEM: the verdict on that set. With --json one object: stem, accepted,
+number, file, line (0 for none), name, meaning, text, remark, to_do,
+drift_axles, suspension_axles, drift_mark, suspension_mark, gas_mark, empty;
+or stem and error where a file cannot be read.
+
+Without STEM: a line for each set, then how many were accepted, refused and not
+judged. With --json one object: folder, sets (an array of the objects above),
+accepted, refused, not_judged; or folder and error.
+
+Exit status: 0 all accepted; 1 one is refused; 2 bad usage, no set in the
+folder, or a file cannot be read.
+";
+
+pub const DUE: &str = "\
+mctc due FOLDER STEM
+
+Prints for every given file, entry by entry in table order, whether the entry is
+due and whether it is filled, and marks what disagrees. A file that cannot be
+read by its form (refusals 3 to 9) has no column, and where the new booking
+cannot, no file has one.
+
+Exit status: 0 nothing disagrees; 1 something disagrees or is refused; 2 bad
+usage, or a file cannot be read.
+";
+
+pub const READ: &str = "\
+mctc read FILE [--file N]
+
+Reads one file alone and prints its axle count and each entry with its value, in
+table order; or the refusal (3 to 9, 11 for an empty file, 16 for a wrong
+number). What is due and the rules between files are left to `mctc judge`.
+
+  --file N   the file's number: 1 new booking, 2 old booking, 3 drift,
+             4 suspension, 5 gas; without it the ending of FILE says it
+
+Exit status: 0 read; 1 refused; 2 bad usage, or FILE cannot be read.
+";
+
+pub const FORMAT: &str = "\
+mctc format FILE [--file N] [--output NEW]
+
+Reads one file alone and writes it in table order, to standard output or to a
+new file. A refusal goes to standard error.
+
+  --file N      the file's number: 1 new booking, 2 old booking, 3 drift,
+                4 suspension, 5 gas; without it the ending of FILE says it
+  --output NEW  a file that does not exist yet; none is ever overwritten
+
+Exit status: 0 written; 1 refused; 2 bad usage, FILE cannot be read or NEW
+cannot be written.
+";

@@ -1,0 +1,219 @@
+//! `mctc judge FOLDER STEM`: one set judged.
+
+use std::ffi::OsStr;
+use std::os::unix::ffi::OsStrExt;
+use std::path::Path;
+
+use mctc::{Acceptance, Places, Refusal};
+
+use crate::disk::{stem_shown, Folder, SetOnDisk};
+use crate::explain::{explain, labelled, Explained, Subject};
+use crate::file_types::{FileType, FILE_TYPES};
+use crate::json::Object;
+use crate::output::{Output, Status, Trouble};
+use crate::shown::counted;
+
+pub fn run(folder: &Path, stem: &OsStr, json: bool, out: &mut Output) -> Result<Status, Trouble> {
+    let set = Folder::list(folder).and_then(|folder| folder.set(stem.as_bytes()));
+    match set.map(Judged::new) {
+        Ok(judged) => {
+            let text = if json {
+                judged.json() + "\n"
+            } else {
+                judged.page()
+            };
+            out.text(&text)?;
+            Ok(judged.status())
+        }
+        Err(trouble) => {
+            if json {
+                out.text(&(not_judged_json(stem.as_bytes(), &trouble) + "\n"))?;
+            }
+            Err(trouble)
+        }
+    }
+}
+
+/// What is printed for programs where the files of a stem cannot be read.
+pub fn not_judged_json(stem: &[u8], trouble: &Trouble) -> String {
+    let object = Object::default().string("stem", &stem_shown(stem));
+    object.string("error", &trouble.0).text()
+}
+
+/// A set with the library's verdict.
+pub struct Judged {
+    set: SetOnDisk,
+    places: Places,
+    verdict: Result<Acceptance, Explained>,
+}
+
+impl Judged {
+    pub fn new(set: SetOnDisk) -> Judged {
+        let mut places = Places::default();
+        let verdict = mctc::judge(&set.lent(), &mut places)
+            .map_err(|refusal| explain(refusal, Subject::of_set(&set, refusal.file)));
+        Judged {
+            set,
+            places,
+            verdict,
+        }
+    }
+
+    pub fn status(&self) -> Status {
+        match self.verdict {
+            Ok(_) => Status::Accepted,
+            Err(_) => Status::Refused,
+        }
+    }
+
+    fn page(&self) -> String {
+        let stem = self.set.stem_shown();
+        match &self.verdict {
+            Ok(acceptance) => format!("{stem}: accepted\n{}", self.accepted_files(acceptance)),
+            Err(explained) => {
+                let (number, page) = (explained.refusal.number, explained.page());
+                format!(
+                    "{stem}: refused, number {number}\n{page}{}",
+                    self.notes(explained)
+                )
+            }
+        }
+    }
+
+    /// What is to be noted beside a refusal, which speaks of its own file.
+    fn notes(&self, explained: &Explained) -> String {
+        let mut notes = String::new();
+        if self.set.is_absent() {
+            let stem = self.set.stem_shown();
+            let note = format!("the folder has no file of the stem {stem}, written just so");
+            notes += &labelled("note", &note);
+        }
+        for name in self.set.empty_files() {
+            if explained.name.as_deref() != Some(name) {
+                notes += &labelled("note", &counts_as_not_given(name));
+            }
+        }
+        notes
+    }
+
+    /// In a few words, for a line of its own.
+    pub fn in_short(&self) -> String {
+        let verdict = match &self.verdict {
+            Ok(acceptance) => format!("accepted{}", marks_in_short(acceptance)),
+            Err(explained) => {
+                let number = explained.refusal.number;
+                format!("refused {number:2}  {}", explained.in_short())
+            }
+        };
+        let empty: Vec<&str> = self.set.empty_files().collect();
+        let note = match empty.as_slice() {
+            [] => String::new(),
+            names => format!("  (empty, so not given: {})", names.join(", ")),
+        };
+        verdict + &note
+    }
+
+    fn accepted_files(&self, acceptance: &Acceptance) -> String {
+        let mut lines = String::new();
+        for file in &FILE_TYPES {
+            let what = match self.set.file(file.number) {
+                None => "not given".to_string(),
+                Some(on_disk) if on_disk.text.is_empty() => counts_as_not_given(&on_disk.name),
+                Some(on_disk) => format!("{}{}", on_disk.name, self.about(file, acceptance)),
+            };
+            lines += &format!("  {:13}  {what}\n", file.title);
+        }
+        lines
+    }
+
+    /// What the acceptance says of a given file.
+    fn about(&self, file: &FileType, acceptance: &Acceptance) -> String {
+        let mark = |is_set: bool| match is_set {
+            true => "marked: CodErrore is filled",
+            false => "no mark",
+        };
+        let measured = |axles: u32, is_set: bool| {
+            let axles = counted(axles as usize, "axle");
+            format!(", {axles}, {}", mark(is_set))
+        };
+        match file.number {
+            2 if self.places.value(2, 0).is_none() => ", not read with category L".to_string(),
+            3 => measured(acceptance.drift_axles, acceptance.drift_mark),
+            4 => measured(acceptance.suspension_axles, acceptance.suspension_mark),
+            5 => format!(", {}", mark(acceptance.gas_mark)),
+            _ => String::new(),
+        }
+    }
+
+    /// One object; the same members for acceptance and refusal.
+    pub fn json(&self) -> String {
+        let (refusal, acceptance) = match &self.verdict {
+            Ok(acceptance) => (NO_REFUSAL, *acceptance),
+            Err(explained) => (explained.refusal, NO_ACCEPTANCE),
+        };
+        let explained = self.verdict.as_ref().err();
+        let line = explained.and_then(|explained| explained.line.as_ref());
+        Object::default()
+            .string("stem", &self.set.stem_shown())
+            .truth("accepted", explained.is_none())
+            .number("number", refusal.number)
+            .number("file", refusal.file)
+            .number("line", refusal.line)
+            .optional(
+                "name",
+                explained.and_then(|explained| explained.name.as_deref()),
+            )
+            .optional(
+                "meaning",
+                explained.map(|explained| explained.meaning.as_str()),
+            )
+            .optional("text", line.map(|line| line.text.as_str()))
+            .optional("remark", line.and_then(|line| line.remark.as_deref()))
+            .optional(
+                "to_do",
+                explained.map(|explained| explained.advice.as_str()),
+            )
+            .number("drift_axles", acceptance.drift_axles)
+            .number("suspension_axles", acceptance.suspension_axles)
+            .truth("drift_mark", acceptance.drift_mark)
+            .truth("suspension_mark", acceptance.suspension_mark)
+            .truth("gas_mark", acceptance.gas_mark)
+            .strings("empty", self.set.empty_files())
+            .text()
+    }
+}
+
+pub fn counts_as_not_given(name: &str) -> String {
+    format!("{name} is empty and counts as not given")
+}
+
+/// The marked files of an acceptance.
+fn marks_in_short(acceptance: &Acceptance) -> String {
+    let marks = [
+        (acceptance.drift_mark, "drift"),
+        (acceptance.suspension_mark, "suspension"),
+        (acceptance.gas_mark, "gas"),
+    ];
+    let marked: Vec<&str> = marks
+        .into_iter()
+        .filter_map(|(is_set, name)| is_set.then_some(name))
+        .collect();
+    match marked.as_slice() {
+        [] => String::new(),
+        names => format!(", marked (CodErrore is filled): {}", names.join(", ")),
+    }
+}
+
+/// The numbers of an acceptance where there is a refusal, and the other way round.
+const NO_ACCEPTANCE: Acceptance = Acceptance {
+    drift_axles: 0,
+    suspension_axles: 0,
+    drift_mark: false,
+    suspension_mark: false,
+    gas_mark: false,
+};
+const NO_REFUSAL: Refusal = Refusal {
+    number: 0,
+    file: 0,
+    line: 0,
+};

@@ -1,0 +1,52 @@
+//! The station program: judges MCTCNet2 test sets that stand in a folder, shows what is due, reads and formats files.
+//!
+//! It decides nothing itself: every verdict is the library's. "01" is document 01, "MCTCNet2 test sets: booking, drift,
+//! suspension and gas".
+
+#![forbid(unsafe_code)]
+
+mod arguments;
+mod disk;
+mod due;
+mod explain;
+mod file_types;
+mod folder;
+mod format;
+mod help;
+mod json;
+mod judge;
+mod output;
+mod progress;
+mod read;
+mod shown;
+mod table;
+mod words;
+
+use std::process::ExitCode;
+
+use arguments::Command;
+use output::{Output, Status, Trouble};
+
+fn main() -> ExitCode {
+    let words: Vec<_> = std::env::args_os().skip(1).collect();
+    let status = arguments::parse(&words).and_then(run);
+    let status = status.unwrap_or_else(|trouble| {
+        trouble.print();
+        Status::Trouble
+    });
+    ExitCode::from(status.code())
+}
+
+fn run(command: Command) -> Result<Status, Trouble> {
+    let mut out = Output::standard();
+    let status = match &command {
+        Command::Print(text) => out.text(text).map(|()| Status::Accepted),
+        Command::JudgeSet { folder, stem, json } => judge::run(folder, stem, *json, &mut out),
+        Command::JudgeFolder { folder, json } => folder::run(folder, *json, &mut out),
+        Command::Due { folder, stem } => due::run(folder, stem, &mut out),
+        Command::Read(input) => read::run(input, &mut out),
+        Command::Format { input, new } => format::run(input, new.as_deref(), &mut out),
+    }?;
+    out.finish()?;
+    Ok(status)
+}

@@ -1,0 +1,120 @@
+//! `mctc read FILE`: one file alone, entry by entry.
+
+use std::os::unix::ffi::OsStrExt;
+use std::path::{Path, PathBuf};
+
+use mctc::{Places, Refusal};
+
+use crate::disk::{read_file, FileOnDisk};
+use crate::explain::{explain, Subject};
+use crate::file_types::{by_number, split_name};
+use crate::output::{Output, Status, Trouble};
+use crate::shown::{self, counted};
+use crate::table::{self, Section};
+
+/// The file to be read: its path, and its number where the command says it.
+#[derive(Debug, PartialEq, Eq)]
+pub struct Input {
+    pub path: PathBuf,
+    pub number: Option<u32>,
+}
+
+/// A file that the library was asked to read.
+pub struct FileRead {
+    pub number: u32,
+    pub file: FileOnDisk,
+    pub places: Places,
+    /// The axle count.
+    pub verdict: Result<u32, Refusal>,
+}
+
+pub fn run(input: &Input, out: &mut Output) -> Result<Status, Trouble> {
+    let read = input.read()?;
+    match read.verdict {
+        Ok(axles) => {
+            out.text(&read.page(axles))?;
+            Ok(Status::Accepted)
+        }
+        Err(refusal) => {
+            out.text(&read.refused(refusal))?;
+            Ok(Status::Refused)
+        }
+    }
+}
+
+impl Input {
+    pub fn read(&self) -> Result<FileRead, Trouble> {
+        let number = match self.number {
+            Some(number) => number,
+            None => number_of(&self.path)?,
+        };
+        let file = read_file(&self.path, self.path.as_os_str())?;
+        let mut places = Places::default();
+        let verdict = mctc::read(number, &file.text, &mut places);
+        Ok(FileRead {
+            number,
+            file,
+            places,
+            verdict,
+        })
+    }
+}
+
+/// The number that the ending of a name says.
+fn number_of(path: &Path) -> Result<u32, Trouble> {
+    let name = path.file_name().unwrap_or_default();
+    match split_name(name.as_bytes()) {
+        Some((_, file)) => Ok(file.number),
+        None => Err(Trouble(format!(
+            "{}: the ending is none of .AC2, .ACC, .DER, .SOS, .GAS; add --file and the file's number (1 new booking, \
+             2 old booking, 3 drift, 4 suspension, 5 gas)",
+            shown::name(path)
+        ))),
+    }
+}
+
+impl FileRead {
+    fn page(&self, axles: u32) -> String {
+        let title = by_number(self.number).map_or("", |file| file.title);
+        let mut page = format!("{}: {title} (file {})", self.file.name, self.number);
+        if axles > 0 {
+            page += &format!(", {}", counted(axles as usize, "axle"));
+        }
+        page.push('\n');
+        let sections = table::sections(self.number);
+        let width = longest_name(&sections);
+        for section in &sections {
+            page += &self.section(section, width);
+        }
+        page
+    }
+
+    /// A heading and its entries with their values; nothing for an axle that is not there.
+    fn section(&self, section: &Section, width: usize) -> String {
+        let mut rows = String::new();
+        for entry in &section.entries {
+            let place = self.places.value(self.number, entry.number);
+            rows += &match place.and_then(|place| self.file.text.get(place)) {
+                None => String::new(),
+                Some([]) => format!("  {:width$} =\n", entry.name),
+                Some(value) => format!("  {:width$} = {}\n", entry.name, shown::bytes(value)),
+            };
+        }
+        if rows.is_empty() {
+            return rows;
+        }
+        format!("{}\n{rows}", section.heading)
+    }
+
+    /// The refusal in plain words.
+    pub fn refused(&self, refusal: Refusal) -> String {
+        let explained = explain(refusal, Some(Subject::alone(&self.file)));
+        let (name, number) = (&self.file.name, refusal.number);
+        format!("{name}: refused, number {number}\n{}", explained.page())
+    }
+}
+
+fn longest_name(sections: &[Section]) -> usize {
+    let entries = sections.iter().flat_map(|section| &section.entries);
+    entries.map(|entry| entry.name.len()).max().unwrap_or(0)
+}

@@ -1,0 +1,41 @@
+//! The program run as a user would run it.
+
+use std::ffi::OsStr;
+use std::fs;
+use std::path::{Path, PathBuf};
+use std::process::{Command, Output};
+
+/// The repository's root, where the samples are.
+pub fn repository() -> PathBuf {
+    let root = Path::new(env!("CARGO_MANIFEST_DIR")).parent();
+    root.expect("a folder above").to_path_buf()
+}
+
+/// The program, to be run in this folder.
+pub fn program(folder: &Path) -> Command {
+    let mut command = Command::new(env!("CARGO_BIN_EXE_mctc"));
+    command.current_dir(folder);
+    command
+}
+
+pub fn run(folder: &Path, words: &[impl AsRef<OsStr>]) -> Output {
+    let output = program(folder).args(words).output();
+    output.expect("the program runs")
+}
+
+/// An empty folder of this name for a test's own files.
+pub fn empty_folder(name: &str) -> PathBuf {
+    let folder = Path::new(env!("CARGO_TARGET_TMPDIR")).join(name);
+    if folder.exists() {
+        fs::remove_dir_all(&folder).expect("the folder of an earlier run is removed");
+    }
+    fs::create_dir_all(&folder).expect("a folder");
+    folder
+}
+
+/// Writes a file, and the folders above it.
+pub fn put(path: impl AsRef<Path>, bytes: impl AsRef<[u8]>) {
+    let path = path.as_ref();
+    fs::create_dir_all(path.parent().expect("a folder above")).expect("a folder");
+    fs::write(path, bytes).expect("a file is written");
+}

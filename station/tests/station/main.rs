@@ -1,0 +1,7 @@
+//! The program `mctc` run as a user would run it.
+
+mod common;
+mod readme;
+mod reference;
+mod streams;
+mod transcripts;

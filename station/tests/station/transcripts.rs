@@ -1,0 +1,235 @@
+//! The program against stored transcripts: standard output, standard error and exit status of each command.
+//!
+//! A transcript has for each command a line `$ mctc ..`, its standard output, each line of its standard error behind
+//! `2> `, and its exit status behind `=> `. `\xHH` in a word is that byte. Lines that begin with `# ` before a command
+//! are comments.
+
+use std::ffi::OsStr;
+use std::fs::{self, File};
+use std::os::unix::ffi::OsStrExt;
+use std::os::unix::fs::symlink;
+use std::path::{Path, PathBuf};
+use std::process::Command;
+
+use crate::common::{empty_folder, put, repository, run};
+
+fn transcripts() -> PathBuf {
+    repository().join("station/tests/transcripts")
+}
+
+/// Makes the commands of a transcript in this folder; the transcript must come out byte for byte.
+fn check(name: &str, folder: &Path) {
+    let stored = fs::read(transcripts().join(name)).expect("a transcript");
+    let mut found = Vec::new();
+    let mut within = false;
+    for line in stored.split_inclusive(|byte| *byte == b'\n') {
+        if let Some(words) = line.strip_prefix(b"$ mctc") {
+            found.extend(line);
+            found.extend(outcome(folder, words));
+            within = true;
+        } else if line.starts_with(b"=> ") {
+            within = false;
+        } else if !within {
+            found.extend(line);
+        }
+    }
+    if found != stored {
+        let copy = Path::new(env!("CARGO_TARGET_TMPDIR")).join(name);
+        put(&copy, &found);
+        panic!(
+            "the program answers otherwise than {name} has it:\n{}see {}",
+            first_difference(&stored, &found),
+            copy.display()
+        );
+    }
+}
+
+fn outcome(folder: &Path, words: &[u8]) -> Vec<u8> {
+    let words: Vec<Vec<u8>> = words
+        .split(u8::is_ascii_whitespace)
+        .filter(|word| !word.is_empty())
+        .map(unescaped)
+        .collect();
+    let words: Vec<&OsStr> = words.iter().map(|word| OsStr::from_bytes(word)).collect();
+    let output = run(folder, &words);
+    let mut text = output.stdout;
+    if !text.is_empty() && !text.ends_with(b"\n") {
+        text.extend(b"(no end of line)\n");
+    }
+    for line in output.stderr.split_inclusive(|byte| *byte == b'\n') {
+        text.extend(b"2> ");
+        text.extend(line);
+    }
+    let code = output.status.code().expect("an exit status");
+    text.extend(format!("=> {code}\n").bytes());
+    text
+}
+
+/// `\xHH` as the byte.
+fn unescaped(word: &[u8]) -> Vec<u8> {
+    let text = std::str::from_utf8(word).expect("a word of a transcript");
+    let mut parts = text.split("\\x");
+    let mut bytes = parts.next().unwrap_or_default().as_bytes().to_vec();
+    for part in parts {
+        let (digits, rest) = part.split_at(2);
+        bytes.push(u8::from_str_radix(digits, 16).expect("two hexadecimal digits"));
+        bytes.extend(rest.bytes());
+    }
+    bytes
+}
+
+fn first_difference(stored: &[u8], found: &[u8]) -> String {
+    let lines = |text: &[u8]| -> Vec<String> {
+        let lines = text.split_inclusive(|byte| *byte == b'\n');
+        lines
+            .map(|line| format!("{}", line.escape_ascii()))
+            .collect()
+    };
+    let (stored, found) = (lines(stored), lines(found));
+    let none = "nothing".to_string();
+    let at = (0..)
+        .find(|at| stored.get(*at) != found.get(*at))
+        .expect("a difference");
+    format!(
+        "line {}\n  stored: {}\n  found:  {}\n",
+        at + 1,
+        stored.get(at).unwrap_or(&none),
+        found.get(at).unwrap_or(&none)
+    )
+}
+
+#[test]
+fn help_and_usage() {
+    check("help.txt", &repository());
+    check("usage.txt", &repository());
+}
+
+#[test]
+fn accepted_samples() {
+    check("accepted.txt", &repository());
+}
+
+#[test]
+fn refused_samples() {
+    check("refused.txt", &repository());
+}
+
+#[test]
+fn due_entries_of_samples() {
+    check("due.txt", &repository());
+}
+
+#[test]
+fn files_read_and_formatted() {
+    check("read.txt", &repository());
+    check("format.txt", &repository());
+}
+
+/// Every sample stands in a transcript.
+#[test]
+fn samples_are_all_tried() {
+    let tried = ["accepted.txt", "refused.txt"]
+        .map(|name| fs::read_to_string(transcripts().join(name)).expect("a transcript"));
+    for entry in fs::read_dir(repository().join("samples")).expect("the samples") {
+        let path = entry.expect("a sample").path();
+        let name = path
+            .file_name()
+            .expect("a name")
+            .to_string_lossy()
+            .into_owned();
+        let command = format!("$ mctc judge samples/{name} ");
+        let stands = tried.iter().any(|text| text.contains(&command));
+        assert!(stands || path.is_file(), "{name} is in no transcript");
+    }
+}
+
+/// A folder with all that can be odd about files on disk.
+fn odd_files() -> PathBuf {
+    let folder = empty_folder("odd-files");
+    let sample = |name: &str| fs::read(repository().join("samples").join(name)).expect("a sample");
+    let ac2 = sample("accepted-trailer/AC204711.ac2");
+    let drift = sample("accepted-trailer/AC204711.der");
+    let gas = sample("refused-11-not-due/AB131111.GAS");
+
+    put(folder.join("endings/AC204711.Ac2"), &ac2);
+    put(folder.join("endings/AC204711.DER"), &drift);
+    put(folder.join("endings/ac204711.AC2"), &ac2);
+    put(folder.join("endings/README"), "no file of a set\n");
+
+    put(folder.join("twice/AC204711.AC2"), &ac2);
+    put(folder.join("twice/AC204711.der"), &drift);
+    put(folder.join("twice/AC204711.DER"), &drift);
+
+    put(folder.join("unreadable/AC000001.AC2"), &ac2);
+    fs::create_dir_all(folder.join("unreadable/AC000001.GAS")).expect("a folder");
+    put(folder.join("unreadable/AC000002.AC2"), &ac2);
+    symlink("nowhere", folder.join("unreadable/AC000002.DER")).expect("a link");
+    put(folder.join("unreadable/AC000003.AC2"), &ac2);
+    let pipe = folder.join("unreadable/AC000003.ID");
+    let made = Command::new("mkfifo")
+        .arg(pipe)
+        .status()
+        .expect("mkfifo runs");
+    assert!(made.success(), "mkfifo");
+    symlink("AC000003.AC2", folder.join("unreadable/AC000004.AC2")).expect("a link");
+
+    put(folder.join("empty/AC204711.AC2"), &ac2);
+    put(folder.join("empty/AC204711.GAS"), "");
+    put(folder.join("empty/AC204711.ID"), "");
+
+    fs::create_dir_all(folder.join("nothing")).expect("a folder");
+
+    put(folder.join("mixed/AC204711.AC2"), &ac2);
+    put(folder.join("mixed/AC204712.DER"), &drift);
+    put(folder.join("mixed/AC204713.AC2"), &ac2);
+    put(folder.join("mixed/AC204713.ac2"), &ac2);
+    put(folder.join("mixed/AC204714.AC2"), &ac2);
+    put(folder.join("mixed/AC204714.GAS"), &gas);
+    put(folder.join("mixed/.ID"), "x");
+    put(folder.join(OsStr::from_bytes(b"mixed/A\xFFB\n.AC2")), &ac2);
+    put(folder.join("mixed/\u{e8} \"\\.AC2"), &ac2);
+
+    let with_line = |line: &[u8]| [b"[Deriva]\r\n".as_slice(), line].concat();
+    let long = [b"Marca=".as_slice(), &[b'x'; 600], b"\r\nTipo=A\r\n"].concat();
+    let lines: [(&str, &[u8]); 7] = [
+        ("AC000001", b"Marca=A\x00\x1B\xE8\r\nTipo=B\r\n"),
+        ("AC000002", b"Marca=A\nTipo=B\r\n"),
+        ("AC000003", b"Marca=A"),
+        ("AC000004", b"Marca=A\rB\r\n"),
+        ("AC000005", b"\r\nMarca=A\r\n"),
+        ("AC000006", &long),
+        ("AC000007", b"Marca=A\r"),
+    ];
+    for (stem, line) in lines {
+        put(folder.join(format!("lines/{stem}.AC2")), &ac2);
+        put(folder.join(format!("lines/{stem}.DER")), with_line(line));
+    }
+
+    put(folder.join("big/AC204711.AC2"), &ac2);
+    for name in ["big/AC204711.DER", "big/AC204711.GAS"] {
+        let file = File::create(folder.join(name)).expect("a file");
+        file.set_len(1 << 40)
+            .expect("a file of a terabyte, with nothing on the disk");
+    }
+
+    put(folder.join("out/there"), "stays\n");
+    put(folder.join("out/AC204711.DER"), &drift);
+    folder
+}
+
+#[test]
+fn odd_files_on_disk() {
+    let folder = odd_files();
+    check("odd-files.txt", &folder);
+    let out = |name: &str| fs::read(folder.join("out").join(name)).expect("a file");
+    assert_eq!(out("there"), b"stays\n", "a file was overwritten");
+    assert_eq!(
+        out("new"),
+        out("AC204711.DER"),
+        "in table order before, so the same bytes"
+    );
+    assert!(
+        !folder.join("out/refused").exists(),
+        "a file was left by a refusal"
+    );
+}
