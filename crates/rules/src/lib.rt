@@ -94,9 +94,7 @@ fn value_is(text: &[u8], places: &[u32], k: usize, word: &[u8]) -> bool
     requires { ⌜ PairHeld (now text) (now places) k ⌝ }
     ensures { λ r. ⌜ r ≡ sameBytes (valueOf (now (text .entry)) (now (places .entry)) k) (now (word .entry)) ⌝ }
 {
-    let a = places::start_of(places, k) as usize;
-    let b = a + (places::length_of(places, k) as usize);
-    lines::equal(&text[a..b], word)
+    lines::equal(places::value_of(text, places, k), word)
 }
 
 // Whether the value of pair k in one text is that of pair j in the other.
@@ -104,18 +102,14 @@ fn same_values(text: &[u8], k: usize, other: &[u8], j: usize, places: &[u32]) ->
     requires { ⌜ PairHeld (now text) (now places) k × PairHeld (now other) (now places) j ⌝ }
     ensures { λ r. ⌜ r ≡ sameBytes (valueOf (now (text .entry)) (now (places .entry)) k) (valueOf (now (other .entry)) (now (places .entry)) j) ⌝ }
 {
-    let a = places::start_of(places, j) as usize;
-    let b = a + (places::length_of(places, j) as usize);
-    value_is(text, places, k, &other[a..b])
+    value_is(text, places, k, places::value_of(other, places, j))
 }
 
 fn number_at(text: &[u8], places: &[u32], k: usize) -> kinds::NumberRead
     requires { ⌜ PairHeld (now text) (now places) k ⌝ }
     ensures { λ r. ⌜ r ≡ numberRead (valueOf (now (text .entry)) (now (places .entry)) k) ⌝ }
 {
-    let a = places::start_of(places, k) as usize;
-    let b = a + (places::length_of(places, k) as usize);
-    kinds::read_number(&text[a..b])
+    kinds::read_number(places::value_of(text, places, k))
 }
 
 fn number_is(text: &[u8], places: &[u32], k: usize, n: usize) -> bool
@@ -205,9 +199,7 @@ fn category_in(booking: &[u8], places: &[u32]) -> usize
     requires { ⌜ PairHeld (now booking) (now places) 2 ⌝ }
     ensures { λ r. ⌜ r ≡ wordIndex (words categories) (valueOf (now (booking .entry)) (now (places .entry)) 2) ⌝ }
 {
-    let a = places::start_of(places, 2) as usize;
-    let b = a + (places::length_of(places, 2) as usize);
-    kinds::word_index(1, &booking[a..b])
+    kinds::word_index(1, places::value_of(booking, places, 2))
 }
 
 // ---- AC2's own rules
@@ -318,9 +310,7 @@ fn year_fits_at(booking: &[u8], text: &[u8], places: &[u32]) -> bool
     requires { ⌜ PairHeld (now booking) (now places) 4 × PairHeld (now text) (now places) 14 ⌝ }
     ensures { λ r. ⌜ r ≡ yearFits (valueOf (now (booking .entry)) (now (places .entry)) 4) (valueOf (now (text .entry)) (now (places .entry)) 14) ⌝ }
 {
-    let a = places::start_of(places, 4) as usize;
-    let b = a + (places::length_of(places, 4) as usize);
-    year_fits(&booking[a..b], text, places)
+    year_fits(places::value_of(booking, places, 4), text, places)
 }
 
 fn directive_in(booking: &[u8], places: &[u32]) -> Directive
@@ -368,9 +358,7 @@ fn period_in(booking: &[u8], places: &[u32]) -> Period
     requires { ⌜ PairHeld (now booking) (now places) 4 ⌝ }
     ensures { λ r. ⌜ r ≡ periodOf (valueOf (now (booking .entry)) (now (places .entry)) 4) ⌝ }
 {
-    let a = places::start_of(places, 4) as usize;
-    let b = a + (places::length_of(places, 4) as usize);
-    period_of(&booking[a..b])
+    period_of(places::value_of(booking, places, 4))
 }
 
 fn rt1902_word(period: Period) -> PetrolWord
@@ -479,9 +467,12 @@ fn parking_axles_fit(booking: &[u8], text: &[u8], places: &[u32]) -> bool
     requires { ⌜ PairHeld (now booking) (now places) 11 × PairHeld (now text) (now places) 17 ⌝ }
     ensures { λ r. ⌜ r ≡ parkingAxlesFit (valueOf (now (booking .entry)) (now (places .entry)) 11) (valueOf (now (text .entry)) (now (places .entry)) 17) ⌝ }
 {
-    let a = places::start_of(places, 11) as usize;
-    let b = a + (places::length_of(places, 11) as usize);
-    number_is(text, places, 17, count_s(&booking[a..b]))
+    number_is(
+        text,
+        places,
+        17,
+        count_s(places::value_of(booking, places, 11)),
+    )
 }
 
 fn broken_booking(entry: usize) -> RuleCheck
@@ -693,9 +684,7 @@ fn same_field(answer: &[u8], last: usize, end: usize, gas: &[u8], places: &[u32]
     requires { ⌜ ((last < end) × (end ≤ length (now answer))) × PairHeld (now gas) (now places) k ⌝ }
     ensures { λ r. ⌜ r ≡ sameBytes (part (now (answer .entry)) (last + 1) end) (valueOf (now (gas .entry)) (now (places .entry)) k) ⌝ }
 {
-    let a = places::start_of(places, k) as usize;
-    let b = a + (places::length_of(places, k) as usize);
-    lines::equal(&answer[last + 1..end], &gas[a..b])
+    lines::equal(&answer[last + 1..end], places::value_of(gas, places, k))
 }
 
 // 15: whether the seven fields of the answer are gas's seven values.
