@@ -6,7 +6,7 @@ use mathlib.Core.Path.{_≡_, refl, ap, sym, _∙_}
 use mathlib.Core.Option.{Option, none, some}
 use mathlib.Core.List.{List, [], _∷_, _++_, append-assoc, append-nil}
 use lib.ListN.{length, getD, set, take, drop, length-append, length-set, drop-of-length-le}
-use lib.Seq.{drop-cons, getD-take, length-take-le, take-suc-set}
+use lib.Seq.{drop-cons, length-take-le, take-suc-set}
 use Rattle.kinds.specs.Kind.{Kind}
 use Rattle.places.specs.Places.{Pair, setPair, setPairs}
 use Rattle.orders.specs.AnyOrder.{zip}
@@ -117,7 +117,3 @@ module _ (ks : List (Option Kind)) (xs l : List ℕ) where
               done = omega (arith, length-set m e (getD xs r 0));
               same = rw (add-one e, take-suc-set m e (getD xs r 0) b) (append-assoc (take e m) (getD xs r 0 ∷ []) rest ∙ shown);
             }
-
--- the row r of the first n
-pub row-of-first : (ks : List (Option Kind)) (n r : ℕ) → r < n → getD (take n ks) r none ≡ getD ks r none
-row-of-first ks n r l = getD-take n ks r none l

@@ -4,31 +4,67 @@ use native.Mathlib.Omega.{arith}
 use mathlib.Core.Path.{_≡_, refl, ap, ap₂, sym, subst, _∙_}
 use mathlib.Core.Option.{Option, some}
 use mathlib.Core.List.{List, [], _∷_, _++_, map}
-use lib.ListN.{length, take, drop, replicate, length-append, length-drop}
+use lib.ListN.{length, take, drop, replicate, length-append, length-drop, length-map, length-take}
 use borrow.Author.Tests.{le-leb, lt-leb}
 use Rattle.refusals.specs.Refusals.{numberOf}
 use Rattle.kinds.specs.Kind.{Kind}
-use Rattle.places.specs.Places.{placeSize, setPairs}
+use Rattle.places.specs.Places.{placeSize}
 use Rattle.tables.specs.Section.{Entry, Section, entriesOf}
 use Rattle.tables.specs.File.{File, ac2, acc, drift, suspension, gas, ofNumber, tableOf, firstPair, leastSections, leastPlaces, room, entries, allSections, pairCount}
 use Rattle.tables.specs.Row.{rowCount, rowsBefore}
 use Rattle.tables.proofs.Numbers.{room-in}
 use Rattle.tables.proofs.Rows.{rows-few}
 use Rattle.orders.specs.AnyOrder.{zip}
-use Rattle.reading.specs.Reading.{rowKinds, ofEntries, Slots, slots, emptySlots, refused, read, readText}
+use Rattle.reading.specs.Reading.{rowKinds, checkAbsent, checkKinds, ofEntries, Slots, slots, emptySlots, refused, read, readText}
 use Rattle.reading.specs.Scanning.{Ready, Scanned}
 use Rattle.reading.proofs.Lookup.{kinds-count, rows-le}
 use Rattle.reading.proofs.Sections.{kinds-take}
 use Rattle.reading.proofs.Shape.{entries-length}
 use Rattle.reading.proofs.Judging.{scan-refused, scan-judged}
+use Rattle.rows.specs.Rows.{rowKind}
 use Rattle.files.specs.Files.{readBy, readNumbered}
-use Rattle.files.specs.Steps.{scanIs, JudgesSlots, WriteReady, WritesRead, ReadsSlots, ReadsText}
+use Rattle.files.specs.Steps.{KindsOf, scanIs, checkIs, ValuesReady, JudgesSlots, RowsReady, WriteReady, WritesRows, WritesRead, ReadsSlots, ReadsText}
 use Rattle.files.specs.declared.Fault.{Fault}
 use Rattle.files.specs.declared.Outcome.{Outcome}
 use Rattle.files.specs.declared.Outcome.the-variants.{Passed, Failed}
 use Rattle.files.specs.declared.TextAnswer.{TextAnswer}
 use Rattle.files.specs.declared.TextAnswer.the-variants.{Sections, Faulty}
 use Rattle.files.proofs.Entries.{zip-length}
+
+-- ---- the kinds by their numbers
+
+module _ (n : ℕ) (ks : List ℕ) (k : KindsOf n ks) where
+  pub kinds-length : length ks ≡ rowCount (tableOf n)
+  kinds-length = sym (length-map ks rowKind) ∙ ap length k ∙ kinds-count (tableOf n)
+
+  -- the checks over the numbers are those over the kinds
+  pub absent-is : (o : Outcome) (l : List ℕ) (rows : ℕ) → checkIs o ≡ checkAbsent (map rowKind ks) l rows → checkAbsent (rowKinds (tableOf n)) l rows ≡ checkIs o
+  absent-is o l rows e = ap (λ (x : List (Option Kind)). checkAbsent x l rows) (sym k) ∙ sym e
+
+  pub kinds-is : (o : Outcome) (s : List ℕ) (a : Slots) (rows : ℕ) → checkIs o ≡ checkKinds (map rowKind ks) s a rows → checkKinds (rowKinds (tableOf n)) s a rows ≡ checkIs o
+  kinds-is o s a rows e = ap (λ (x : List (Option Kind)). checkKinds x s a rows) (sym k) ∙ sym e
+
+  pub values-ready : (s : List ℕ) (a : Slots) (rows : ℕ) → Ready (tableOf n) s a → rows ≤ rowCount (tableOf n) → ValuesReady ks s a rows
+  values-ready s a rows w l =
+      record {
+        kinds-there = omega (arith, kinds-length);
+        lines-there = omega (arith, w .lines-are);
+        starts-there = omega (arith, w .starts-are);
+        lengths-there = omega (arith, w .lengths-are);
+        within = w .within;
+        printable = w .printable;
+      }
+
+-- the first numbers, as many as the table has rows
+module _ (n m : ℕ) (ks : List ℕ) (e : m ≡ rowCount (tableOf n)) (k : map rowKind (take (rowCount (tableOf n)) ks) ≡ rowKinds (tableOf n)) where
+  pub kinds-part : KindsOf n (take m ks)
+  kinds-part = ap (λ (i : ℕ). map rowKind (take i ks)) e ∙ k
+
+  pub kinds-taken : m ≡ length (take m ks)
+  kinds-taken = e ∙ sym (kinds-length n (take m ks) kinds-part)
+
+  pub kinds-within : m ≤ length ks
+  kinds-within = omega (arith, kinds-taken, length-take m ks)
 
 -- ---- how many entries rows have
 
@@ -82,9 +118,9 @@ lines-fit n c = omega (arith, entries-first (tableOf n) c, entries-le (tableOf n
 
 -- ---- what write_read asks of its parts, and gives
 
-module _ (n c : ℕ) (a : Slots) (p ls : List ℕ) (w : WriteReady n c a p ls) (rows : ℕ) (e : rows ≡ rowsBefore (tableOf n) c) where
-  first-rows : take rows (rowKinds (tableOf n)) ≡ rowKinds (take c (tableOf n))
-  first-rows = ap (λ (m : ℕ). take m (rowKinds (tableOf n))) e ∙ sym (kinds-take (tableOf n) c)
+module _ (n c : ℕ) (ks : List ℕ) (k : KindsOf n ks) (a : Slots) (p ls : List ℕ) (w : WriteReady n c a p ls) (rows : ℕ) (e : rows ≡ rowsBefore (tableOf n) c) where
+  first-rows : take rows (map rowKind ks) ≡ rowKinds (take c (tableOf n))
+  first-rows = ap₂ (λ (m : ℕ) (x : List (Option Kind)). take m x) e k ∙ sym (kinds-take (tableOf n) c)
 
   rows-fit : rows ≤ rowCount (tableOf n)
   rows-fit = omega (arith, e, rows-le (tableOf n) c)
@@ -92,32 +128,24 @@ module _ (n c : ℕ) (a : Slots) (p ls : List ℕ) (w : WriteReady n c a p ls) (
   few : rowCount (take c (tableOf n)) ≤ rowCount (tableOf n)
   few = rows-le (tableOf n) c
 
-  pub pairs-ready : (first : ℕ) → first ≡ ofNumber 0 firstPair n
-      → (rows ≤ length (a .starts)) × (length (a .lengths) ≡ length (a .starts)) × (rows ≤ length (rowKinds (tableOf n)))
-      × (placeSize * (first + length (ofEntries (take rows (rowKinds (tableOf n))) (zip (a .starts) (a .lengths)))) ≤ length p)
-  pairs-ready first f =
+  pub rows-ready : (first : ℕ) → first ≡ ofNumber 0 firstPair n → RowsReady ks first a rows p ls
+  rows-ready first f =
       let z = zip-length (a .starts) (a .lengths) (w .lengths-are ∙ sym (w .starts-are)) in
-      let m = entries-many (take c (tableOf n)) (zip (a .starts) (a .lengths)) (omega (arith, few, z, w .starts-are, w .rows-are)) in (
-        omega (arith, rows-fit, w .starts-are, w .rows-are),
-        w .lengths-are ∙ sym (w .starts-are),
-        omega (arith, rows-fit, kinds-count (tableOf n)),
-        rw first-rows (omega (arith, m, f, w .pairs-fit)),
-      )
-
-  pub lines-ready : (rows ≤ length (a .lineNumbers)) × (rows ≤ length (rowKinds (tableOf n))) × (length (ofEntries (take rows (rowKinds (tableOf n))) (a .lineNumbers)) ≤ length ls)
-  lines-ready =
-      let m = entries-many (take c (tableOf n)) (a .lineNumbers) (omega (arith, few, w .rows-are)) in
-      (omega (arith, rows-fit, w .rows-are), omega (arith, rows-fit, kinds-count (tableOf n)), rw first-rows (omega (arith, m, w .lines-fit)))
-
-  pub both-written : (first : ℕ) (q l : List ℕ) → first ≡ ofNumber 0 firstPair n
-      → q ≡ setPairs first (ofEntries (take rows (rowKinds (tableOf n))) (zip (a .starts) (a .lengths))) p
-      → take (length (ofEntries (take rows (rowKinds (tableOf n))) (a .lineNumbers))) l ≡ ofEntries (take rows (rowKinds (tableOf n))) (a .lineNumbers)
-      → WritesRead n c a p q l
-  both-written first q l f x y =
+      let m = entries-many (take c (tableOf n)) (zip (a .starts) (a .lengths)) (omega (arith, few, z, w .starts-are, w .rows-are)) in
+      let l = entries-many (take c (tableOf n)) (a .lineNumbers) (omega (arith, few, w .rows-are)) in
       record {
-        pairs = x ∙ ap₂ (λ (m : ℕ) (ks : List (Option Kind)). setPairs m (ofEntries ks (zip (a .starts) (a .lengths))) p) f first-rows;
-        lines = subst (λ (ks : List (Option Kind)). take (length (ofEntries ks (a .lineNumbers))) l ≡ ofEntries ks (a .lineNumbers)) first-rows y;
+        kinds-there = omega (arith, rows-fit, kinds-length n ks k);
+        lines-there = omega (arith, rows-fit, w .rows-are);
+        starts-there = omega (arith, rows-fit, w .starts-are, w .rows-are);
+        lengths-are = w .lengths-are ∙ sym (w .starts-are);
+        pairs-fit = rw first-rows (omega (arith, m, f, w .pairs-fit));
+        lines-fit = rw first-rows (omega (arith, l, w .lines-fit));
       }
+
+  pub rows-written : (first : ℕ) (q l : List ℕ) → first ≡ ofNumber 0 firstPair n → WritesRows (take rows (map rowKind ks)) first a p q l → WritesRead n c a p q l
+  rows-written first q l f x =
+      subst (λ (m : ℕ). WritesRows (rowKinds (take c (tableOf n))) m a p q l) f
+      (subst (λ (y : List (Option Kind)). WritesRows y first a p q l) first-rows x)
 
 -- ---- 4 to 9
 

@@ -1,17 +1,17 @@
 // One file read by its table (01, Judging), for a set and alone.
 ghost use mathlib.Core.Path.{_≡_};
-ghost use mathlib.Core.Option.{none};
-ghost use Prim.Native.Nat.{_+_, _*_, _≤_};
-ghost use lib.ListN.{length, getD, take};
+ghost use mathlib.Core.List.{map};
+ghost use Prim.Native.Nat.{_+_, _≤_, _<_};
+ghost use lib.ListN.{length, take};
 ghost use Rattle.lines.specs.Bytes.{allPrintable};
-ghost use Rattle.places.specs.Places.{valueAt, placeSize, setPairs};
+ghost use Rattle.places.specs.Places.{valueAt};
 ghost use mathlib.Core.Bool.{true};
 ghost use Rattle.tables.specs.File.{tableOf, isFile, ofNumber, leastSections, leastPlaces};
 ghost use Rattle.tables.specs.Row.{rowCount};
-ghost use Rattle.orders.specs.AnyOrder.{zip};
-ghost use Rattle.reading.specs.Reading.{rowKinds, ofEntries, slots, emptySlots, sectionsFound, checkGap, checkAbsent, checkKinds, keptRow, ownerRow};
+ghost use Rattle.reading.specs.Reading.{slots, emptySlots, sectionsFound, checkGap, checkAbsent, checkKinds, keptRow, ownerRow};
 ghost use Rattle.reading.specs.Scanning.{Took, Ready, Scanned};
-ghost use Rattle.files.specs.Steps.{failure, scanIs, checkIs, JudgesSlots, WriteReady, WritesRead, ReadsSlots, ReadsText};
+ghost use Rattle.rows.specs.Rows.{rowKind};
+ghost use Rattle.files.specs.Steps.{KindsOf, ValuesReady, RowsReady, WritesRows, failure, scanIs, checkIs, JudgesSlots, WriteReady, WritesRead, ReadsSlots, ReadsText};
 ghost use Rattle.files.specs.Alone.{refusedAs, ReadsCleared, ReadsAlone};
 use lines::Cursor;
 use lines::LineRead;
@@ -170,12 +170,13 @@ fn check_gap(numbers: &[u32], rows: usize) -> Outcome
 }
 
 // The row of the heading that a row stands under.
-fn owner_row(file: u32, row: usize) -> usize
-    ensures { λ r. ⌜ (r ≡ ownerRow (rowKinds (tableOf file)) row) × (r ≤ row) ⌝ }
+fn owner_row(kinds: &[u8], row: usize) -> usize
+    requires { ⌜ row < length (now kinds) ⌝ }
+    ensures { λ r. ⌜ (r ≡ ownerRow (map rowKind (now (kinds .entry))) row) × (r ≤ row) ⌝ }
 {
     let mut r = row;
     while 0 < r {
-        if HEADING <= rows::row_kind(file, r) {
+        if HEADING <= kinds[r] {
             return r;
         }
         r -= 1;
@@ -184,14 +185,14 @@ fn owner_row(file: u32, row: usize) -> usize
 }
 
 // 8: the first row that was not found.
-fn check_absent(file: u32, numbers: &[u32], rows: usize) -> Outcome
-    requires { ⌜ rows ≤ length (now numbers) ⌝ }
-    ensures { λ r. ⌜ checkIs r ≡ checkAbsent (rowKinds (tableOf file)) (now (numbers .entry)) rows ⌝ }
+fn check_absent(kinds: &[u8], numbers: &[u32], rows: usize) -> Outcome
+    requires { ⌜ (rows ≤ length (now kinds)) × (rows ≤ length (now numbers)) ⌝ }
+    ensures { λ r. ⌜ checkIs r ≡ checkAbsent (map rowKind (now (kinds .entry))) (now (numbers .entry)) rows ⌝ }
 {
     let mut r = 0;
     while r < rows {
         if numbers[r] == 0 {
-            let heading = owner_row(file, r);
+            let heading = owner_row(kinds, r);
             return Outcome::Failed(Fault {
                 kind: RefusalKind::EntryAbsent,
                 line: numbers[heading],
@@ -203,14 +204,13 @@ fn check_absent(file: u32, numbers: &[u32], rows: usize) -> Outcome
 }
 
 // Whether the value of a row is empty or of its kind.
-fn row_kept(file: u32, text: &[u8], row: usize, start: u32, size: u32) -> bool
+fn row_kept(kind: u8, text: &[u8], start: u32, size: u32) -> bool
     requires { ⌜ (start + size ≤ length (now text)) × (allPrintable (valueAt (now text) (start, size)) ≡ true) ⌝ }
-    ensures { λ r. ⌜ r ≡ keptRow (getD (rowKinds (tableOf file)) row none) (valueAt (now (text .entry)) (start, size)) ⌝ }
+    ensures { λ r. ⌜ r ≡ keptRow (rowKind kind) (valueAt (now (text .entry)) (start, size)) ⌝ }
 {
     if size == 0 {
         return true;
     }
-    let kind = rows::row_kind(file, row);
     if HEADING <= kind {
         return true;
     }
@@ -221,19 +221,19 @@ fn row_kept(file: u32, text: &[u8], row: usize, start: u32, size: u32) -> bool
 
 // 9: the first row whose value is of the wrong kind.
 fn check_kinds(
-    file: u32,
+    kinds: &[u8],
     text: &[u8],
     numbers: &[u32],
     starts: &[u32],
     lengths: &[u32],
     rows: usize,
 ) -> Outcome
-    requires { ⌜ Ready (tableOf file) (now text) (slots (now numbers) (now starts) (now lengths)) × (rows ≤ length (now numbers)) ⌝ }
-    ensures { λ r. ⌜ checkIs r ≡ checkKinds (rowKinds (tableOf file)) (now (text .entry)) (slots (now (numbers .entry)) (now (starts .entry)) (now (lengths .entry))) rows ⌝ }
+    requires { ⌜ ValuesReady (now kinds) (now text) (slots (now numbers) (now starts) (now lengths)) rows ⌝ }
+    ensures { λ r. ⌜ checkIs r ≡ checkKinds (map rowKind (now (kinds .entry))) (now (text .entry)) (slots (now (numbers .entry)) (now (starts .entry)) (now (lengths .entry))) rows ⌝ }
 {
     let mut r = 0;
     while r < rows {
-        if !row_kept(file, text, r, starts[r], lengths[r]) {
+        if !row_kept(kinds[r], text, starts[r], lengths[r]) {
             return Outcome::Failed(Fault {
                 kind: RefusalKind::WrongKind,
                 line: numbers[r],
@@ -247,12 +247,13 @@ fn check_kinds(
 // 7, 8, 9, of a text that was scanned.
 fn judge_slots(
     file: u32,
+    kinds: &[u8],
     text: &[u8],
     numbers: &[u32],
     starts: &[u32],
     lengths: &[u32],
 ) -> TextAnswer
-    requires { ⌜ Ready (tableOf file) (now text) (slots (now numbers) (now starts) (now lengths)) ⌝ }
+    requires { ⌜ KindsOf file (now kinds) × Ready (tableOf file) (now text) (slots (now numbers) (now starts) (now lengths)) ⌝ }
     ensures { λ r. ⌜ JudgesSlots (tableOf file) (ofNumber 0 leastSections file) (now (text .entry)) (slots (now (numbers .entry)) (now (starts .entry)) (now (lengths .entry))) r ⌝ }
 {
     let count = sections_found(file, numbers);
@@ -266,52 +267,39 @@ fn judge_slots(
     if let Outcome::Failed(x) = check_gap(numbers, rows) {
         return TextAnswer::Faulty(x);
     }
-    if let Outcome::Failed(x) = check_absent(file, numbers, rows) {
+    if let Outcome::Failed(x) = check_absent(kinds, numbers, rows) {
         return TextAnswer::Faulty(x);
     }
-    if let Outcome::Failed(x) = check_kinds(file, text, numbers, starts, lengths, rows) {
+    if let Outcome::Failed(x) = check_kinds(kinds, text, numbers, starts, lengths, rows) {
         return TextAnswer::Faulty(x);
     }
     TextAnswer::Sections(count)
 }
 
-// The pairs of the entries among the first rows, from a first pair on.
-fn write_pairs(
-    file: u32,
+// The pairs of the entries among the first rows, from a first pair on, and their lines.
+fn write_rows(
+    kinds: &[u8],
     first: usize,
+    numbers: &[u32],
     starts: &[u32],
     lengths: &[u32],
     rows: usize,
     places: &mut [u32],
+    lines: &mut [u32],
 )
-    requires { ⌜ (rows ≤ length (now starts)) × (length (now lengths) ≡ length (now starts)) × (rows ≤ length (rowKinds (tableOf file))) × (placeSize * (first + length (ofEntries (take rows (rowKinds (tableOf file))) (zip (now starts) (now lengths)))) ≤ length (now places)) ⌝ }
-    ensures { λ _. ⌜ now (places .exit) ≡ setPairs first (ofEntries (take rows (rowKinds (tableOf file))) (zip (now (starts .entry)) (now (lengths .entry)))) (now (places .entry)) ⌝ }
+    requires { ⌜ RowsReady (now kinds) first (slots (now numbers) (now starts) (now lengths)) rows (now places) (now lines) ⌝ }
+    ensures { λ _. ⌜ WritesRows (take rows (map rowKind (now (kinds .entry)))) first (slots (now (numbers .entry)) (now (starts .entry)) (now (lengths .entry))) (now (places .entry)) (now (places .exit)) (now (lines .exit)) ⌝ }
 {
-    let mut e = first;
-    let mut r = 0;
-    while r < rows {
-        if HEADING <= rows::row_kind(file, r) {
-            r += 1;
-        } else {
-            places::set_pair(places, e, starts[r], lengths[r]);
-            e += 1;
-            r += 1;
-        }
-    }
-}
-
-// The lines of the entries among the first rows.
-fn write_lines(file: u32, numbers: &[u32], rows: usize, lines: &mut [u32])
-    requires { ⌜ (rows ≤ length (now numbers)) × (rows ≤ length (rowKinds (tableOf file))) × (length (ofEntries (take rows (rowKinds (tableOf file))) (now numbers)) ≤ length (now lines)) ⌝ }
-    ensures { λ _. ⌜ take (length (ofEntries (take rows (rowKinds (tableOf file))) (now (numbers .entry)))) (now (lines .exit)) ≡ ofEntries (take rows (rowKinds (tableOf file))) (now (numbers .entry)) ⌝ }
-{
+    let mut pair = first;
     let mut e = 0;
     let mut r = 0;
     while r < rows {
-        if HEADING <= rows::row_kind(file, r) {
+        if HEADING <= kinds[r] {
             r += 1;
         } else {
+            places::set_pair(places, pair, starts[r], lengths[r]);
             lines[e] = numbers[r];
+            pair += 1;
             e += 1;
             r += 1;
         }
@@ -321,6 +309,7 @@ fn write_lines(file: u32, numbers: &[u32], rows: usize, lines: &mut [u32])
 // The pairs and lines of a text that was read, of its first sections.
 fn write_read(
     file: u32,
+    kinds: &[u8],
     sections: usize,
     numbers: &[u32],
     starts: &[u32],
@@ -328,35 +317,36 @@ fn write_read(
     places: &mut [u32],
     lines: &mut [u32],
 )
-    requires { ⌜ WriteReady file sections (slots (now numbers) (now starts) (now lengths)) (now places) (now lines) ⌝ }
+    requires { ⌜ KindsOf file (now kinds) × WriteReady file sections (slots (now numbers) (now starts) (now lengths)) (now places) (now lines) ⌝ }
     ensures { λ _. ⌜ WritesRead file sections (slots (now (numbers .entry)) (now (starts .entry)) (now (lengths .entry))) (now (places .entry)) (now (places .exit)) (now (lines .exit)) ⌝ }
 {
     let rows = tables::rows_before(file, sections);
     let first = tables::first_pair(file);
-    write_pairs(file, first, starts, lengths, rows, places);
-    write_lines(file, numbers, rows, lines);
+    write_rows(kinds, first, numbers, starts, lengths, rows, places, lines);
 }
 
 // 4 to 9, into slots that are empty.
 fn read_slots(
     file: u32,
+    kinds: &[u8],
     text: &[u8],
     numbers: &mut [u32],
     starts: &mut [u32],
     lengths: &mut [u32],
 ) -> TextAnswer
-    requires { ⌜ (length (now text) ≤ 16384) × (slots (now numbers) (now starts) (now lengths) ≡ emptySlots (rowCount (tableOf file))) ⌝ }
+    requires { ⌜ KindsOf file (now kinds) × (length (now text) ≤ 16384) × (slots (now numbers) (now starts) (now lengths) ≡ emptySlots (rowCount (tableOf file))) ⌝ }
     ensures { λ r. ⌜ ReadsSlots file (now (text .entry)) (slots (now (numbers .exit)) (now (starts .exit)) (now (lengths .exit))) r ⌝ }
 {
     if let Outcome::Failed(x) = scan_text(file, text, numbers, starts, lengths) {
         return TextAnswer::Faulty(x);
     }
-    judge_slots(file, text, numbers, starts, lengths)
+    judge_slots(file, kinds, text, numbers, starts, lengths)
 }
 
 // 4 to 9, into slots that are empty; the pairs and lines of what was read.
 fn read_into(
     file: u32,
+    kinds: &[u8],
     text: &[u8],
     numbers: &mut [u32],
     starts: &mut [u32],
@@ -364,12 +354,12 @@ fn read_into(
     places: &mut [u32],
     lines: &mut [u32],
 ) -> TextAnswer
-    requires { ⌜ (length (now text) ≤ 16384) × (slots (now numbers) (now starts) (now lengths) ≡ emptySlots (rowCount (tableOf file))) × (leastPlaces ≤ length (now places)) × (64 ≤ length (now lines)) ⌝ }
+    requires { ⌜ KindsOf file (now kinds) × (length (now text) ≤ 16384) × (slots (now numbers) (now starts) (now lengths) ≡ emptySlots (rowCount (tableOf file))) × (leastPlaces ≤ length (now places)) × (64 ≤ length (now lines)) ⌝ }
     ensures { λ r. ⌜ ReadsText file (now (text .entry)) r (now (places .entry)) (now (places .exit)) (now (lines .exit)) ⌝ }
 {
-    let answer = read_slots(file, text, numbers, starts, lengths);
+    let answer = read_slots(file, kinds, text, numbers, starts, lengths);
     if let TextAnswer::Sections(count) = answer {
-        write_read(file, count, numbers, starts, lengths, places, lines);
+        write_read(file, kinds, count, numbers, starts, lengths, places, lines);
     }
     answer
 }
@@ -388,9 +378,12 @@ pub fn read_text(file: u32, text: &[u8], places: &mut [u32], lines: &mut [u32]) 
     let mut numbers = [0u32; 64];
     let mut starts = [0u32; 64];
     let mut lengths = [0u32; 64];
+    let mut kinds = [HEADING; 64];
+    rows::write_kinds(file, &mut kinds);
     let n = tables::row_count(file);
     read_into(
         file,
+        &kinds[..n],
         text,
         &mut numbers[..n],
         &mut starts[..n],

@@ -1,8 +1,11 @@
 // The rows of a file's table, each section's heading and then its entries, by their kinds.
 ghost use mathlib.Core.Path.{_≡_};
+ghost use Prim.Native.Nat.{_≤_};
+ghost use mathlib.Core.List.{map};
 ghost use mathlib.Core.Option.{none};
-ghost use lib.ListN.{getD};
+ghost use lib.ListN.{length, getD, take};
 ghost use Rattle.tables.specs.File.{ac2, acc, drift, suspension, gas, allSections, tableOf};
+ghost use Rattle.tables.specs.Row.{rowCount};
 ghost use Rattle.reading.specs.Reading.{rowKinds};
 ghost use Rattle.rows.specs.Rows.{rowKind};
 
@@ -206,5 +209,32 @@ pub fn row_kind(file: u32, row: usize) -> u8
         4 => suspension_kind(row),
         5 => gas_kind(row),
         _ => HEADING,
+    }
+}
+
+// The numbers into the first of the lent bytes.
+fn put(numbers: &[u8], kinds: &mut [u8])
+    requires { ⌜ length (now numbers) ≤ length (now kinds) ⌝ }
+    ensures { λ _. ⌜ take (length (now (numbers .entry))) (now (kinds .exit)) ≡ now (numbers .entry) ⌝ }
+{
+    let mut r = 0;
+    while r < numbers.len() {
+        kinds[r] = numbers[r];
+        r += 1;
+    }
+}
+
+// The kind numbers of all rows of the file of a number, in the table's order.
+pub fn write_kinds(file: u32, kinds: &mut [u8])
+    requires { ⌜ rowCount (tableOf file) ≤ length (now kinds) ⌝ }
+    ensures { λ _. ⌜ map rowKind (take (rowCount (tableOf file)) (now (kinds .exit))) ≡ rowKinds (tableOf file) ⌝ }
+{
+    match file {
+        1 => put(&AC2, kinds),
+        2 => put(&ACC, kinds),
+        3 => put(&DRIFT, kinds),
+        4 => put(&SUSPENSION, kinds),
+        5 => put(&GAS, kinds),
+        _ => {}
     }
 }

@@ -12,9 +12,9 @@ use Rattle.files.proofs.read_slots.Tie as tie
 
 scan-text-requires : tie.Need-scan-text-requires
 scan-text-requires c κs =
-    let x = c .before .before .before .before .before .before .before in
+    let x = c .before .before .before .before .before .before .before .before in
     let y = x .args in
-    subst (λ (a : Slots). Ready (tableOf (y .file)) (now (y .text)) a) (sym (x .pre .1)) (empty-ready (tableOf (y .file)) (now (y .text)) (x .pre .0))
+    subst (λ (a : Slots). Ready (tableOf (y .file)) (now (y .text)) a) (sym (x .pre .2)) (empty-ready (tableOf (y .file)) (now (y .text)) (x .pre .1))
 
 enum-known-x : tie.Need-enum-known-x
 enum-known-x c = search needs
@@ -30,15 +30,15 @@ same-length-3 c = search needs
 
 returns : tie.Need-returns
 returns c =
-    let x = c .before .before .before .before .before .before .before .before .before .before .before .before .before .before .before .before .before in
+    let x = c .before .before .before .before .before .before .before .before .before .before .before .before .before .before .before .before .before .before in
     let y = x .args in
-    slots-refused (y .file) (now (y .text)) _ _ (c .before .before .before .before .before .before .before .before .before .scan-text .result) (x .pre .1) (c .before .before .before .before .before .before .before .before .before .scan-text .ensures) _ (c .before .x .given .1)
+    slots-refused (y .file) (now (y .text)) _ _ (c .before .before .before .before .before .before .before .before .before .scan-text .result) (x .pre .2) (c .before .before .before .before .before .before .before .before .before .scan-text .ensures) _ (c .before .x .given .1)
 
 enum-told : tie.Need-enum-told
 enum-told c = search needs
 
 judge-slots-requires : tie.Need-judge-slots-requires
-judge-slots-requires c κs = c .before .before .before .before .before .before .before .before .before .before .before .scan-text .ensures .still
+judge-slots-requires c κs = (c .before .before .before .before .before .before .before .before .before .before .before .before .before .before .before .before .before .before .before .before .pre .0, c .before .before .before .before .before .before .before .before .before .before .before .scan-text .ensures .still)
 
 same-length-4 : tie.Need-same-length-4
 same-length-4 c = search needs
@@ -51,9 +51,9 @@ same-length-6 c = search needs
 
 returns-2 : tie.Need-returns-2
 returns-2 c =
-    let x = c .before .before .before .before .before .before .before .before .before .before .before .before .before .before .before .before .before .before .before .before in
+    let x = c .before .before .before .before .before .before .before .before .before .before .before .before .before .before .before .before .before .before .before .before .before in
     let y = x .args in
-    slots-judged (y .file) (now (y .text)) _ _ (c .before .before .before .before .before .before .before .before .before .before .before .before .scan-text .result) (x .pre .1) (c .before .before .before .before .before .before .before .before .before .before .before .before .scan-text .ensures) _ (c .before .before .before .before .enum-told .given .1) (c .judge-slots .ensures)
+    slots-judged (y .file) (now (y .text)) _ _ (c .before .before .before .before .before .before .before .before .before .before .before .before .scan-text .result) (x .pre .2) (c .before .before .before .before .before .before .before .before .before .before .before .before .scan-text .ensures) _ (c .before .before .before .before .enum-told .given .1) (c .judge-slots .ensures)
 
 pub read-slots-spec : {M : Type 1} → statement M
 read-slots-spec =

@@ -1,13 +1,10 @@
 -- `files::row_kept` meets its contract: an empty value, a heading's row, or a filled value by its kind. Assumes nothing.
 use borrow.Author.Needs.{needs}
 use native.Mathlib.Nat.{add-sub-cancel-left}
-use mathlib.Core.Path.{sym, _∙_}
+use mathlib.Core.Path.{_∙_}
 use denote.Ref.{now}
-use mathlib.Core.Option.{none}
-use lib.ListN.{getD}
 use Rattle.kinds.specs.Kind.{kindOf}
-use Rattle.tables.specs.File.{tableOf}
-use Rattle.reading.specs.Reading.{rowKinds}
+use Rattle.rows.specs.Rows.{rowKind}
 use Rattle.files.proofs.Rows.{heading-row, entry-row, empty-kept, filled-kept}
 use Rattle.files.proofs.row_kept.Statement.{statement}
 use Rattle.files.proofs.row_kept.Tie as tie
@@ -15,13 +12,10 @@ use Rattle.files.proofs.row_kept.Tie as tie
 returns : tie.Need-returns
 returns c =
     let x = c .before .before .args in
-    empty-kept (getD (rowKinds (tableOf (x .file))) (x .row) none) (now (x .text)) (x .start) (x .size) (c .if1 .taken)
-
-row-kind-requires : tie.Need-row-kind-requires
-row-kind-requires c κs = search needs
+    empty-kept (rowKind (x .kind)) (now (x .text)) (x .start) (x .size) (c .if1 .taken)
 
 returns-2 : tie.Need-returns-2
-returns-2 c = rw (sym (c .before .row-kind .ensures) ∙ heading-row (c .before .row-kind .result) (c .if2 .taken))
+returns-2 c = rw (heading-row (c .before .before .before .args .kind) (c .if2 .taken))
 
 add-e : tie.Need-add-e
 add-e c = search needs
@@ -36,21 +30,19 @@ part-printable-kind-ok-end : tie.Need-part-printable-kind-ok-end
 part-printable-kind-ok-end c = search needs
 
 printable-kind-ok-requires : tie.Need-printable-kind-ok-requires
-printable-kind-ok-requires c κs = (search needs, rw add-sub-cancel-left (c .before .before .before .before .before .pre .1))
+printable-kind-ok-requires c κs = (search needs, rw add-sub-cancel-left (c .before .before .before .before .pre .1))
 
 returns-3 : tie.Need-returns-3
 returns-3 c =
-    let x = c .before .before .before .before .before .before .args in
-    let k = c .before .before .before .row-kind .result in
+    let x = c .before .before .before .before .before .args in
     let e = rw add-sub-cancel-left at (c .printable-kind-ok .ensures) in
-    e ∙ rw (sym (c .before .before .before .row-kind .ensures) ∙ entry-row k (c .before .before .if2 .left)) (filled-kept (kindOf k) (now (x .text)) (x .start) (x .size) (c .before .before .before .before .if1 .left) (c .before .before .before .before .before .before .pre .0))
+    e ∙ rw (entry-row (x .kind) (c .before .before .if2 .left)) (filled-kept (kindOf (x .kind)) (now (x .text)) (x .start) (x .size) (c .before .before .before .if1 .left) (c .before .before .before .before .before .pre .0))
 
 pub row-kept-spec : {M : Type 1} → statement M
 row-kept-spec =
     tie.close
     (tie.spec
     returns
-    row-kind-requires
     returns-2
     add-e
     sub-printable-kind-ok

@@ -2,7 +2,7 @@
 use borrow.Author.Needs.{needs}
 use denote.Ref.{now}
 use Rattle.reading.specs.Reading.{slots}
-use Rattle.files.proofs.Steps.{pairs-ready, lines-ready, both-written}
+use Rattle.files.proofs.Steps.{rows-ready, rows-written}
 use Rattle.files.proofs.write_read.Statement.{statement}
 use Rattle.files.proofs.write_read.Tie as tie
 
@@ -12,17 +12,11 @@ rows-before-requires c κs = search needs
 first-pair-requires : tie.Need-first-pair-requires
 first-pair-requires c κs = search needs
 
-write-pairs-requires : tie.Need-write-pairs-requires
-write-pairs-requires c κs =
-    let x = c .before .before .before .before .before .before .before .before in
+write-rows-requires : tie.Need-write-rows-requires
+write-rows-requires c κs =
+    let x = c .before .before .before .before .before .before .before .before .before .before in
     let y = x .args in
-    pairs-ready (y .file) (y .sections) (slots (now (y .numbers)) (now (y .starts)) (now (y .lengths))) (now (y .places)) (now (y .lines)) (x .pre) (c .before .before .rows-before .result) (c .before .before .rows-before .ensures) (c .before .first-pair .result) (c .before .first-pair .ensures)
-
-write-lines-requires : tie.Need-write-lines-requires
-write-lines-requires c κs =
-    let x = c .before .before .before .before .before .before .before .before .before .before .before .before in
-    let y = x .args in
-    lines-ready (y .file) (y .sections) (slots (now (y .numbers)) (now (y .starts)) (now (y .lengths))) (now (y .places)) (now (y .lines)) (x .pre) (c .before .before .before .before .before .before .rows-before .result) (c .before .before .before .before .before .before .rows-before .ensures)
+    rows-ready (y .file) (y .sections) (now (y .kinds)) (x .pre .0) (slots (now (y .numbers)) (now (y .starts)) (now (y .lengths))) (now (y .places)) (now (y .lines)) (x .pre .1) (c .before .before .before .rows-before .result) (c .before .before .before .rows-before .ensures) (c .before .before .first-pair .result) (c .before .before .first-pair .ensures)
 
 same-length : tie.Need-same-length
 same-length c = search needs
@@ -34,7 +28,7 @@ returns : tie.Need-returns
 returns c =
     let x = c .before .before .before .before .before .before .before .before .before .before .before .before .before .before .before in
     let y = x .args in
-    both-written (y .file) (y .sections) (slots (now (y .numbers)) (now (y .starts)) (now (y .lengths))) (now (y .places)) (now (y .lines)) (x .pre) (c .before .before .before .before .before .before .before .before .before .rows-before .result) (c .before .before .before .before .before .before .before .before .before .rows-before .ensures) (c .before .before .before .before .before .before .before .before .first-pair .result) _ _ (c .before .before .before .before .before .before .before .before .first-pair .ensures) (c .before .before .before .before .before .before .write-pairs .ensures) (c .before .before .write-lines .ensures)
+    rows-written (y .file) (y .sections) (now (y .kinds)) (x .pre .0) (slots (now (y .numbers)) (now (y .starts)) (now (y .lengths))) (now (y .places)) (now (y .lines)) (x .pre .1) (c .before .before .before .before .before .before .before .before .rows-before .result) (c .before .before .before .before .before .before .before .before .rows-before .ensures) (c .before .before .before .before .before .before .before .first-pair .result) _ _ (c .before .before .before .before .before .before .before .first-pair .ensures) (c .before .before .before .before .write-rows .ensures)
 
 pub write-read-spec : {M : Type 1} → statement M
 write-read-spec =
@@ -42,8 +36,7 @@ write-read-spec =
     (tie.spec
     rows-before-requires
     first-pair-requires
-    write-pairs-requires
-    write-lines-requires
+    write-rows-requires
     same-length
     same-length-2
     returns)
