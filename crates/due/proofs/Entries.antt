@@ -1,10 +1,12 @@
 -- What entries hang on, by place and by file number; and that each name stands in its file's table. Assumes nothing.
-use Prim.Native.Nat.{ℕ, zero, suc, _≤_}
-use mathlib.Core.Path.{_≡_, refl, sym, _∙_}
+use Prim.Native.Nat.{ℕ, zero, suc, _+_, _≤_, _<_}
+use native.Mathlib.Omega.{arith}
+use mathlib.Core.Path.{_≡_, refl, ap, sym, _∙_}
 use mathlib.Core.Bool.{Bool, true, _&&_}
 use mathlib.Core.List.{List, [], _∷_, map}
 use lib.Dec.{ltb}
-use lib.ListN.{length, List·getD-eq-default, length-map}
+use lib.ListN.{length, getD, take, drop, List·getD-eq-default, length-map}
+use lib.Seq.{getD-take, getD-drop}
 use Rattle.lines.specs.Bytes.{sameBytes}
 use Rattle.tables.specs.Section.{entriesOf}
 use Rattle.tables.specs.Entries.{
@@ -28,8 +30,9 @@ use Rattle.tables.specs.Row.{names, indexOf}
 use Rattle.tables.specs.Value.{placeOf, isEntry}
 use Rattle.due.specs.Booking.{bookingIn}
 use Rattle.due.specs.Conditions.{linksIn, withLinks, conditionsOf, gasValues, gasValuesIn}
-use Rattle.due.specs.Due.{NamedCondition, exceptions, conditionOf, conditionAt, conditionIn, dueOf, dueIn}
+use Rattle.due.specs.Due.{NamedCondition, exceptions, conditionOf, fixedConditions, conditionAt, conditionIn, conditionTable, firstCondition, fixedCount, dueOf, dueIn}
 use Rattle.due.specs.declared.Conditions.{Conditions}
+use Rattle.due.specs.declared.Condition.{Condition}
 use Rattle.due.specs.declared.Condition.the-variants.{Always}
 
 -- ---- names
@@ -72,10 +75,21 @@ past-fixed f i h =
     let e : length (map (conditionOf (exceptions f)) ns) ≡ length (entries f 0) = length-map ns (conditionOf (exceptions f)) ∙ length-map (entries f 0) (λ e. e .name) in
     sym (List·getD-eq-default (map (conditionOf (exceptions f)) ns) Always (rw e h))
 
--- suspension has drift's sixteen
-pub suspension-as-drift : (i : ℕ) → conditionAt suspension i ≡ conditionAt drift i
-unfolding conditionAt exceptions conditionOf sameBytes entries entriesOf sections fixedSections axleSections axlesFrom sixteen tester protocol measurement
-suspension-as-drift i = refl
+-- the test: a file's part of the table has what its fixed sections' entries hang on, computed from their names
+part-is : (f : File) → take (length (entries f 0)) (drop (firstCondition f) conditionTable) ≡ fixedConditions f
+unfolding conditionTable firstCondition exceptions conditionOf sameBytes entries entriesOf sections fixedSections axleSections axlesFrom newBooking oldBooking sixteen tester protocol measurement analysis analyser counter speedTest allKeyDates allKeyBodies fuelAnalysis
+part-is ac2 = refl
+part-is acc = refl
+part-is drift = refl
+part-is suspension = refl
+part-is gas = refl
+
+condition-is : (f : File) (i : ℕ) → i < length (entries f 0) → getD conditionTable (firstCondition f + i) Always ≡ conditionAt f i
+unfolding conditionAt
+condition-is f i h =
+    sym (getD-drop (firstCondition f) conditionTable i Always)
+    ∙ sym (getD-take (length (entries f 0)) (drop (firstCondition f) conditionTable) i Always h)
+    ∙ ap (λ (cs : List Condition). getD cs i Always) (part-is f)
 
 -- ---- file numbers
 
@@ -89,6 +103,53 @@ no-file d g (suc (suc (suc zero))) h1 h2 h3 h4 h5 = absurd (h3 refl)
 no-file d g (suc (suc (suc (suc zero)))) h1 h2 h3 h4 h5 = absurd (h4 refl)
 no-file d g (suc (suc (suc (suc (suc zero))))) h1 h2 h3 h4 h5 = absurd (h5 refl)
 no-file d g (suc (suc (suc (suc (suc (suc n)))))) h1 h2 h3 h4 h5 = refl
+
+-- AC2's conditions are the first
+pub first-else : (n : ℕ) → (n ≡ 2 → ⊥) → (n ≡ 3 → ⊥) → (n ≡ 4 → ⊥) → (n ≡ 5 → ⊥) → ofNumber 0 firstCondition n ≡ 0
+unfolding ofNumber firstCondition
+first-else zero h2 h3 h4 h5 = refl
+first-else (suc zero) h2 h3 h4 h5 = refl
+first-else (suc (suc zero)) h2 h3 h4 h5 = absurd (h2 refl)
+first-else (suc (suc (suc zero))) h2 h3 h4 h5 = absurd (h3 refl)
+first-else (suc (suc (suc (suc zero)))) h2 h3 h4 h5 = absurd (h4 refl)
+first-else (suc (suc (suc (suc (suc zero))))) h2 h3 h4 h5 = absurd (h5 refl)
+first-else (suc (suc (suc (suc (suc (suc n)))))) h2 h3 h4 h5 = refl
+
+-- the condition of an entry of the fixed sections stands in the table
+condition-in : (n i : ℕ) → i < fixedCount n → getD conditionTable (ofNumber 0 firstCondition n + i) Always ≡ conditionIn n i
+unfolding ofNumber conditionIn
+condition-in zero i h = absurd (omega arith)
+condition-in (suc zero) i h = condition-is ac2 i h
+condition-in (suc (suc zero)) i h = condition-is acc i h
+condition-in (suc (suc (suc zero))) i h = condition-is drift i h
+condition-in (suc (suc (suc (suc zero)))) i h = condition-is suspension i h
+condition-in (suc (suc (suc (suc (suc zero))))) i h = condition-is gas i h
+condition-in (suc (suc (suc (suc (suc (suc n)))))) i h = absurd (omega arith)
+
+pub in-table : (n i start size : ℕ) → start ≡ ofNumber 0 firstCondition n → size ≡ fixedCount n → i < size → getD conditionTable (start + i) Always ≡ conditionIn n i
+in-table n i start size s z h = rw s (condition-in n i (rw z at h))
+
+-- past the fixed sections each is always due
+pub condition-past : (n i : ℕ) → fixedCount n ≤ i → Always ≡ conditionIn n i
+unfolding ofNumber conditionIn
+condition-past zero i h = refl
+condition-past (suc zero) i h = past-fixed ac2 i h
+condition-past (suc (suc zero)) i h = past-fixed acc i h
+condition-past (suc (suc (suc zero))) i h = past-fixed drift i h
+condition-past (suc (suc (suc (suc zero)))) i h = past-fixed suspension i h
+condition-past (suc (suc (suc (suc (suc zero))))) i h = past-fixed gas i h
+condition-past (suc (suc (suc (suc (suc (suc n)))))) i h = refl
+
+-- and the table is long enough
+pub table-in : (n : ℕ) → ofNumber 0 firstCondition n + fixedCount n ≤ 87
+unfolding ofNumber firstCondition entries entriesOf sections fixedSections axleSections axlesFrom newBooking oldBooking sixteen tester protocol measurement analysis analyser counter speedTest allKeyDates allKeyBodies fuelAnalysis
+table-in zero = omega arith
+table-in (suc zero) = omega arith
+table-in (suc (suc zero)) = omega arith
+table-in (suc (suc (suc zero))) = omega arith
+table-in (suc (suc (suc (suc zero)))) = omega arith
+table-in (suc (suc (suc (suc (suc zero))))) = omega arith
+table-in (suc (suc (suc (suc (suc (suc n)))))) = omega arith
 
 -- a number that is not gas's leaves gas's values out
 pub not-gas : (n : ℕ) (own : List (List ℕ)) → (n ≡ 5 → ⊥) → gasValuesIn n own ≡ []

@@ -8,12 +8,12 @@ use mathlib.Core.List.{List, [], _∷_, map}
 use lib.Dec.{ltb}
 use lib.ListN.{length, getD, length-map}
 use Rattle.places.specs.Places.{Pair, lengthOf, pairsAt, valueAt, Within}
-use Rattle.tables.specs.File.{File, fileNumber}
-use Rattle.due.specs.Due.{conditionAt, holdsIn, dueOf, dueIn, filled, filledPairs, asDue, isAsDue, firstNotAsDueFrom, firstNotAsDue}
+use Rattle.tables.specs.File.{File, fileNumber, ofNumber}
+use Rattle.due.specs.Due.{conditionAt, conditionTable, firstCondition, fixedCount, holdsIn, dueOf, dueIn, filled, filledPairs, asDue, isAsDue, firstNotAsDueFrom, firstNotAsDue}
 use Rattle.due.specs.declared.Conditions.{Conditions}
 use Rattle.due.specs.declared.Due.{Due}
 use Rattle.due.specs.declared.Condition.the-variants.{Always}
-use Rattle.due.proofs.Entries.{due-file}
+use Rattle.due.proofs.Entries.{in-table, condition-past, due-file}
 use Rattle.due.proofs.Values.{filled-at}
 
 -- ---- one turn of the loop over the n pairs from pair a on
@@ -32,6 +32,17 @@ module _ (d : ℕ → Due) (p : List ℕ) (a i n : ℕ) where
   first-end h =
       let q : n - i ≡ 0 = omega arith in
       rw q refl
+
+-- entry i is as due, by the table of conditions or past a file's part of it
+module _ (n i : ℕ) (c : Conditions) (full : Bool) where
+  pub by-table : (start size : ℕ) → start ≡ ofNumber 0 firstCondition n → size ≡ fixedCount n → i < size
+      → asDue (dueIn n i c) full ≡ asDue (holdsIn (getD conditionTable (start + i) Always) c) full
+  unfolding dueIn
+  by-table start size s z h = rw (in-table n i start size s z h)
+
+  pub past-table : (size : ℕ) → size ≡ fixedCount n → size ≤ i → asDue (dueIn n i c) full ≡ full
+  unfolding dueIn holdsIn
+  past-table size z h = rw (← (condition-past n i (rw z at h)))
 
 -- ---- from lengths to values
 

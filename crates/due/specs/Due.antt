@@ -83,13 +83,33 @@ unfoldable pub conditionOf : List NamedCondition → List ℕ → Condition
 conditionOf [] n = Always
 conditionOf (x ∷ xs) n = cond (sameBytes n (x .0)) (x .1) (conditionOf xs n)
 
+-- of the entries of the fixed sections, in entry order
+abbrev pub fixedConditions : File → List Condition
+fixedConditions f = map (conditionOf (exceptions f)) (names (entries f 0))
+
 -- of an entry by its place in entry order; an axle's entries, which follow those of the fixed sections, are due
 unfoldable pub conditionAt : File → ℕ → Condition
-conditionAt f i = getD (map (conditionOf (exceptions f)) (names (entries f 0))) i Always
+conditionAt f i = getD (fixedConditions f) i Always
 
 -- by the file's number; of a number that no file has, all is due
 unfoldable pub conditionIn : ℕ → ℕ → Condition
 conditionIn n i = ofNumber Always (λ f. conditionAt f i) n
+
+-- the conditions of the fixed sections file after file, as the code has them; suspension has drift's
+unfoldable pub conditionTable : List Condition
+conditionTable = fixedConditions ac2 ++ (fixedConditions acc ++ (fixedConditions drift ++ fixedConditions gas))
+
+-- where a file's begin among them
+unfoldable pub firstCondition : File → ℕ
+firstCondition ac2 = 0
+firstCondition acc = 12
+firstCondition drift = 18
+firstCondition suspension = 18
+firstCondition gas = 34
+
+-- how many a file's fixed sections have, by the file's number
+abbrev pub fixedCount : ℕ → ℕ
+fixedCount n = ofNumber 0 (λ f. length (entries f 0)) n
 
 -- ---- when it is due
 

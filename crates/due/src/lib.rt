@@ -5,10 +5,10 @@ ghost use Prim.Native.Nat.{_+_, _*_, _<_, _≤_};
 ghost use lib.Dec.{ltb};
 ghost use lib.ListN.{length};
 ghost use Rattle.places.specs.Places.{placeSize, startOf, lengthOf, pairsAt, valueAt, valuesAt, Within};
-ghost use Rattle.tables.specs.File.{ac2, drift, gas, acc, firstPair, room};
+ghost use Rattle.tables.specs.File.{ac2, gas, ofNumber, firstPair, room};
 ghost use Rattle.due.specs.Booking.{fuelIn, isLate, isPetrol, isDiesel, isO, bookingIn};
 ghost use Rattle.due.specs.Conditions.{is200, is210, versionIn, linksIn, withLinks, gasValuesIn};
-ghost use Rattle.due.specs.Due.{conditionAt, conditionIn, isMoped, isMotorcycle, isMorN, conditionP, when, holdsIn, dueIn, filledPairs, asDue, firstNotAsDueFrom};
+ghost use Rattle.due.specs.Due.{firstCondition, fixedCount, conditionIn, isMoped, isMotorcycle, isMorN, conditionP, when, holdsIn, dueIn, filledPairs, asDue, firstNotAsDueFrom};
 
 pub enum Fuel {
     Petrol,
@@ -85,8 +85,9 @@ pub enum Condition {
     SpeedTestChecksum,
 }
 
-// AC2, in entry order.
-const AC2: [Condition; 12] = [
+// What the entries of the fixed sections hang on, in entry order: the 12 of AC2, the 6 of ACC, the 16 of drift and of
+// suspension, the 53 of gas. One array, so that a loop over the entries of any file lays it out once, before it begins.
+const CONDITIONS: [Condition; 87] = [
     Condition::Always,
     Condition::Always,
     Condition::Always,
@@ -99,20 +100,12 @@ const AC2: [Condition; 12] = [
     Condition::MotorcycleDirective,
     Condition::Always,
     Condition::Always,
-];
-
-// ACC.
-const ACC: [Condition; 6] = [
     Condition::Always,
     Condition::Always,
     Condition::Always,
     Condition::Free,
     Condition::Always,
     Condition::Always,
-];
-
-// The sixteen entries of drift and of suspension.
-const SIXTEEN: [Condition; 16] = [
     Condition::Always,
     Condition::Always,
     Condition::Always,
@@ -129,10 +122,6 @@ const SIXTEEN: [Condition; 16] = [
     Condition::Always,
     Condition::Always,
     Condition::Always,
-];
-
-// Both sections of gas.
-const GAS: [Condition; 53] = [
     Condition::Always,
     Condition::Always,
     Condition::Always,
@@ -188,55 +177,42 @@ const GAS: [Condition; 53] = [
     Condition::COMinAcc,
 ];
 
-fn ac2_condition(entry: usize) -> Condition
-    ensures { λ r. ⌜ r ≡ conditionAt ac2 entry ⌝ }
+// Where a file's conditions begin among these.
+fn first_condition(file: u32) -> usize
+    ensures { λ r. ⌜ r ≡ ofNumber 0 firstCondition file ⌝ }
 {
-    if entry < 12 {
-        return AC2[entry];
+    match file {
+        2 => 12,
+        3 => 18,
+        4 => 18,
+        5 => 34,
+        _ => 0,
     }
-    Condition::Always
 }
 
-fn acc_condition(entry: usize) -> Condition
-    ensures { λ r. ⌜ r ≡ conditionAt acc entry ⌝ }
+// How many there are: an axle's entries, which follow, are always due.
+fn condition_count(file: u32) -> usize
+    ensures { λ r. ⌜ r ≡ fixedCount file ⌝ }
 {
-    if entry < 6 {
-        return ACC[entry];
+    match file {
+        1 => 12,
+        2 => 6,
+        3 => 16,
+        4 => 16,
+        5 => 53,
+        _ => 0,
     }
-    Condition::Always
-}
-
-// Of drift, and so of suspension.
-fn drift_condition(entry: usize) -> Condition
-    ensures { λ r. ⌜ r ≡ conditionAt drift entry ⌝ }
-{
-    if entry < 16 {
-        return SIXTEEN[entry];
-    }
-    Condition::Always
-}
-
-fn gas_condition(entry: usize) -> Condition
-    ensures { λ r. ⌜ r ≡ conditionAt gas entry ⌝ }
-{
-    if entry < 53 {
-        return GAS[entry];
-    }
-    Condition::Always
 }
 
 // What an entry hangs on, by its file's number and its place in entry order.
 pub fn condition_at(file: u32, entry: usize) -> Condition
     ensures { λ r. ⌜ r ≡ conditionIn file entry ⌝ }
 {
-    match file {
-        1 => ac2_condition(entry),
-        2 => acc_condition(entry),
-        3 => drift_condition(entry),
-        4 => drift_condition(entry),
-        5 => gas_condition(entry),
-        _ => Condition::Always,
+    let start = first_condition(file);
+    if entry < condition_count(file) {
+        return CONDITIONS[start + entry];
     }
+    Condition::Always
 }
 
 // L1e, L2e, L6e
@@ -388,6 +364,16 @@ fn as_due(due: Due, filled: bool) -> bool
     }
 }
 
+// Whether an entry is as its condition asks. Most are always due: these are told apart first.
+fn is_as_due(condition: Condition, c: Conditions, filled: bool) -> bool
+    ensures { λ r. ⌜ r ≡ asDue (holdsIn condition c) filled ⌝ }
+{
+    match condition {
+        Condition::Always => filled,
+        _ => as_due(holds_in(condition, c), filled),
+    }
+}
+
 fn is_filled(places: &[u32], k: usize) -> bool
     requires { ⌜ placeSize * k + 1 < length (now places) ⌝ }
     ensures { λ r. ⌜ r ≡ ltb 0 (lengthOf (now (places .entry)) k) ⌝ }
@@ -407,10 +393,21 @@ pub fn first_not_as_due(
     requires { ⌜ placeSize * (first + count) ≤ length (now places) ⌝ }
     ensures { λ r. ⌜ r ≡ firstNotAsDueFrom (λ i. dueIn file i c) 0 (filledPairs (pairsAt (now (places .entry)) first count)) ⌝ }
 {
+    let conditions = CONDITIONS;
+    let start = first_condition(file);
+    let size = condition_count(file);
     let mut i = 0;
     while i < count {
-        if !as_due(due_of(file, i, c), is_filled(places, first + i)) {
-            return i;
+        let filled = is_filled(places, first + i);
+        if i < size {
+            let condition = conditions[start + i];
+            if !is_as_due(condition, c, filled) {
+                return i;
+            }
+        } else {
+            if !filled {
+                return i;
+            }
         }
         i += 1;
     }

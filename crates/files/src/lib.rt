@@ -123,8 +123,7 @@ fn scan_text(
                 if none <= cur {
                     return failed(RefusalKind::LineForm, line);
                 }
-                let entry = tables::find_entry(file, cur, &text[start..equals]);
-                let row = tables::row_at(file, cur, entry);
+                let row = tables::find_row(file, cur, &text[start..equals]);
                 let from = equals + 1;
                 if !take_row(numbers, starts, lengths, row, line, from, end - from) {
                     return failed(RefusalKind::EntryNotExpected, line);

@@ -418,17 +418,6 @@ pub fn row_count(file: u32) -> usize
     of_file(&[0, 13, 7, 35, 53, 55], file)
 }
 
-// The row of an entry; the number of rows where there is none.
-pub fn row_at(file: u32, section: usize, entry: usize) -> usize
-    ensures { λ r. ⌜ r ≡ rowAt (tableOf file) section entry ⌝ }
-{
-    if entry < entry_count(file, section) {
-        rows_before(file, section) + 1 + entry
-    } else {
-        row_count(file)
-    }
-}
-
 // Whether a section has that heading.
 pub fn is_heading(file: u32, section: usize, part: &[u8]) -> bool
     ensures { λ r. ⌜ r ≡ sameBytes (now (part .entry)) (headingAt (tableOf file) section) ⌝ }
@@ -487,14 +476,21 @@ fn find_listed(tags: &[u8], list: usize, part: &[u8]) -> usize
     entry
 }
 
-// The entry of a name; the number of entries where it is none of the section's.
-pub fn find_entry(file: u32, section: usize, part: &[u8]) -> usize
-    ensures { λ r. ⌜ r ≡ entryIn (tableOf file) section (now (part .entry)) ⌝ }
+// The row of the entry of a name in a section; the number of rows where it is none of the section's.
+pub fn find_row(file: u32, section: usize, part: &[u8]) -> usize
+    ensures { λ r. ⌜ r ≡ rowAt (tableOf file) section (entryIn (tableOf file) section (now (part .entry))) ⌝ }
 {
     let list = entry_list(file, section);
+    let before = rows_before(file, section);
     let start = list_start(list);
-    let end = start + list_size(list);
-    find_listed(&NAME_TAGS[start..end], list, part)
+    let size = list_size(list);
+    let end = start + size;
+    let entry = find_listed(&NAME_TAGS[start..end], list, part);
+    if entry < size {
+        before + 1 + entry
+    } else {
+        row_count(file)
+    }
 }
 
 // The line of a section's heading into `out` from `at` on; the place after it.

@@ -1,66 +1,35 @@
--- Each file's number leads to its array, and any other number to the condition that is always due. Assumes nothing.
+-- The array is the table of conditions, computed from the names; past a file's part of it each entry is always due. Assumes nothing.
 use borrow.Author.Needs.{needs}
-use mathlib.Core.Path.{sym, _∙_}
-use Rattle.tables.specs.File.{ofNumber}
-use Rattle.due.specs.Due.{conditionAt, conditionIn}
-use Rattle.due.specs.declared.Condition.the-variants.{Always}
-use Rattle.due.proofs.Entries.{suspension-as-drift, no-file}
+use native.Mathlib.Omega.{arith}
+use Rattle.lines.specs.Bytes.{sameBytes}
+use Rattle.tables.specs.Section.{entriesOf}
+use Rattle.tables.specs.Entries.{newBooking, oldBooking, sixteen, tester, protocol, measurement, analysis, analyser, counter, speedTest, allKeyDates, allKeyBodies, fuelAnalysis}
+use Rattle.tables.specs.File.{entries, sections, fixedSections, axleSections, axlesFrom}
+use Rattle.due.specs.Due.{exceptions, conditionOf, conditionTable}
+use Rattle.due.proofs.Entries.{in-table, condition-past, table-in}
 use Rattle.due.proofs.condition_at.Statement.{statement}
 use Rattle.due.proofs.condition_at.Tie as tie
 
-ac2-condition-requires : tie.Need-ac2-condition-requires
-ac2-condition-requires c κs = search needs
+first-condition-requires : tie.Need-first-condition-requires
+first-condition-requires c κs = search needs
 
-acc-condition-requires : tie.Need-acc-condition-requires
-acc-condition-requires c κs = search needs
+condition-count-requires : tie.Need-condition-count-requires
+condition-count-requires c κs = search needs
 
-drift-condition-requires : tie.Need-drift-condition-requires
-drift-condition-requires c κs = search needs
+add-result : tie.Need-add-result
+add-result c = omega (arith, table-in (c .before .before .before .args .file), c .before .condition-count .ensures, c .before .before .first-condition .ensures)
 
-drift-condition-requires-2 : tie.Need-drift-condition-requires-2
-drift-condition-requires-2 c κs = search needs
-
-gas-condition-requires : tie.Need-gas-condition-requires
-gas-condition-requires c κs = search needs
+array-copy-out-result : tie.Need-array-copy-out-result
+array-copy-out-result c = omega (arith, table-in (c .before .before .before .args .file), c .before .condition-count .ensures, c .before .before .first-condition .ensures)
 
 returns : tie.Need-returns
-unfolding conditionIn ofNumber
-returns c = rw (c .before .match .keys1) (c .ac2-condition .ensures)
+unfolding conditionTable exceptions conditionOf sameBytes entries entriesOf sections fixedSections axleSections axlesFrom newBooking oldBooking sixteen tester protocol measurement analysis analyser counter speedTest allKeyDates allKeyBodies fuelAnalysis
+returns c =
+    let h = c .before .before in
+    in-table (h .before .before .args .file) (h .before .before .args .entry) _ _ (h .before .first-condition .ensures) (h .condition-count .ensures) (c .before .if1 .taken)
 
 returns-2 : tie.Need-returns-2
-unfolding conditionIn ofNumber
-returns-2 c = rw (c .before .match .keys2) (c .acc-condition .ensures)
-
-returns-3 : tie.Need-returns-3
-unfolding conditionIn ofNumber
-returns-3 c = rw (c .before .match .keys3) (c .drift-condition .ensures)
-
-returns-4 : tie.Need-returns-4
-unfolding conditionIn ofNumber
-returns-4 c = rw (c .before .match .keys4) (c .drift-condition2 .ensures ∙ sym (suspension-as-drift _))
-
-returns-5 : tie.Need-returns-5
-unfolding conditionIn ofNumber
-returns-5 c = rw (c .before .match .keys5) (c .gas-condition .ensures)
-
-returns-6 : tie.Need-returns-6
-unfolding conditionIn
-returns-6 c =
-    let r = c .match .rest in
-    sym (no-file Always (λ f. conditionAt f (c .before .args .entry)) (c .before .args .file) (r .0 .0 .0 .0 .1) (r .0 .0 .0 .1) (r .0 .0 .1) (r .0 .1) (r .1))
+returns-2 c = condition-past (c .before .before .before .args .file) _ (rw (c .before .condition-count .ensures) at (c .if1 .left))
 
 pub condition-at-spec : {M : Type 1} → statement M
-condition-at-spec =
-    tie.close
-    (tie.spec
-    ac2-condition-requires
-    acc-condition-requires
-    drift-condition-requires
-    drift-condition-requires-2
-    gas-condition-requires
-    returns
-    returns-2
-    returns-3
-    returns-4
-    returns-5
-    returns-6)
+condition-at-spec = tie.close (tie.spec first-condition-requires condition-count-requires add-result array-copy-out-result returns returns-2)

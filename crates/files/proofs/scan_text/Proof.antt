@@ -2,7 +2,7 @@
 use borrow.Author.Needs.{needs}
 use Prim.Native.Nat.{ℕ, _+_, _-_, _≤_}
 use native.Mathlib.Omega.{arith}
-use mathlib.Core.Path.{_≡_, ap, sym, _∙_}
+use mathlib.Core.Path.{_≡_, sym, _∙_}
 use mathlib.Core.List.{List}
 use lib.ListN.{length}
 use denote.Ref.{now}
@@ -11,7 +11,6 @@ use Rattle.lines.specs.declared.LineRead.the-variants.{Heading, Entry}
 use Rattle.lines.proofs.Lines.{Inside, heading-inside, entry-inside, Moves, heading-moves, entry-moves}
 use Rattle.tables.specs.Section.{Section}
 use Rattle.tables.specs.File.{tableOf}
-use Rattle.tables.specs.Row.{rowAt}
 use Rattle.reading.specs.Reading.{Slots, slots}
 use Rattle.reading.specs.Scanning.{Turn}
 use Rattle.reading.proofs.Turns.{turn-first, turn-end, turn-bad, turn-heading-refused, turn-heading, turn-entry-first, turn-entry-refused, turn-entry, took-no, took-yes}
@@ -200,63 +199,60 @@ returns-4 c =
     let l = E n in
     rw (c .failed3 .ensures) (turn-entry-first (K l) (F l) (A₀ l) (A l) (l .loop .c) (l .loop .cur) (l .loop .inv) _ _ _ _ (isEntry n) (omega (arith, l .before .before .section-count .ensures)))
 
-sub-find-entry : tie.Need-sub-find-entry Inv-loop μ-loop
-sub-find-entry c = omega (arith, startE (c .before .before))
+sub-find-row : tie.Need-sub-find-row Inv-loop μ-loop
+sub-find-row c = omega (arith, startE (c .before .before))
 
-part-find-entry-start : tie.Need-part-find-entry-start Inv-loop μ-loop
-part-find-entry-start c = omega (arith, startE (c .before .before), insideE (c .before .before))
+part-find-row-start : tie.Need-part-find-row-start Inv-loop μ-loop
+part-find-row-start c = omega (arith, startE (c .before .before), insideE (c .before .before))
 
-part-find-entry-end : tie.Need-part-find-entry-end Inv-loop μ-loop
-part-find-entry-end c = omega (arith, insideE (c .before .before))
+part-find-row-end : tie.Need-part-find-row-end Inv-loop μ-loop
+part-find-row-end c = omega (arith, insideE (c .before .before))
 
-find-entry-requires : tie.Need-find-entry-requires Inv-loop μ-loop
-find-entry-requires c κs = search needs
-
-row-at-requires : tie.Need-row-at-requires Inv-loop μ-loop
-row-at-requires c κs = search needs
+find-row-requires : tie.Need-find-row-requires Inv-loop μ-loop
+find-row-requires c κs = search needs
 
 add-from : tie.Need-add-from Inv-loop μ-loop
-add-from c = omega (arith, insideE (c .before .before .before .before .before))
+add-from c = omega (arith, insideE (c .before .before .before .before))
 
 sub-take-row : tie.Need-sub-take-row Inv-loop μ-loop
-sub-take-row c = omega (arith, insideE (c .before .before .before .before .before .before .before .before))
+sub-take-row c = omega (arith, insideE (c .before .before .before .before .before .before .before))
 
 take-row-requires-2 : tie.Need-take-row-requires-2 Inv-loop μ-loop
 take-row-requires-2 c κs =
-    let l = c .before .before .before .before .before .before .before .before .before .before .before in
-    let i = insideE (c .before .before .before .before .before .before .before .before) in
-    (l .loop .inv .ready .starts-are ∙ sym (l .loop .inv .ready .lines-are), l .loop .inv .ready .lengths-are ∙ sym (l .loop .inv .ready .lines-are), mostE (c .before .before .before .before .before .before .before .before), omega (arith, i .high, i .top, l .loop .inv .ready .short))
+    let l = c .before .before .before .before .before .before .before .before .before .before in
+    let i = insideE (c .before .before .before .before .before .before .before) in
+    (l .loop .inv .ready .starts-are ∙ sym (l .loop .inv .ready .lines-are), l .loop .inv .ready .lengths-are ∙ sym (l .loop .inv .ready .lines-are), mostE (c .before .before .before .before .before .before .before), omega (arith, i .high, i .top, l .loop .inv .ready .short))
 
 failed-requires-4 : tie.Need-failed-requires-4 Inv-loop μ-loop
-failed-requires-4 c κs = mostE (c .before .before .before .before .before .before .before .before .before .before .before .before .before .before .before .before)
+failed-requires-4 c κs = mostE (c .before .before .before .before .before .before .before .before .before .before .before .before .before .before .before)
 
 returns-5 : tie.Need-returns-5 Inv-loop μ-loop
 returns-5 c =
-    let n = c .before .before .before .before .before .before .before .before .before .before .before .before .before .before .before .before .before in
+    let n = c .before .before .before .before .before .before .before .before .before .before .before .before .before .before .before .before in
     let l = E n in
-    rw (c .failed4 .ensures) (turn-entry-refused (K l) (F l) (A₀ l) (A l) (l .loop .c) (l .loop .cur) (l .loop .inv) _ _ _ _ (isEntry n) (omega (arith, l .before .before .section-count .ensures, c .before .before .before .before .before .before .before .before .before .before .before .before .before .before .before .if2 .left)) (c .before .before .before .before .before .before .before .before .before .before .before .before .row-at .result)
-    (c .before .before .before .before .before .before .before .before .before .before .before .before .row-at .ensures ∙ ap (λ (i : ℕ). rowAt (K l) (l .loop .cur) i) (c .before .before .before .before .before .before .before .before .before .before .before .before .before .find-entry .ensures)) _ (took-no (c .before .before .before .before .before .before .before .before .take-row2 .ensures) (c .before .if3 .taken)))
+    rw (c .failed4 .ensures) (turn-entry-refused (K l) (F l) (A₀ l) (A l) (l .loop .c) (l .loop .cur) (l .loop .inv) _ _ _ _ (isEntry n) (omega (arith, l .before .before .section-count .ensures, c .before .before .before .before .before .before .before .before .before .before .before .before .before .before .if2 .left)) (c .before .before .before .before .before .before .before .before .before .before .before .before .find-row .result)
+    (c .before .before .before .before .before .before .before .before .before .before .before .before .find-row .ensures) _ (took-no (c .before .before .before .before .before .before .before .before .take-row2 .ensures) (c .before .if3 .taken)))
 
 same-length-13 : tie.Need-same-length-13 Inv-loop μ-loop
-same-length-13 c = returns-5 c .still .lines-are ∙ sym (c .before .before .before .before .before .before .before .before .before .before .before .before .before .before .before .before .before .before .before .before .before .before .before .before .before .before .before .pre .lines-are)
+same-length-13 c = returns-5 c .still .lines-are ∙ sym (c .before .before .before .before .before .before .before .before .before .before .before .before .before .before .before .before .before .before .before .before .before .before .before .before .before .before .pre .lines-are)
 
 same-length-14 : tie.Need-same-length-14 Inv-loop μ-loop
-same-length-14 c = returns-5 c .still .starts-are ∙ sym (c .before .before .before .before .before .before .before .before .before .before .before .before .before .before .before .before .before .before .before .before .before .before .before .before .before .before .before .pre .starts-are)
+same-length-14 c = returns-5 c .still .starts-are ∙ sym (c .before .before .before .before .before .before .before .before .before .before .before .before .before .before .before .before .before .before .before .before .before .before .before .before .before .before .pre .starts-are)
 
 same-length-15 : tie.Need-same-length-15 Inv-loop μ-loop
-same-length-15 c = returns-5 c .still .lengths-are ∙ sym (c .before .before .before .before .before .before .before .before .before .before .before .before .before .before .before .before .before .before .before .before .before .before .before .before .before .before .before .pre .lengths-are)
+same-length-15 c = returns-5 c .still .lengths-are ∙ sym (c .before .before .before .before .before .before .before .before .before .before .before .before .before .before .before .before .before .before .before .before .before .before .before .before .before .before .pre .lengths-are)
 
 loop-less-2 : tie.Need-loop-less-2 Inv-loop μ-loop
 loop-less-2 c =
-    let m = movesE (c .before .before .before .before .before .before .before .before .before .before .before .before .before .before .before .before) in
+    let m = movesE (c .before .before .before .before .before .before .before .before .before .before .before .before .before .before .before) in
     omega (arith, m .on, m .within)
 
 loop-again-2 : tie.Need-loop-again-2 Inv-loop μ-loop
 loop-again-2 c =
-    let n = c .before .before .before .before .before .before .before .before .before .before .before .before .before .before .before .before in
+    let n = c .before .before .before .before .before .before .before .before .before .before .before .before .before .before .before in
     let l = E n in
-    turn-entry (K l) (F l) (A₀ l) (A l) (l .loop .c) (l .loop .cur) (l .loop .inv) _ _ _ _ (isEntry n) (omega (arith, l .before .before .section-count .ensures, c .before .before .before .before .before .before .before .before .before .before .before .before .before .before .if2 .left)) (c .before .before .before .before .before .before .before .before .before .before .before .row-at .result)
-    (c .before .before .before .before .before .before .before .before .before .before .before .row-at .ensures ∙ ap (λ (i : ℕ). rowAt (K l) (l .loop .cur) i) (c .before .before .before .before .before .before .before .before .before .before .before .before .find-entry .ensures)) _ (took-yes (c .before .before .before .before .before .before .before .take-row2 .ensures) (c .if3 .left))
+    turn-entry (K l) (F l) (A₀ l) (A l) (l .loop .c) (l .loop .cur) (l .loop .inv) _ _ _ _ (isEntry n) (omega (arith, l .before .before .section-count .ensures, c .before .before .before .before .before .before .before .before .before .before .before .before .before .if2 .left)) (c .before .before .before .before .before .before .before .before .before .before .before .find-row .result)
+    (c .before .before .before .before .before .before .before .before .before .before .before .find-row .ensures) _ (took-yes (c .before .before .before .before .before .before .before .take-row2 .ensures) (c .if3 .left))
 
 pub scan-text-spec : {M : Type 1} → statement M
 scan-text-spec =
@@ -299,11 +295,10 @@ scan-text-spec =
     same-length-11
     same-length-12
     returns-4
-    sub-find-entry
-    part-find-entry-start
-    part-find-entry-end
-    find-entry-requires
-    row-at-requires
+    sub-find-row
+    part-find-row-start
+    part-find-row-end
+    find-row-requires
     add-from
     sub-take-row
     take-row-requires-2

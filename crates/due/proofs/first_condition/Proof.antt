@@ -1,0 +1,31 @@
+-- Each file's number is looked at. Assumes nothing.
+use mathlib.Core.Path.{sym}
+use Rattle.tables.specs.File.{ofNumber}
+use Rattle.due.specs.Due.{firstCondition}
+use Rattle.due.proofs.Entries.{first-else}
+use Rattle.due.proofs.first_condition.Statement.{statement}
+use Rattle.due.proofs.first_condition.Tie as tie
+
+returns : tie.Need-returns
+unfolding ofNumber firstCondition
+returns c = rw (c .match .keys1)
+
+returns-2 : tie.Need-returns-2
+unfolding ofNumber firstCondition
+returns-2 c = rw (c .match .keys2)
+
+returns-3 : tie.Need-returns-3
+unfolding ofNumber firstCondition
+returns-3 c = rw (c .match .keys3)
+
+returns-4 : tie.Need-returns-4
+unfolding ofNumber firstCondition
+returns-4 c = rw (c .match .keys4)
+
+returns-5 : tie.Need-returns-5
+returns-5 c =
+    let r = c .match .rest in
+    sym (first-else (c .before .args .file) (r .0 .0 .0 .1) (r .0 .0 .1) (r .0 .1) (r .1))
+
+pub first-condition-spec : {M : Type 1} → statement M
+first-condition-spec = tie.close (tie.spec returns returns-2 returns-3 returns-4 returns-5)
