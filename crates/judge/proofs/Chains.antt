@@ -6,7 +6,7 @@ use mathlib.Core.Bool.{Bool, true, false, cond, not}
 use mathlib.Core.List.{List, [], map}
 use lib.ListN.{length, getD, drop}
 use Rattle.refusals.specs.declared.Refusal.{Refusal}
-use Rattle.places.specs.Places.{setPairs, pairsAt, valueAt, Within}
+use Rattle.places.specs.Places.{setPairs, pairsAt, valueAt, valuesAt, Within}
 use Rattle.places.proofs.Laws.{set-length, numbers-after, drop-pairs}
 use Rattle.tables.specs.File.{File, ac2, acc, drift, suspension, gas, hasAxles, fileNumber, entries, room, firstPair, leastPlaces}
 use Rattle.tables.proofs.Numbers.{first-pairs}
@@ -15,6 +15,7 @@ use Rattle.reading.specs.Reading.{Reading, refused, read}
 use Rattle.files.specs.Files.{readFile}
 use Rattle.files.proofs.Pairs.{few-axles, rooms-fit, own-pairs}
 use Rattle.due.specs.Booking.{bookingIn}
+use Rattle.due.specs.declared.Booking.{Booking}
 use Rattle.rules.specs.Values.{pairsOf, newValues, gasValues, NewHeld, GasHeld}
 use Rattle.rules.specs.Slices.{sliceRight, isRead, answerRight}
 use Rattle.rules.specs.Answer.{isMarked}
@@ -26,13 +27,14 @@ use Rattle.sets.specs.Judge.{FileRead, SetRead, notRead, goes, require, followe
 use Rattle.sets.specs.declared.SetAnswer.the-variants.{Accepted, Refused}
 use Rattle.sets.proofs.File.{FilePassed, Passed, file-sound}
 use Rattle.serial.specs.Reading.{readAnswer}
-use Rattle.judge.specs.Steps.{fileNumbered, Own, Ready, stop, JudgesFile, fileStep, answerStep, JudgesAnswer, AllZero, JudgesSlices}
+use Rattle.judge.specs.Steps.{fileNumbered, Own, Booked, Ready, stop, JudgesFile, fileStep, answerStep, JudgesAnswer, AllZero, JudgesSlices}
 use Rattle.judge.specs.Judged.{slicesOf}
 use Rattle.judge.specs.declared.Passed as P
 use Rattle.judge.specs.declared.Step.{Step}
 use Rattle.judge.specs.declared.Step.the-variants.{Stop, Go}
 use Rattle.judge.specs.declared.Check.{Check}
 use Rattle.judge.specs.declared.Check.the-variants.{Pass, Refuse}
+use Rattle.judge.proofs.Numbers.{booking-is}
 use Rattle.judge.proofs.Text.{Later, book-kept, new-pairs}
 
 -- ---- pairs that are 0
@@ -45,12 +47,15 @@ zeros t p d (suc k) h =
     let y = h (2 * d + 1) (omega arith) (omega arith) in
     (omega arith, zeros t p (d + 1) k (λ j l m. h j (omega arith) (omega arith)))
 
-pub first-ready : (a p : List ℕ) → AllZero p → Ready 1 a a p
-first-ready a p h = record {
-  number = refl;
-  own = refl;
-  held = (h .0, zeros a p (firstPair ac2) (length (entries ac2 0)) (λ j l m. h .1 j (omega (arith, m, new-count 0, first-pairs))));
-}
+pub first-ready : (a p : List ℕ) → AllZero p → (b : Booking) → Ready 1 a a p × Booked 1 b a p
+first-ready a p h b = (
+  record {
+    number = refl;
+    own = refl;
+    held = (h .0, zeros a p (firstPair ac2) (length (entries ac2 0)) (λ j l m. h .1 j (omega (arith, m, new-count 0, first-pairs))));
+  },
+  λ l. absurd (omega (arith, l)),
+)
 
 -- ---- a file that passed
 
@@ -144,8 +149,13 @@ no-gas f i stated A t y p q h s j k l =
     ∙ numbers-after (firstPair f) (s .got .pairs) p j (omega (arith, passed-few f stated A t (s .got) (s .went), i))
     ∙ h j k l
 
-pub next-ready : (file : ℕ) → fileNumber (fileNumbered file) ≡ file → (a : List ℕ) (A : FileRead) (t p q : List ℕ) → Own (fileNumbered file) a t → Past a A p q → Ready file a t q
-next-ready file e a A t p q o h = record { number = e; own = o; held = h .held }
+-- b is what AC2 says
+pub next-ready : (file : ℕ) → fileNumber (fileNumbered file) ≡ file → (a : List ℕ) (A : FileRead) (t p q : List ℕ) → Own (fileNumbered file) a t → Past a A p q
+    → (b : Booking) → b ≡ bookingIn (A .values) → Ready file a t q × Booked file b a q
+next-ready file e a A t p q o h b eb = (record { number = e; own = o; held = h .held }, λ l. eb ∙ ap bookingIn (sym (h .book)))
+
+pub booking-past : (a : List ℕ) (A : FileRead) (p q : List ℕ) → Past a A p q → (b : Booking) → b ≡ bookingIn (valuesAt a q (firstPair ac2) (room ac2)) → b ≡ bookingIn (A .values)
+booking-past a A p q h b e = booking-is a q b e ∙ ap bookingIn (h .book)
 
 -- ---- gas, for slice 6
 
@@ -227,31 +237,34 @@ module _ (stated : Stated) (a o d u g i : List ℕ) where
       pub rest : NoGas q
       pub lay : q ≡ setPairs (firstPair ac2) (A .pairs) p
 
-    pub record After2 (q : List ℕ) : Type 0 where
+    pub record After2 (b : Booking) (q : List ℕ) : Type 0 where
       pub A : FileRead
       pub O : FileRead
       pub so-far : all ≡ k3 A O
+      pub booking : b ≡ bookingIn (A .values)
       pub past : Past a A p q
       pub rest : NoGas q
       pub lay : q ≡ setPairs (firstPair acc) (O .pairs) (setPairs (firstPair ac2) (A .pairs) p)
 
-    pub record After3 (x : P.Passed) (q : List ℕ) : Type 0 where
+    pub record After3 (b : Booking) (x : P.Passed) (q : List ℕ) : Type 0 where
       pub A : FileRead
       pub O : FileRead
       pub D : FileRead
       pub so-far : all ≡ k4 A O D
+      pub booking : b ≡ bookingIn (A .values)
       pub past : Past a A p q
       pub rest : NoGas q
       pub lay : q ≡ setPairs (firstPair drift) (D .pairs) (setPairs (firstPair acc) (O .pairs) (setPairs (firstPair ac2) (A .pairs) p))
       pub axles3 : D .axles ≡ x .axles
       pub mark3 : isMarked drift (D .values) ≡ x .mark
 
-    pub record After4 (x y : P.Passed) (q : List ℕ) : Type 0 where
+    pub record After4 (b : Booking) (x y : P.Passed) (q : List ℕ) : Type 0 where
       pub A : FileRead
       pub O : FileRead
       pub D : FileRead
       pub U : FileRead
       pub so-far : all ≡ k5 A O D U
+      pub booking : b ≡ bookingIn (A .values)
       pub past : Past a A p q
       pub rest : NoGas q
       pub lay : q ≡ setPairs (firstPair suspension) (U .pairs) (setPairs (firstPair drift) (D .pairs) (setPairs (firstPair acc) (O .pairs) (setPairs (firstPair ac2) (A .pairs) p)))
@@ -291,26 +304,28 @@ module _ (stated : Stated) (a o d u g i : List ℕ) where
           lay = s .places;
         }
 
-    pub to2 : (m : List ℕ) (h : After1 m) (r : Step) (y : P.Passed) (q : List ℕ) → r ≡ Go y → JudgesFile acc (fileStep 2 stated a o m) r m q → After2 q
-    to2 m h r y q e w =
+    pub to2 : (b : Booking) (m : List ℕ) (h : After1 m) → b ≡ bookingIn (h .A .values) → (r : Step) (y : P.Passed) (q : List ℕ) → r ≡ Go y → JudgesFile acc (fileStep 2 stated a o m) r m q → After2 b q
+    to2 b m h eb r y q e w =
         let s = step-go acc stated (h .A .values) (newValues a m) o r y m q (same-book acc o (h .A) m (h .past)) e w in
         record {
           A = h .A;
           O = s .got;
           so-far = step-on (judgeFile acc stated (h .A .values) o) (goes (s .got)) (k3 (h .A)) (h .so-far) (s .went);
+          booking = eb;
           past = past-next acc tt stated a (h .A) o y p m q (h .past) s;
           rest = no-gas acc (omega (arith, first-pairs)) stated (h .A .values) o y m q (h .rest) s;
           lay = s .places ∙ ap (setPairs (firstPair acc) (s .got .pairs)) (h .lay);
         }
 
-    pub to3 : (m : List ℕ) (h : After2 m) (r : Step) (y : P.Passed) (q : List ℕ) → r ≡ Go y → JudgesFile drift (fileStep 3 stated a d m) r m q → After3 y q
-    to3 m h r y q e w =
+    pub to3 : (b : Booking) (m : List ℕ) (h : After2 b m) (r : Step) (y : P.Passed) (q : List ℕ) → r ≡ Go y → JudgesFile drift (fileStep 3 stated a d m) r m q → After3 b y q
+    to3 b m h r y q e w =
         let s = step-go drift stated (h .A .values) (newValues a m) d r y m q (same-book drift d (h .A) m (h .past)) e w in
         record {
           A = h .A;
           O = h .O;
           D = s .got;
           so-far = step-on (judgeFile drift stated (h .A .values) d) (goes (s .got)) (k4 (h .A) (h .O)) (h .so-far) (s .went);
+          booking = h .booking;
           past = past-next drift tt stated a (h .A) d y p m q (h .past) s;
           rest = no-gas drift (omega (arith, first-pairs)) stated (h .A .values) d y m q (h .rest) s;
           lay = s .places ∙ ap (setPairs (firstPair drift) (s .got .pairs)) (h .lay);
@@ -318,8 +333,8 @@ module _ (stated : Stated) (a o d u g i : List ℕ) where
           mark3 = s .mark;
         }
 
-    pub to4 : (x : P.Passed) (m : List ℕ) (h : After3 x m) (r : Step) (y : P.Passed) (q : List ℕ) → r ≡ Go y → JudgesFile suspension (fileStep 4 stated a u m) r m q → After4 x y q
-    to4 x m h r y q e w =
+    pub to4 : (b : Booking) (x : P.Passed) (m : List ℕ) (h : After3 b x m) (r : Step) (y : P.Passed) (q : List ℕ) → r ≡ Go y → JudgesFile suspension (fileStep 4 stated a u m) r m q → After4 b x y q
+    to4 b x m h r y q e w =
         let s = step-go suspension stated (h .A .values) (newValues a m) u r y m q (same-book suspension u (h .A) m (h .past)) e w in
         record {
           A = h .A;
@@ -327,6 +342,7 @@ module _ (stated : Stated) (a o d u g i : List ℕ) where
           D = h .D;
           U = s .got;
           so-far = step-on (judgeFile suspension stated (h .A .values) u) (goes (s .got)) (k5 (h .A) (h .O) (h .D)) (h .so-far) (s .went);
+          booking = h .booking;
           past = past-next suspension tt stated a (h .A) u y p m q (h .past) s;
           rest = no-gas suspension (omega (arith, first-pairs)) stated (h .A .values) u y m q (h .rest) s;
           lay = s .places ∙ ap (setPairs (firstPair suspension) (s .got .pairs)) (h .lay);
@@ -336,8 +352,8 @@ module _ (stated : Stated) (a o d u g i : List ℕ) where
           mark4 = s .mark;
         }
 
-    pub to5 : (x z : P.Passed) (m : List ℕ) (h : After4 x z m) (r : Step) (y : P.Passed) (q : List ℕ) → r ≡ Go y → JudgesFile gas (fileStep 5 stated a g m) r m q → After5 x z y q
-    to5 x z m h r y q e w =
+    pub to5 : (b : Booking) (x z : P.Passed) (m : List ℕ) (h : After4 b x z m) (r : Step) (y : P.Passed) (q : List ℕ) → r ≡ Go y → JudgesFile gas (fileStep 5 stated a g m) r m q → After5 x z y q
+    to5 b x z m h r y q e w =
         let s = step-go gas stated (h .A .values) (newValues a m) g r y m q (same-book gas g (h .A) m (h .past)) e w in
         let k = gas-known stated g i (h .A .values) y m q (h .past .held .0) (h .rest) s in
         record {
@@ -375,14 +391,14 @@ module _ (stated : Stated) (a o d u g i : List ℕ) where
     pub out2 : (m : List ℕ) (h : After1 m) (r : Step) (x : Refusal) (q : List ℕ) → r ≡ Stop x → JudgesFile acc (fileStep 2 stated a o m) r m q → JudgesSlices all (Refused x) p q
     out2 m h = refused-at acc o (h .A) (k3 (h .A)) m (h .past) (h .so-far)
 
-    pub out3 : (m : List ℕ) (h : After2 m) (r : Step) (x : Refusal) (q : List ℕ) → r ≡ Stop x → JudgesFile drift (fileStep 3 stated a d m) r m q → JudgesSlices all (Refused x) p q
-    out3 m h = refused-at drift d (h .A) (k4 (h .A) (h .O)) m (h .past) (h .so-far)
+    pub out3 : (b : Booking) (m : List ℕ) (h : After2 b m) (r : Step) (x : Refusal) (q : List ℕ) → r ≡ Stop x → JudgesFile drift (fileStep 3 stated a d m) r m q → JudgesSlices all (Refused x) p q
+    out3 b m h = refused-at drift d (h .A) (k4 (h .A) (h .O)) m (h .past) (h .so-far)
 
-    pub out4 : (y : P.Passed) (m : List ℕ) (h : After3 y m) (r : Step) (x : Refusal) (q : List ℕ) → r ≡ Stop x → JudgesFile suspension (fileStep 4 stated a u m) r m q → JudgesSlices all (Refused x) p q
-    out4 y m h = refused-at suspension u (h .A) (k5 (h .A) (h .O) (h .D)) m (h .past) (h .so-far)
+    pub out4 : (b : Booking) (y : P.Passed) (m : List ℕ) (h : After3 b y m) (r : Step) (x : Refusal) (q : List ℕ) → r ≡ Stop x → JudgesFile suspension (fileStep 4 stated a u m) r m q → JudgesSlices all (Refused x) p q
+    out4 b y m h = refused-at suspension u (h .A) (k5 (h .A) (h .O) (h .D)) m (h .past) (h .so-far)
 
-    pub out5 : (y z : P.Passed) (m : List ℕ) (h : After4 y z m) (r : Step) (x : Refusal) (q : List ℕ) → r ≡ Stop x → JudgesFile gas (fileStep 5 stated a g m) r m q → JudgesSlices all (Refused x) p q
-    out5 y z m h = refused-at gas g (h .A) (k6 (h .A) (h .O) (h .D) (h .U)) m (h .past) (h .so-far)
+    pub out5 : (b : Booking) (y z : P.Passed) (m : List ℕ) (h : After4 b y z m) (r : Step) (x : Refusal) (q : List ℕ) → r ≡ Stop x → JudgesFile gas (fileStep 5 stated a g m) r m q → JudgesSlices all (Refused x) p q
+    out5 b y z m h = refused-at gas g (h .A) (k6 (h .A) (h .O) (h .D) (h .U)) m (h .past) (h .so-far)
 
     module _ (x y z : P.Passed) (q : List ℕ) (h : After5 x y z q) (r : Check) (c : JudgesAnswer (answerStep g i q) r) where
       known : (k : Check) → r ≡ k → JudgesAnswer (judgeAnswer (isGiven g) (h .G .values) i) k

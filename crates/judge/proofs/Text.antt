@@ -21,11 +21,13 @@ use Rattle.files.specs.declared.TextAnswer.the-variants.{Sections, Faulty}
 use Rattle.files.proofs.Alone.{count-in}
 use Rattle.files.proofs.Theorem as T
 use Rattle.files.proofs.Pairs.{few-axles, pairs-fit, own-pairs}
+use Rattle.due.specs.Booking.{bookingIn}
+use Rattle.due.specs.declared.Booking.{Booking}
 use Rattle.rules.specs.Values.{pairsOf, newValues, NewHeld}
 use Rattle.rules.specs.Answer.{isMarked}
 use Rattle.rules.proofs.Pairs.{new-count}
 use Rattle.sets.specs.Judge.{FileRead, fileRead, stops, goes, booked, fileChecks, firstFailed, checkedFile, judgeReading, judgeText}
-use Rattle.judge.specs.Steps.{fileNumbered, Own, Ready, ValuesReady, valuesStep, JudgesValues, JudgesFile, textStep}
+use Rattle.judge.specs.Steps.{fileNumbered, Own, Booked, Ready, ValuesReady, valuesStep, JudgesValues, JudgesFile, textStep}
 use Rattle.judge.specs.declared.Step.{Step}
 use Rattle.judge.specs.declared.Step.the-variants.{Stop, Go}
 use Rattle.judge.proofs.Numbers.{by-file, table}
@@ -39,6 +41,13 @@ Later acc = Unit {0}
 Later drift = Unit {0}
 Later suspension = Unit {0}
 Later gas = Unit {0}
+
+later-of : (f : File) → 2 ≤ fileNumber f → Later f
+later-of ac2 l = absurd (omega (arith, l))
+later-of acc l = tt
+later-of drift l = tt
+later-of suspension l = tt
+later-of gas l = tt
 
 after-book : (f : File) → Later f → 12 ≤ firstPair f
 after-book acc l = omega (arith, first-pairs)
@@ -133,6 +142,12 @@ module _ (file : ℕ) (s t p q ls : List ℕ) (d : Ready file s t p) (r : TextAn
         own = (h .0, subst (Within t) (sym own) (x .within));
         lines = l;
       }
+
+  -- reading a file after AC2 leaves what AC2 says
+  pub text-booked : (b : Booking) → Booked file b s p → Booked file b s q
+  text-booked b h l =
+      h l ∙ ap (λ (y : List Pair). bookingIn (map (valueAt s) y))
+      (sym (ap (pairsOf ac2 0) set ∙ book-kept f (later-of f (omega (arith, d .number, l))) ps p))
 
   step : textStep file s t p ≡ valuesStep f c s t q ls
   unfolding judgeText

@@ -36,7 +36,7 @@ use Rattle.rules.proofs.Pairs.{gas-room}
 use Rattle.sets.specs.Judge.{stops, checkRule, checkedFile, firstFailed}
 use Rattle.judge.specs.Steps.{fileNumbered, ValuesReady, readAt, valuesStep, JudgesValues}
 use Rattle.judge.specs.declared.Step.the-variants.{Stop, Go}
-use Rattle.judge.proofs.Numbers.{by-file, table, few-entries, booking-ready, booking-is}
+use Rattle.judge.proofs.Numbers.{by-file, table, few-entries, booking-ready}
 
 gas-own : (f : File) (n : ℕ) (t p : List ℕ) → gasValuesIn (fileNumber f) (valuesAt t p (firstPair gas) (room gas)) ≡ gasValues f (valuesOf f n t p)
 gas-own ac2 n t p = gas-values-file ac2 (valuesAt t p (firstPair gas) (room gas))
@@ -110,7 +110,7 @@ module _ (file c : ℕ) (s t p ls : List ℕ) (w : ValuesReady file c s t p ls) 
 
   -- ---- 10
 
-  pub due-is : (b : Booking) → b ≡ bookingIn (valuesAt s p (firstPair ac2) (room ac2))
+  pub due-is : (b : Booking) → b ≡ bookingIn (newValues s p)
       → (k : Conditions) → k ≡ withLinks b (linksIn (gasValuesIn file (valuesAt t p (firstPair gas) (room gas))))
       → (first : ℕ) → first ≡ ofNumber 0 firstPair file → (count : ℕ) → count ≡ size
       → (e : ℕ) → e ≡ firstNotAsDueFrom (λ i. dueIn file i k) 0 (filledPairs (pairsAt p first count)) → e ≡ firstNotAsDue f conditions vs
@@ -118,7 +118,7 @@ module _ (file c : ℕ) (s t p ls : List ℕ) (w : ValuesReady file c s t p ls) 
   due-is b eb k ek first ef count ec e h =
       let g : gasValuesIn file (valuesAt t p (firstPair gas) (room gas)) ≡ gasValues f vs
       = ap (λ (m : ℕ). gasValuesIn m (valuesAt t p (firstPair gas) (room gas))) (sym (w .number)) ∙ gas-own f n t p in
-      let q : k ≡ conditions = ek ∙ ap₂ (λ (x : Booking) (y : List (List ℕ)). withLinks x (linksIn y)) (booking-is s p b eb) g in
+      let q : k ≡ conditions = ek ∙ ap₂ (λ (x : Booking) (y : List (List ℕ)). withLinks x (linksIn y)) eb g in
       h
       ∙ ap₂ (λ (m : ℕ) (ps : List Pair). firstNotAsDueFrom (λ i. dueIn m i k) 0 (filledPairs ps)) (sym (w .number)) (ap₂ (λ (x y : ℕ). pairsAt p x y) (ef ∙ by-file file (w .number) 0 firstPair) ec)
       ∙ first-at-values f k t (pairsOf f n p) (w .own .1)

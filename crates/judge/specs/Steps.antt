@@ -11,6 +11,8 @@ use Rattle.refusals.specs.declared.RefusalKind.{RefusalKind}
 use Rattle.places.specs.Places.{setPairs}
 use Rattle.tables.specs.File.{File, ac2, acc, drift, suspension, gas, files, fileNumber, sections, allSections, fixedSections, entries, firstPair, leastPlaces}
 use Rattle.files.specs.Files.{axlesOf}
+use Rattle.due.specs.Booking.{bookingIn}
+use Rattle.due.specs.declared.Booking.{Booking}
 use Rattle.rules.specs.Values.{pairsOf, valuesOf, newValues, gasValues, Held, NewHeld}
 use Rattle.rules.specs.Answer.{isMarked}
 use Rattle.rules.specs.declared.Stated.{Stated}
@@ -35,6 +37,10 @@ Own acc s t = Unit {0}
 Own drift s t = Unit {0}
 Own suspension s t = Unit {0}
 Own gas s t = Unit {0}
+
+-- for a file after AC2, b is what AC2's values say; for AC2, whose values are not read yet, nothing is asked of b
+abbrev pub Booked : ℕ → Booking → List ℕ → List ℕ → Type 0
+Booked file b s p = 2 ≤ file → b ≡ bookingIn (newValues s p)
 
 -- what judging a file asks: AC2's text s, the file's text t
 pub record Ready (file : ℕ) (s t p : List ℕ) : Type 0 where

@@ -2,10 +2,13 @@
 ghost use mathlib.Core.Path.{_≡_};
 ghost use Prim.Native.Nat.{_≤_};
 ghost use lib.ListN.{length, getD};
-ghost use Rattle.rules.specs.Values.{GasHeld};
+ghost use Rattle.due.specs.Booking.{bookingIn};
+ghost use Rattle.rules.specs.Values.{newValues, NewHeld, GasHeld};
 ghost use Rattle.sets.specs.Judge.{judgeSlices};
-ghost use Rattle.judge.specs.Steps.{fileNumbered, Ready, ValuesReady, JudgesValues, JudgesFile, textStep, fileStep, answerStep, JudgesAnswer, answerRefused, AllZero, JudgesSlices};
+ghost use Rattle.judge.specs.Steps.{fileNumbered, Booked, Ready, ValuesReady, JudgesValues, JudgesFile, textStep, fileStep, answerStep, JudgesAnswer, answerRefused, AllZero, JudgesSlices};
 ghost use Rattle.judge.specs.Judged.{slicesOf, SetJudged};
+use due::Booking;
+use due::Fuel;
 use files::TextAnswer;
 use refusals::Refusal;
 use refusals::RefusalKind;
@@ -38,19 +41,31 @@ fn line_of(lines: &[u32], entry: usize) -> u32
     if entry < lines.len() { lines[entry] } else { 0 }
 }
 
+// The booking that the values of a file are judged by: AC2's own, now that it was read; for a file after it, b.
+fn booking_for(file: u32, b: Booking, booking: &[u8], places: &[u32]) -> Booking
+    requires { ⌜ NewHeld (now booking) (now places) × Booked file b (now booking) (now places) ⌝ }
+    ensures { λ r. ⌜ r ≡ bookingIn (newValues (now (booking .entry)) (now (places .entry))) ⌝ }
+{
+    if 1 < file {
+        return b;
+    }
+    due::booking_of(booking, places)
+}
+
 // All of 10, then 12 or 13, of a file whose pairs are in the places, with the lines of its entries.
 fn judge_values(
     file: u32,
     sections: usize,
+    b: Booking,
     booking: &[u8],
     text: &[u8],
     places: &[u32],
     lines: &[u32],
 ) -> Step
-    requires { ⌜ ValuesReady file sections (now booking) (now text) (now places) (now lines) ⌝ }
+    requires { ⌜ ValuesReady file sections (now booking) (now text) (now places) (now lines) × Booked file b (now booking) (now places) ⌝ }
     ensures { λ r. ⌜ JudgesValues (fileNumbered file) sections (now (booking .entry)) (now (text .entry)) (now (places .entry)) (now (lines .entry)) r ⌝ }
 {
-    let conditions = due::conditions_of(file, due::booking_of(booking, places), text, places);
+    let conditions = due::conditions_of(file, booking_for(file, b, booking, places), text, places);
     let count = tables::rows_before(file, sections) - sections;
     let first = tables::first_pair(file);
     let entry = due::first_not_as_due(file, first, count, conditions, places);
@@ -83,8 +98,15 @@ fn judge_values(
 }
 
 // 3 to 9, then the values.
-fn judge_text(file: u32, booking: &[u8], text: &[u8], places: &mut [u32], lines: &mut [u32]) -> Step
-    requires { ⌜ Ready file (now booking) (now text) (now places) × (64 ≤ length (now lines)) ⌝ }
+fn judge_text(
+    file: u32,
+    b: Booking,
+    booking: &[u8],
+    text: &[u8],
+    places: &mut [u32],
+    lines: &mut [u32],
+) -> Step
+    requires { ⌜ Ready file (now booking) (now text) (now places) × Booked file b (now booking) (now places) × (64 ≤ length (now lines)) ⌝ }
     ensures { λ r. ⌜ JudgesFile (fileNumbered file) (textStep file (now (booking .entry)) (now (text .entry)) (now (places .entry))) r (now (places .entry)) (now (places .exit)) ⌝ }
 {
     match files::read_text(file, text, places, lines) {
@@ -100,6 +122,7 @@ fn judge_text(file: u32, booking: &[u8], text: &[u8], places: &mut [u32], lines:
         TextAnswer::Sections(sections) => judge_values(
             file,
             sections,
+            b,
             booking,
             text,
             places,
@@ -108,12 +131,18 @@ fn judge_text(file: u32, booking: &[u8], text: &[u8], places: &mut [u32], lines:
     }
 }
 
-// 11, then, of a file that is read, the rest.
-fn judge_file(file: u32, stated: Stated, booking: &[u8], text: &[u8], places: &mut [u32]) -> Step
-    requires { ⌜ Ready file (now booking) (now text) (now places) ⌝ }
+// 11, then, of a file that is read, the rest. b is the booking, for a file after AC2.
+fn judge_file(
+    file: u32,
+    stated: Stated,
+    b: Booking,
+    booking: &[u8],
+    text: &[u8],
+    places: &mut [u32],
+) -> Step
+    requires { ⌜ Ready file (now booking) (now text) (now places) × Booked file b (now booking) (now places) ⌝ }
     ensures { λ r. ⌜ JudgesFile (fileNumbered file) (fileStep file stated (now (booking .entry)) (now (text .entry)) (now (places .entry))) r (now (places .entry)) (now (places .exit)) ⌝ }
 {
-    let b = due::booking_of(booking, places);
     let given = 0 < text.len();
     if !rules::slice_right(file, stated, b, given) {
         return Step::Stop(Refusal {
@@ -129,7 +158,7 @@ fn judge_file(file: u32, stated: Stated, booking: &[u8], text: &[u8], places: &m
         });
     }
     let mut lines = [0u32; 64];
-    judge_text(file, booking, text, places, &mut lines)
+    judge_text(file, b, booking, text, places, &mut lines)
 }
 
 fn refuse_answer(kind: RefusalKind) -> Check
@@ -179,17 +208,26 @@ fn judge_slices(
     requires { ⌜ AllZero (now places) ⌝ }
     ensures { λ r. ⌜ JudgesSlices (judgeSlices stated (slicesOf (now (ac2 .entry)) (now (acc .entry)) (now (drift .entry)) (now (suspension .entry)) (now (gas .entry)) (now (identification .entry)))) r (now (places .entry)) (now (places .exit)) ⌝ }
 {
-    if let Step::Stop(x) = judge_file(1, stated, ac2, ac2, places) {
+    // 11 does not ask for the booking of AC2, and 10 takes AC2's own
+    let unknown = Booking {
+        category: 0,
+        six: false,
+        fuel: Fuel::OtherFuel,
+        late: false,
+        nessuna: false,
+    };
+    if let Step::Stop(x) = judge_file(1, stated, unknown, ac2, ac2, places) {
         return SetAnswer::Refused(x);
     }
-    if let Step::Stop(x) = judge_file(2, stated, ac2, acc, places) {
+    let b = due::booking_of(ac2, places);
+    if let Step::Stop(x) = judge_file(2, stated, b, ac2, acc, places) {
         return SetAnswer::Refused(x);
     }
-    match judge_file(3, stated, ac2, drift, places) {
+    match judge_file(3, stated, b, ac2, drift, places) {
         Step::Stop(x) => SetAnswer::Refused(x),
-        Step::Go(d) => match judge_file(4, stated, ac2, suspension, places) {
+        Step::Go(d) => match judge_file(4, stated, b, ac2, suspension, places) {
             Step::Stop(x) => SetAnswer::Refused(x),
-            Step::Go(u) => match judge_file(5, stated, ac2, gas, places) {
+            Step::Go(u) => match judge_file(5, stated, b, ac2, gas, places) {
                 Step::Stop(x) => SetAnswer::Refused(x),
                 Step::Go(g) => match judge_answer(gas, identification, places) {
                     Check::Refuse(x) => SetAnswer::Refused(x),

@@ -2,37 +2,25 @@
 use borrow.Author.Needs.{needs}
 use borrow.Author.Tests.{not-true, not-false}
 use denote.Ref.{now}
-use Rattle.judge.proofs.Numbers.{booking-ready}
 use Rattle.judge.proofs.File.{file-wrong, file-unread, file-read}
 use Rattle.judge.proofs.judge_file.Statement.{statement}
 use Rattle.judge.proofs.judge_file.Tie as tie
 
-booking-of-requires : tie.Need-booking-of-requires
-booking-of-requires c κs =
-    let x = c .before .before .before .before in
-    booking-ready (now (x .args .booking)) (now (x .args .places)) (x .pre .held)
-
 slice-right-requires : tie.Need-slice-right-requires
 slice-right-requires c κs = search needs
 
-same-length : tie.Need-same-length
-same-length c = search needs
-
 returns : tie.Need-returns
 returns c =
-    let x = c .before .before .before .before .before .before .before in
-    file-wrong (x .args .file) (x .args .stated) (now (x .args .booking)) (now (x .args .text)) (now (x .args .places)) (x .pre) _ (c .before .before .booking-of .ensures) _ (c .before .slice-right .ensures) (not-true _ (c .if1 .taken))
+    let x = c .before .before .before .before .before in
+    file-wrong (x .args .file) (x .args .stated) (now (x .args .booking)) (now (x .args .text)) (now (x .args .places)) (x .pre .0) _ (x .pre .1) _ (c .before .slice-right .ensures) (not-true _ (c .if1 .taken))
 
 is-read-requires : tie.Need-is-read-requires
 is-read-requires c κs = search needs
 
-same-length-2 : tie.Need-same-length-2
-same-length-2 c = search needs
-
 returns-2 : tie.Need-returns-2
 returns-2 c =
-    let x = c .before .before .before .before .before .before .before .before .before in
-    file-unread (x .args .file) (x .args .stated) (now (x .args .booking)) (now (x .args .text)) (now (x .args .places)) (x .pre) _ (c .before .before .before .before .booking-of .ensures) _ (c .before .before .before .slice-right .ensures) (not-false _ (c .before .before .if1 .left)) _ (c .before .is-read .ensures) (not-true _ (c .if2 .taken))
+    let x = c .before .before .before .before .before .before .before in
+    file-unread (x .args .file) (x .args .stated) (now (x .args .booking)) (now (x .args .text)) (now (x .args .places)) (x .pre .0) _ (x .pre .1) _ (c .before .before .before .slice-right .ensures) (not-false _ (c .before .before .if1 .left)) _ (c .before .is-read .ensures) (not-true _ (c .if2 .taken))
 
 slice-aggregate-judge-text : tie.Need-slice-aggregate-judge-text
 slice-aggregate-judge-text c = search needs
@@ -40,27 +28,24 @@ slice-aggregate-judge-text c = search needs
 judge-text-requires : tie.Need-judge-text-requires
 judge-text-requires c κs = search needs
 
-same-length-3 : tie.Need-same-length-3
-same-length-3 c = search needs
+same-length : tie.Need-same-length
+same-length c = search needs
 
 returns-3 : tie.Need-returns-3
 returns-3 c =
-    let x = c .before .before .before .before .before .before .before .before .before .before .before .before .before .before .before in
+    let x = c .before .before .before .before .before .before .before .before .before .before .before .before .before in
     let t = c .before .before .before in
-    file-read (x .args .file) (x .args .stated) (now (x .args .booking)) (now (x .args .text)) (now (x .args .places)) (x .pre) _ (c .before .before .before .before .before .before .before .before .before .before .booking-of .ensures) _ (c .before .before .before .before .before .before .before .before .before .slice-right .ensures) (not-false _ (c .before .before .before .before .before .before .before .before .if1 .left)) _ (c .before .before .before .before .before .before .before .is-read .ensures) (not-false _ (c .before .before .before .before .before .before .if2 .left)) (t .judge-text .result) (t .judge-text .last .1 .1 .1 .0) (t .judge-text .ensures)
+    file-read (x .args .file) (x .args .stated) (now (x .args .booking)) (now (x .args .text)) (now (x .args .places)) (x .pre .0) _ (x .pre .1) _ (c .before .before .before .before .before .before .before .before .before .slice-right .ensures) (not-false _ (c .before .before .before .before .before .before .before .before .if1 .left)) _ (c .before .before .before .before .before .before .before .is-read .ensures) (not-false _ (c .before .before .before .before .before .before .if2 .left)) (t .judge-text .result) (t .judge-text .last .1 .1 .1 .1 .0) (t .judge-text .ensures)
 
 pub judge-file-spec : {M : Type 1} → statement M
 judge-file-spec =
     tie.close
     (tie.spec
-    booking-of-requires
     slice-right-requires
-    same-length
     returns
     is-read-requires
-    same-length-2
     returns-2
     slice-aggregate-judge-text
     judge-text-requires
-    same-length-3
+    same-length
     returns-3)

@@ -1,7 +1,7 @@
 -- `judge::judge_text` meets its contract: 3 to 9, then the values that are now in the places. Assumes nothing.
 use borrow.Author.Needs.{needs}
 use denote.Ref.{now}
-use Rattle.judge.proofs.Text.{text-faulty, text-ready, text-judged}
+use Rattle.judge.proofs.Text.{text-faulty, text-ready, text-booked, text-judged}
 use Rattle.judge.proofs.judge_text.Statement.{statement}
 use Rattle.judge.proofs.judge_text.Tie as tie
 
@@ -18,7 +18,7 @@ judge-values-requires : tie.Need-judge-values-requires
 judge-values-requires c κs =
     let x = c .before .before .before .before .before .before .before .before .before .before .before .before .before .before .before .before in
     let r = c .before .before .before .before .before .before .before .before .before in
-    text-ready (x .args .file) (now (x .args .booking)) (now (x .args .text)) (now (x .args .places)) (r .read-text .last .1 .1 .0) (r .read-text .last .1 .1 .1 .0) (x .pre .0) (r .read-text .result) (r .read-text .ensures) _ (c .before .before .before .sections .given .1) (search needs)
+    (text-ready (x .args .file) (now (x .args .booking)) (now (x .args .text)) (now (x .args .places)) (r .read-text .last .1 .1 .0) (r .read-text .last .1 .1 .1 .0) (x .pre .0) (r .read-text .result) (r .read-text .ensures) _ (c .before .before .before .sections .given .1) (search needs), text-booked (x .args .file) (now (x .args .booking)) (now (x .args .text)) (now (x .args .places)) (r .read-text .last .1 .1 .0) (r .read-text .last .1 .1 .1 .0) (x .pre .0) (r .read-text .result) (r .read-text .ensures) _ (c .before .before .before .sections .given .1) _ (x .pre .1))
 
 same-length : tie.Need-same-length
 same-length c = search needs
