@@ -92,9 +92,11 @@ fn scan_text(
     requires { ⌜ Ready (tableOf file) (now text) (slots (now numbers) (now starts) (now lengths)) ⌝ }
     ensures { λ r. ⌜ Scanned (tableOf file) (now (text .entry)) (slots (now (numbers .entry)) (now (starts .entry)) (now (lengths .entry))) (slots (now (numbers .exit)) (now (starts .exit)) (now (lengths .exit))) (scanIs r (slots (now (numbers .exit)) (now (starts .exit)) (now (lengths .exit)))) ⌝ }
 {
+    let tags = tables::name_tags();
     let none = tables::section_count(file);
     let mut c = Cursor::new();
     let mut cur = none;
+    let mut place = tables::section_place(file, none);
     loop {
         match c.read_line(text) {
             LineRead::End => {
@@ -105,12 +107,13 @@ fn scan_text(
             }
             LineRead::Heading { start, end, next } => {
                 let section = tables::find_section(file, &text[start..end]);
-                let row = tables::rows_before(file, section);
+                let found = tables::section_place(file, section);
                 let line = next.line;
-                if !take_row(numbers, starts, lengths, row, line, 0, 0) {
+                if !take_row(numbers, starts, lengths, found.before, line, 0, 0) {
                     return failed(RefusalKind::HeadingNotExpected, line);
                 }
                 cur = section;
+                place = found;
                 c = next;
             }
             LineRead::Entry {
@@ -123,7 +126,7 @@ fn scan_text(
                 if none <= cur {
                     return failed(RefusalKind::LineForm, line);
                 }
-                let row = tables::find_row(file, cur, &text[start..equals]);
+                let row = tables::find_row(file, cur, place, &tags, &text[start..equals]);
                 let from = equals + 1;
                 if !take_row(numbers, starts, lengths, row, line, from, end - from) {
                     return failed(RefusalKind::EntryNotExpected, line);

@@ -24,7 +24,7 @@ use Rattle.tables.specs.Entries.{
   fuelAnalysis,
 }
 use Rattle.tables.specs.Row.{noEntry, nameIn}
-use Rattle.tables.specs.Lists.{entryLists, entryList, joined, listStart, tagOf, tagsIn}
+use Rattle.tables.specs.Lists.{entryLists, entryList, joined, listStart, tagOf, tagsIn, allTags}
 use Rattle.tables.proofs.Sections.{name-of}
 
 abbrev nameTags : List ℕ
@@ -39,10 +39,13 @@ unfolding joined entryLists newBooking oldBooking tester protocol measurement si
     allKeyDates allKeyBodies analysis fuelAnalysis
 lengths-are = refl
 
-tags-are : nameTags ≡ map (λ e. tagOf (e .name)) (joined entryLists)
-unfolding tagOf joined entryLists newBooking oldBooking tester protocol measurement sixteen driftAxle suspensionAxle analyser counter speedTest
+pub tags-are : nameTags ≡ allTags
+unfolding allTags tagsIn tagOf joined entryLists newBooking oldBooking tester protocol measurement sixteen driftAxle suspensionAxle analyser counter speedTest
     allKeyDates allKeyBodies analysis fuelAnalysis
 tags-are = refl
+
+pub tags-count : length allTags ≡ 91
+tags-count = ap length (sym tags-are)
 
 module _ {A B : Type 0} (f : A → B) where
   map-take : (n : ℕ) (l : List A) → take n (map f l) ≡ map f (take n l)
@@ -96,9 +99,9 @@ module _ (f : List ℕ → ℕ) (xs : List ℕ) (t : xs ≡ map (λ e. f (e .nam
 pub length-is : (l i : ℕ) → i < length (entryList l) → getD nameLengths (listStart l + i) 0 ≡ length (nameIn (entryList l) i)
 length-is l i h = number-is length nameLengths lengths-are l i h
 
-pub tags-in : (l : ℕ) → take (length (entryList l)) (drop (listStart l) nameTags) ≡ tagsIn (entryList l)
-unfolding tagsIn
-tags-in l = part-is tagOf nameTags tags-are l
+pub tags-in : (l : ℕ) → take (length (entryList l)) (drop (listStart l) allTags) ≡ tagsIn (entryList l)
+unfolding allTags tagsIn
+tags-in l = part-is tagOf allTags refl l
 
 pub tags-length : (es : List Entry) → length (tagsIn es) ≡ length es
 unfolding tagsIn

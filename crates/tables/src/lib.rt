@@ -11,7 +11,7 @@ ghost use Rattle.lines.specs.Line.{heading as headingLine, entry as entryLine, 
 ghost use Rattle.lines.specs.Writing.{Wrote};
 ghost use Rattle.tables.specs.File.{tableOf, ofNumber, isFile, leastSections, fixedSections, firstPair, room};
 ghost use Rattle.tables.specs.Row.{entriesIn, names, nameAt, indexOf, headingAt, sectionOf, entryIn, rowsBefore, rowCount, rowAt};
-ghost use Rattle.tables.specs.Lists.{entryList, listStart, tagOf, tagsIn};
+ghost use Rattle.tables.specs.Lists.{entryList, listStart, tagOf, tagsIn, allTags, IsPlaceOf};
 
 // The lengths of the entries' names, list after list in the order of `entry_list`.
 const NAME_LENGTHS: [u8; 91] = [
@@ -202,6 +202,14 @@ const NAME_TAGS: [u8; 91] = [
     206,
     131,
 ];
+
+// Where a section stands: its list's number, where that begins, how many entries it has, and the rows before it.
+pub struct SectionPlace {
+    pub list: usize,
+    pub start: usize,
+    pub size: usize,
+    pub before: usize,
+}
 
 // A byte as a size.
 fn wide(byte: u8) -> usize
@@ -476,18 +484,40 @@ fn find_listed(tags: &[u8], list: usize, part: &[u8]) -> usize
     entry
 }
 
-// The row of the entry of a name in a section; the number of rows where it is none of the section's.
-pub fn find_row(file: u32, section: usize, part: &[u8]) -> usize
-    ensures { λ r. ⌜ r ≡ rowAt (tableOf file) section (entryIn (tableOf file) section (now (part .entry))) ⌝ }
+// The tags of all lists. An array is laid out where it is used: a reader takes them once, and lends them on.
+pub fn name_tags() -> [u8; 91]
+    ensures { λ r. ⌜ r ≡ allTags ⌝ }
+{
+    NAME_TAGS
+}
+
+// The place of a section, for all look-ups under its heading.
+pub fn section_place(file: u32, section: usize) -> SectionPlace
+    ensures { λ r. ⌜ IsPlaceOf file section r ⌝ }
 {
     let list = entry_list(file, section);
     let before = rows_before(file, section);
     let start = list_start(list);
     let size = list_size(list);
+    SectionPlace {
+        list: list,
+        start: start,
+        size: size,
+        before: before,
+    }
+}
+
+// The row of the entry of a name in a section of that place; the number of rows where it is none of the section's.
+pub fn find_row(file: u32, section: usize, place: SectionPlace, tags: &[u8], part: &[u8]) -> usize
+    requires { ⌜ IsPlaceOf file section place × (now tags ≡ allTags) ⌝ }
+    ensures { λ r. ⌜ r ≡ rowAt (tableOf file) section (entryIn (tableOf file) section (now (part .entry))) ⌝ }
+{
+    let start = place.start;
+    let size = place.size;
     let end = start + size;
-    let entry = find_listed(&NAME_TAGS[start..end], list, part);
+    let entry = find_listed(&tags[start..end], place.list, part);
     if entry < size {
-        before + 1 + entry
+        place.before + 1 + entry
     } else {
         row_count(file)
     }
