@@ -30,7 +30,8 @@ use Rattle.tables.specs.Row.{names, indexOf}
 use Rattle.tables.specs.Value.{placeOf, isEntry}
 use Rattle.due.specs.Booking.{bookingIn}
 use Rattle.due.specs.Conditions.{linksIn, withLinks, conditionsOf, gasValues, gasValuesIn}
-use Rattle.due.specs.Due.{NamedCondition, exceptions, conditionOf, fixedConditions, conditionAt, conditionIn, conditionTable, firstCondition, fixedCount, dueOf, dueIn}
+use Rattle.due.specs.Due.{NamedCondition, exceptions, conditionOf, fixedConditions, conditionAt, conditionIn, dueOf, dueIn}
+use Rattle.due.specs.Table.{conditionTable, firstCondition, fixedCount}
 use Rattle.due.specs.declared.Conditions.{Conditions}
 use Rattle.due.specs.declared.Condition.{Condition}
 use Rattle.due.specs.declared.Condition.the-variants.{Always}

@@ -9,7 +9,8 @@ use lib.Dec.{ltb}
 use lib.ListN.{length, getD, length-map}
 use Rattle.places.specs.Places.{Pair, lengthOf, pairsAt, valueAt, Within}
 use Rattle.tables.specs.File.{File, fileNumber, ofNumber}
-use Rattle.due.specs.Due.{conditionAt, conditionTable, firstCondition, fixedCount, holdsIn, dueOf, dueIn, filled, filledPairs, asDue, isAsDue, firstNotAsDueFrom, firstNotAsDue}
+use Rattle.due.specs.Due.{conditionAt, holdsIn, dueOf, dueIn, filled, filledPairs, asDue, isAsDue, firstNotAsDueFrom, firstNotAsDue}
+use Rattle.due.specs.Table.{conditionTable, firstCondition, fixedCount}
 use Rattle.due.specs.declared.Conditions.{Conditions}
 use Rattle.due.specs.declared.Due.{Due}
 use Rattle.due.specs.declared.Condition.the-variants.{Always}

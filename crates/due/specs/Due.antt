@@ -95,22 +95,6 @@ conditionAt f i = getD (fixedConditions f) i Always
 unfoldable pub conditionIn : ℕ → ℕ → Condition
 conditionIn n i = ofNumber Always (λ f. conditionAt f i) n
 
--- the conditions of the fixed sections file after file, as the code has them; suspension has drift's
-unfoldable pub conditionTable : List Condition
-conditionTable = fixedConditions ac2 ++ (fixedConditions acc ++ (fixedConditions drift ++ fixedConditions gas))
-
--- where a file's begin among them
-unfoldable pub firstCondition : File → ℕ
-firstCondition ac2 = 0
-firstCondition acc = 12
-firstCondition drift = 18
-firstCondition suspension = 18
-firstCondition gas = 34
-
--- how many a file's fixed sections have, by the file's number
-abbrev pub fixedCount : ℕ → ℕ
-fixedCount n = ofNumber 0 (λ f. length (entries f 0)) n
-
 -- ---- when it is due
 
 -- L1e, L2e, L6e

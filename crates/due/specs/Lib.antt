@@ -1,3 +1,4 @@
 pub mod Booking
 pub mod Conditions
 pub mod Due
+pub mod Table

@@ -8,7 +8,8 @@ ghost use Rattle.places.specs.Places.{placeSize, startOf, lengthOf, pairsAt, va
 ghost use Rattle.tables.specs.File.{ac2, gas, ofNumber, firstPair, room};
 ghost use Rattle.due.specs.Booking.{fuelIn, isLate, isPetrol, isDiesel, isO, bookingIn};
 ghost use Rattle.due.specs.Conditions.{is200, is210, versionIn, linksIn, withLinks, gasValuesIn};
-ghost use Rattle.due.specs.Due.{firstCondition, fixedCount, conditionIn, isMoped, isMotorcycle, isMorN, conditionP, when, holdsIn, dueIn, filledPairs, asDue, firstNotAsDueFrom};
+ghost use Rattle.due.specs.Due.{conditionIn, isMoped, isMotorcycle, isMorN, conditionP, when, holdsIn, dueIn, filledPairs, asDue, firstNotAsDueFrom};
+ghost use Rattle.due.specs.Table.{firstCondition, fixedCount};
 
 pub enum Fuel {
     Petrol,

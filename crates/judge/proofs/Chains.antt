@@ -5,6 +5,7 @@ use mathlib.Core.Path.{_≡_, refl, ap, sym, subst, _∙_}
 use mathlib.Core.Bool.{Bool, true, false, cond, not}
 use mathlib.Core.List.{List, [], map}
 use lib.ListN.{length, getD, drop}
+use Rattle.kinds.proofs.Laws.{by-test}
 use Rattle.refusals.specs.declared.Refusal.{Refusal}
 use Rattle.places.specs.Places.{setPairs, pairsAt, valueAt, valuesAt, Within}
 use Rattle.places.proofs.Laws.{set-length, numbers-after, drop-pairs}
@@ -58,10 +59,6 @@ first-ready a p h b = (
 )
 
 -- ---- a file that passed
-
-by-test : {A : Type 0} (b : Bool) → (b ≡ true → A) → (b ≡ false → A) → A
-by-test true h k = h refl
-by-test false h k = k refl
 
 read-few : (f : File) (a : List (List ℕ)) (t : List ℕ) (g : FileRead) → Passed f a t g → length (g .pairs) ≤ room f
 read-few f a t g w = omega (arith, w .many, entries-most f (g .axles) (few-axles (hasAxles f) (g .axles) (w .is .count)))

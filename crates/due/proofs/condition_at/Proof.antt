@@ -5,7 +5,8 @@ use Rattle.lines.specs.Bytes.{sameBytes}
 use Rattle.tables.specs.Section.{entriesOf}
 use Rattle.tables.specs.Entries.{newBooking, oldBooking, sixteen, tester, protocol, measurement, analysis, analyser, counter, speedTest, allKeyDates, allKeyBodies, fuelAnalysis}
 use Rattle.tables.specs.File.{entries, sections, fixedSections, axleSections, axlesFrom}
-use Rattle.due.specs.Due.{exceptions, conditionOf, conditionTable}
+use Rattle.due.specs.Due.{exceptions, conditionOf}
+use Rattle.due.specs.Table.{conditionTable}
 use Rattle.due.proofs.Entries.{in-table, condition-past, table-in}
 use Rattle.due.proofs.condition_at.Statement.{statement}
 use Rattle.due.proofs.condition_at.Tie as tie

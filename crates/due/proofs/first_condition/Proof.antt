@@ -1,7 +1,7 @@
 -- Each file's number is looked at. Assumes nothing.
 use mathlib.Core.Path.{sym}
 use Rattle.tables.specs.File.{ofNumber}
-use Rattle.due.specs.Due.{firstCondition}
+use Rattle.due.specs.Table.{firstCondition}
 use Rattle.due.proofs.Entries.{first-else}
 use Rattle.due.proofs.first_condition.Statement.{statement}
 use Rattle.due.proofs.first_condition.Tie as tie

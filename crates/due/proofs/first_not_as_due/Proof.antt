@@ -12,7 +12,8 @@ use Rattle.places.specs.Places.{pairsAt}
 use Rattle.tables.specs.Section.{entriesOf}
 use Rattle.tables.specs.Entries.{newBooking, oldBooking, sixteen, tester, protocol, measurement, analysis, analyser, counter, speedTest, allKeyDates, allKeyBodies, fuelAnalysis}
 use Rattle.tables.specs.File.{entries, sections, fixedSections, axleSections, axlesFrom}
-use Rattle.due.specs.Due.{exceptions, conditionOf, conditionTable, dueIn, filledPairs, asDue, firstNotAsDueFrom}
+use Rattle.due.specs.Due.{exceptions, conditionOf, dueIn, filledPairs, asDue, firstNotAsDueFrom}
+use Rattle.due.specs.Table.{conditionTable}
 use Rattle.due.proofs.Entries.{table-in}
 use Rattle.due.proofs.FirstNotAsDue.{first-step, first-end, by-table, past-table}
 use Rattle.due.proofs.first_not_as_due.Statement.{statement}
