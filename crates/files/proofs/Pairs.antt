@@ -4,29 +4,31 @@ use native.Mathlib.Omega.{arith}
 use mathlib.Core.Path.{_≡_, refl, ap, ap₂, sym, subst, _∙_}
 use mathlib.Core.Bool.{Bool, true, false, cond}
 use mathlib.Core.Option.{some}
-use mathlib.Core.List.{List}
+use mathlib.Core.List.{List, map}
 use lib.Dec.{eqb, leb}
 use lib.ListN.{length}
-use borrow.Author.Tests.{leb-true, le-leb, lt-leb}
+use borrow.Author.Tests.{leb-true, le-leb, lt-leb, ne-eqb}
 use Rattle.lines.proofs.Bools.{clash}
 use Rattle.refusals.specs.Refusals.{numberOf}
 use Rattle.refusals.specs.declared.Refusal.{Refusal}
-use Rattle.places.specs.Places.{Pair, setPairs, pairsAt, cleared, Within}
+use Rattle.places.specs.Places.{Pair, setPairs, pairsAt, valueAt, valuesAt, cleared, Within}
 use Rattle.places.proofs.Laws.{set-length, pairs-set, drop-pairs, cleared-length, cleared-drop}
 use Rattle.tables.specs.Section.{Section}
-use Rattle.tables.specs.File.{File, fileNumber, fileOf, isFile, ofNumber, hasAxles, fixedSections, allSections, leastSections, entries, room, firstPair, leastPlaces, tableOf}
+use Rattle.tables.specs.File.{File, ac2, acc, drift, suspension, gas, fileNumber, fileOf, isFile, ofNumber, hasAxles, fixedSections, sections, allSections, leastSections, entries, room, firstPair, leastPlaces, tableOf}
 use Rattle.tables.proofs.Files.{of-file, table-of, file-of, is-file}
 use Rattle.tables.proofs.Numbers.{room-in}
 use Rattle.tables.proofs.Axles.{entries-most}
 use Rattle.reading.specs.Reading.{Reading, refused, read}
+use Rattle.reading.specs.Tables.{tableLength}
 use Rattle.reading.proofs.Tables.{tables-distinct}
+use Rattle.reading.proofs.Formed.{text-length}
 use Rattle.reading.proofs.Theorem.{sound}
-use Rattle.files.specs.Files.{readBy, readFile, readNumbered, axlesOf, AxleCount}
+use Rattle.files.specs.Files.{readBy, readFile, readNumbered, axlesOf, AxleCount, IsFile}
 use Rattle.files.specs.Alone.{refusal, acceptance, answerIs, answerOf, pairsSet, readGiven, readAlone, aloneAnswer, alonePlaces, ReadsAlone}
 use Rattle.files.specs.declared.FileAcceptance.{FileAcceptance}
 use Rattle.files.specs.declared.FileAnswer.{FileAnswer}
 use Rattle.files.specs.declared.FileAnswer.the-variants.{Accepted, Refused}
-use Rattle.files.proofs.Theorem.{by-inv, FileRead, read-sound}
+use Rattle.files.proofs.Theorem.{by-inv, FileRead, read-sound, read-complete}
 use Rattle.files.proofs.Alone.{fixed-least, few-sections}
 
 -- what is said of a file's number is said of the file
@@ -178,3 +180,32 @@ module _ {n : ℕ} {s p q : List ℕ} {axles : ℕ} (x : AloneRead n s p q axles
   alone-cleared =
       ap (cleared leastPlaces) (x .places-are)
       ∙ simp (drop-pairs leastPlaces (firstPair (x .file)) (x .pairs) (cleared leastPlaces p) (pairs-fit (x .file) s (x .count) (x .pairs) (x .is)), cleared-drop leastPlaces p)
+
+-- ---- a file of some values, read alone
+
+some-bytes : (f : File) (n : ℕ) → 1 ≤ tableLength (sections f n)
+unfolding sections fixedSections tableLength
+some-bytes ac2 n = omega arith
+some-bytes acc n = omega arith
+some-bytes drift n = omega arith
+some-bytes suspension n = omega arith
+some-bytes gas n = omega arith
+
+-- it is accepted with its axle count, and at its pairs stand its values
+pub alone-complete : (f : File) (n : ℕ) (vs : List (List ℕ)) (s : List ℕ) → IsFile f n vs s → (p : List ℕ) → leastPlaces ≤ length p
+    → (aloneAnswer (fileNumber f) s p ≡ acceptance n) × (valuesAt s (alonePlaces (fileNumber f) s p) (firstPair f) (length (entries f n)) ≡ vs)
+unfolding aloneAnswer alonePlaces readAlone readGiven
+alone-complete f n vs s h p l =
+    let r = read-complete f n vs s h in
+    let c : ℕ = r .0 in
+    let ps : List Pair = r .1 in
+    let k = read-sound f s c ps (r .2) (r .3) in
+    let b = le-leb leastPlaces (length p) l in
+    let full : eqb (length s) 0 ≡ false = ne-eqb (length s) 0 (λ z. omega (arith, text-length (sections f n) vs s (h .fits), some-bytes f n)) in
+    let file : isFile (fileNumber f) ≡ true = of-file false (λ g. true) f in
+    let e : readNumbered (fileNumber f) s ≡ read c ps (r .2) = ap₂ (λ (t : List Section) (m : ℕ). readBy t m s) (table-of f) (of-file 0 leastSections f) ∙ r .3 in
+    let fixed : ofNumber 0 (λ g. length (fixedSections g)) (fileNumber f) ≡ length (fixedSections f) = of-file 0 (λ g. length (fixedSections g)) f in
+    let first : ofNumber 0 firstPair (fileNumber f) ≡ firstPair f = of-file 0 firstPair f in
+    let m : length ps ≡ length (entries f n) = k .many ∙ ap (λ (i : ℕ). length (entries f i)) (r .4) in
+    let there = own-pairs f n ps (cleared leastPlaces p) m (pairs-fit f s c ps k) (omega (arith, cleared-length leastPlaces p l)) in
+    (rw (b, file, full, e, fixed, r .4), rw (b, file, full, e, first, there) (r .5))

@@ -20,24 +20,19 @@ use Rattle.sets.specs.Judge.{Answer, refusal, SetRead, require, judgeSlices, se
 use Rattle.sets.specs.declared.Acceptance.{Acceptance}
 use Rattle.sets.specs.declared.SetAnswer.{SetAnswer}
 use Rattle.sets.specs.declared.SetAnswer.the-variants.{Accepted, Refused}
+use Rattle.sets.specs.Demand3.{IsAccepted, Demand3, Leaves}
 use Rattle.sets.proofs.Theorem.{theorem}
 use Rattle.judge.specs.Steps.{AllZero, JudgesSlices}
-use Rattle.judge.specs.Judged.{Demanded, SetJudged}
+use Rattle.judge.specs.Judged.{SetJudged}
 
--- ---- demand 3 of what the definition answers, and so of what the code answers
-
-demanded : (stem : List ℕ) (s : Slices) (p : List ℕ) (x : Answer × List ℕ) → judge stem s p ≡ x → Demanded stem s p (x .0) (x .1)
-demanded stem s p x e = subst (λ (x : Answer × List ℕ). Demanded stem s p (x .0) (x .1)) e (record {
-  exactly = theorem .exactly stem s p;
-  unique = theorem .unique stem s;
-  returned = theorem .returned stem s p;
-})
+-- ---- what the definition answers, and so what the code answers, keeps the demands
 
 judged : (stem : List ℕ) (s : Slices) (p q : List ℕ) (r : SetAnswer) → judge stem s p ≡ (answerIs r, q) → SetJudged stem s p q r
 judged stem s p q r e = record {
   answer = sym (ap (λ (x : Answer × List ℕ). x .0) e);
   places = sym (ap (λ (x : Answer × List ℕ). x .1) e);
-  demand3 = demanded stem s p (answerIs r, q) e;
+  demand3 = subst (λ (x : Answer × List ℕ). Demand3 stem s p (x .0) (x .1)) e (theorem .demand3 stem s p);
+  leaves = subst (λ (x : Answer × List ℕ). Leaves (¬ IsAccepted (x .0)) p (x .1)) e (theorem .leaves stem s p);
 }
 
 -- ---- the ways out

@@ -1,25 +1,38 @@
 -- The exported functions: a law for each way out. Assumes nothing.
 use Prim.Native.Nat.{ℕ, _≤_, _<_}
 use native.Mathlib.Omega.{arith}
-use mathlib.Core.Path.{subst}
+use mathlib.Core.Path.{_≡_, refl, ap, sym, subst}
+use mathlib.Core.Logic.{_↔_}
 use mathlib.Core.Option.{Option}
 use mathlib.Core.List.{List}
-use lib.ListN.{length}
+use lib.ListN.{length, getD, take}
 use borrow.Author.Tests.{le-leb, lt-leb}
+use Rattle.refusals.proofs.Laws.{not-zero}
+use Rattle.tables.specs.File.{leastPlaces}
 use Rattle.files.specs.Alone as F
 use Rattle.files.specs.declared.FileAnswer.{FileAnswer}
 use Rattle.writing.specs.Writing as W
+use Rattle.writing.specs.ReadBack.{IsReadBack}
 use Rattle.writing.specs.declared.WriteAnswer.{WriteAnswer}
+use Rattle.writing.specs.declared.WriteAnswer.the-variants as WriteAnswer
+use Rattle.writing.proofs.Theorem.{reads-back}
 use Rattle.names.specs.Names as N
 use Rattle.names.specs.declared.NameAnswer.{NameAnswer}
 use Rattle.sets.specs.Judge as J
 use Rattle.sets.specs.Records.{Slices}
 use Rattle.sets.specs.declared.SetAnswer.{SetAnswer}
-use Rattle.judge.specs.Judged.{SetJudged, Demanded}
+use Rattle.sets.specs.declared.SetAnswer.the-variants.{Accepted, Refused}
+use Rattle.sets.specs.Demand3.{IsAccepted, Demand3}
+use Rattle.judge.specs.Judged.{SetJudged}
 use Rattle.columns.specs.Column as C
 use Rattle.columns.specs.declared.ColumnAnswer.{ColumnAnswer}
 use Rattle.mctc.specs.Answers.{answerSize, readNumbers, writeNumbers, nameNumbers, setNumbers, dueNumbers, Filled}
 use Rattle.mctc.specs.Calls.{tooShort, ReadCall, WriteCall, NameCall, JudgeCall, DueCall}
+
+-- 0 is returned exactly where a set is accepted: no refusal has that number
+zero-accepts : (x : SetAnswer) (r : ℕ) → r ≡ getD (setNumbers (J.answerIs x)) 0 0 → (r ≡ 0) ↔ IsAccepted (J.answerIs x)
+zero-accepts (Accepted a) r e = (λ z. tt, λ z. e)
+zero-accepts (Refused x) r e = (λ z. absurd (omega (arith, not-zero (x .kind))), λ z. absurd z)
 
 -- an answer array that is too short: nothing is done
 module _ (a : List ℕ) (l : length a < answerSize) where
@@ -27,7 +40,7 @@ module _ (a : List ℕ) (l : length a < answerSize) where
   read-short file s p = let b = lt-leb answerSize (length a) l in record { number = rw b; answer = rw b; places = rw b }
 
   pub write-short : (s p : List ℕ) (file n : ℕ) (o : List ℕ) → WriteCall s p file n o o a a tooShort
-  write-short s p file n o = let b = lt-leb answerSize (length a) l in record { number = rw b; answer = rw b; output = rw b }
+  write-short s p file n o = let b = lt-leb answerSize (length a) l in record { number = rw b; answer = rw b; output = rw b; reads-back = λ e. absurd (omega arith) }
 
   pub name-short : (file : ℕ) (x : Option N.Name) (o : List ℕ) → NameCall file x o o a a tooShort
   name-short file x o = let b = lt-leb answerSize (length a) l in record { number = rw b; answer = rw b; output = rw b }
@@ -35,7 +48,14 @@ module _ (a : List ℕ) (l : length a < answerSize) where
   pub judge-short : (stem : List ℕ) (s : Slices) (p : List ℕ) → JudgeCall stem s p p a a tooShort
   judge-short stem s p =
       let b = lt-leb answerSize (length a) l in
-      record { number = rw b; answer = rw b; places = rw b; demand3 = λ h. absurd (omega arith) }
+      record {
+        number = rw b;
+        answer = rw b;
+        places = rw b;
+        demand3 = λ h. absurd (omega arith);
+        accepted = (λ e. absurd (omega arith), λ h. absurd (omega arith));
+        leaves = record { zero = λ h. absurd (omega arith); short = λ h. refl; beyond = refl; same-length = refl };
+      }
 
   pub due-short : (file : ℕ) (s t p d : List ℕ) → DueCall file s t p p d d a a tooShort
   due-short file s t p d = let b = lt-leb answerSize (length a) l in record { number = rw b; answer = rw b; places = rw b; column = rw b }
@@ -52,7 +72,13 @@ module _ (a b : List ℕ) (r : ℕ) (l : answerSize ≤ length a) where
   write-done s p file n o t x h f =
       let e = le-leb answerSize (length a) l in
       let g = subst (λ (y : W.Answer). Filled (writeNumbers y) a b r) (h .answer) f in
-      record { number = rw e (g .number); answer = rw e (g .answer); output = rw e (h .output) }
+      record { number = rw e (g .number); answer = rw e (g .answer); output = rw e (h .output); reads-back = back x h f }
+    where
+      back : (x : WriteAnswer) → W.Writes s p file n o t x → Filled (writeNumbers (W.answerIs x)) a b r → r ≡ 0 → (q : List ℕ) → leastPlaces ≤ length q → IsReadBack file n s p (take (getD b 3 0) t) q
+      back (WriteAnswer.Refused x) h f z q k = absurd (omega (arith, not-zero (x .kind), f .number))
+      back (WriteAnswer.Written x) h f z q k =
+          let m : getD b 3 0 ≡ x .length = ap (λ (y : List ℕ). getD y 3 0) (f .answer) in
+          rw (m, h .output) (reads-back file n s p o (x .length) (sym (h .answer)) q k)
 
   pub name-done : (file : ℕ) (x : Option N.Name) (o t : List ℕ) (y : NameAnswer) → N.Copies file x o t y → Filled (nameNumbers (N.answerIs y)) a b r → NameCall file x o t a b r
   name-done file x o t y h f =
@@ -64,11 +90,15 @@ module _ (a b : List ℕ) (r : ℕ) (l : answerSize ≤ length a) where
   judge-done stem s p q x h f =
       let t = le-leb answerSize (length a) l in
       let g = subst (λ (y : J.Answer). Filled (setNumbers y) a b r) (h .answer) f in
+      let z = zero-accepts x r (f .number) in
+      let v = h .leaves in
       record {
         number = rw t (g .number);
         answer = rw t (g .answer);
         places = rw t (h .places);
-        demand3 = λ z. subst (λ (y : J.Answer). Demanded stem s p y q) (h .answer) (h .demand3);
+        demand3 = λ k. subst (λ (y : J.Answer). Demand3 stem s p y q) (h .answer) (h .demand3);
+        accepted = (λ e. let w = h .demand3 .exactly .0 (z .0 e) in (l, w .0, w .1, w .2), λ w. z .1 (h .demand3 .exactly .1 (w .1, w .2, w .3)));
+        leaves = record { zero = λ n. v .zero (λ k. n .1 (z .1 k)); short = v .short; beyond = v .beyond; same-length = v .same-length };
       }
 
   pub due-done : (file : ℕ) (s t p q d e : List ℕ) (x : ColumnAnswer) → C.Gives file (C.dueColumn file s t p (length d)) p q d e x → Filled (dueNumbers (C.answerIs x)) a b r

@@ -1,18 +1,22 @@
 -- What each exported function promises, for an answer array of any length: the returned number, and every lent array after the call.
 use Prim.Native.Nat.{ℕ, _≤_}
 use mathlib.Core.Path.{_≡_}
-use mathlib.Core.Bool.{cond}
+use mathlib.Core.Logic.{_↔_}
+use mathlib.Core.Bool.{true, cond}
 use mathlib.Core.Option.{Option}
 use mathlib.Core.List.{List}
 use lib.Dec.{leb}
-use lib.ListN.{length, getD}
+use lib.ListN.{length, getD, take}
+use Rattle.tables.specs.File.{leastPlaces}
 use Rattle.files.specs.Alone.{aloneAnswer, alonePlaces}
 use Rattle.writing.specs.Writing as W
 use Rattle.writing.specs.Writing.{Quote, fitting, quoteFile, outputOf, bytesOf}
+use Rattle.writing.specs.ReadBack.{IsReadBack}
 use Rattle.names.specs.Names as N
+use Rattle.rules.specs.Slices.{goodStem}
 use Rattle.sets.specs.Records.{Slices}
 use Rattle.sets.specs.Judge.{judge}
-use Rattle.judge.specs.Judged.{Demanded}
+use Rattle.sets.specs.Demand3.{HasRecord, Demand3, Leaves}
 use Rattle.columns.specs.Column as C
 use Rattle.columns.specs.Column.{dueColumn, placesOf, columnAfter}
 use Rattle.mctc.specs.Answers.{answerSize, answered, readNumbers, writeNumbers, nameNumbers, setNumbers, dueNumbers}
@@ -48,6 +52,8 @@ pub record WriteCall (s p : List ℕ) (file n : ℕ) (o t a b : List ℕ) (r : �
   pub number : r ≡ returned (writeNumbers (W.answerOf file (quoteFor file n s p o))) a
   pub answer : b ≡ answerAfter (writeNumbers (W.answerOf file (quoteFor file n s p o))) a
   pub output : t ≡ whereFits a (outputOf (quoteFor file n s p o) (bytesOf file n s p) o) o
+  -- "By this call a written file reads back": as many of the output's bytes as number 3 of the answer says, read alone (`ReadCall`)
+  pub reads-back : r ≡ 0 → (q : List ℕ) → leastPlaces ≤ length q → IsReadBack file n s p (take (getD b 3 0) t) q
 
 -- the name x copied, `entryName` or `headingName` (`names` Names) of the file and a number: output o before and t after
 pub record NameCall (file : ℕ) (x : Option N.Name) (o t a b : List ℕ) (r : ℕ) : Type 0 where
@@ -55,12 +61,16 @@ pub record NameCall (file : ℕ) (x : Option N.Name) (o t a b : List ℕ) (r : �
   pub answer : b ≡ answerAfter (nameNumbers (N.answerOf file x o)) a
   pub output : t ≡ whereFits a (N.outputOf x o) o
 
--- a set of these slices judged (01, Judging: "The answer and places equal one definition over the inputs"), with demand 3 of them
+-- a set of these slices judged (01, Judging: "The answer and places equal one definition over the inputs")
 pub record JudgeCall (stem : List ℕ) (s : Slices) (p q a b : List ℕ) (r : ℕ) : Type 0 where
   pub number : r ≡ returned (setNumbers (judge stem s p .0)) a
   pub answer : b ≡ answerAfter (setNumbers (judge stem s p .0)) a
   pub places : q ≡ whereFits a (judge stem s p .1) p
-  pub demand3 : answerSize ≤ length a → Demanded stem s p (judge stem s p .0) q
+  pub demand3 : answerSize ≤ length a → Demand3 stem s p (judge stem s p .0) q
+  -- demand 3 in the returned number: 0 exactly when the answer array is long enough, the stem good, the places enough, and some lawful record fits
+  pub accepted : (r ≡ 0) ↔ ((answerSize ≤ length a) × (goodStem stem ≡ true) × (leastPlaces ≤ length p) × HasRecord stem s)
+  -- what any other number but `tooShort` leaves
+  pub leaves : Leaves ((answerSize ≤ length a) × ¬ (r ≡ 0)) p q
 
 -- the due column of one file (01, Due entries): AC2's text s, the file's t, column d before and e after
 pub record DueCall (file : ℕ) (s t p q d e a b : List ℕ) (r : ℕ) : Type 0 where

@@ -1,4 +1,4 @@
--- Demand 3: a set is accepted exactly when a lawful record fits it, there is at most one, and the answer and places are its. Assumes nothing.
+-- Demand 3: a set is accepted exactly when a lawful record fits it, there is at most one, and the answer and places are its; and what a judging leaves in the places. Assumes nothing.
 use Prim.Native.Nat.{ℕ, _+_, _≤_, _<_}
 use native.Mathlib.Omega.{arith}
 use mathlib.Core.Path.{_≡_, refl, ap, sym, _∙_, subst}
@@ -21,7 +21,7 @@ use Rattle.rules.specs.Answer.{isMarked}
 use Rattle.rules.specs.declared.Stated.{Stated}
 use Rattle.sets.specs.Records.{Slices, isGiven, Record, axles, Read, NotRead, Lawful, Fits}
 use Rattle.sets.specs.Judge.{Answer, acceptance, refusal, Step, stops, goes, require, FileRead, SetRead, judgeSlices, accepts, setFiles, settled, judge}
-use Rattle.sets.specs.Demand3.{IsAccepted, markOf, Placed, Returned, Exactly, Unique, IsReturned, Demand3, Refusals}
+use Rattle.sets.specs.Demand3.{IsAccepted, markOf, Placed, Returned, Exactly, Unique, IsReturned, Demands}
 use Rattle.sets.proofs.Steps.{require-inv}
 use Rattle.sets.proofs.Places.{pairAt, within-get, used-pair, unused-pair, places-beyond, places-length}
 use Rattle.sets.proofs.Set.{recordOf, SetPassed, slices-sound, counted, no-values, passed-lawful, passed-fits, slices-complete}
@@ -114,41 +114,54 @@ judged : (stem : List ℕ) (s : Slices) (p : List ℕ) → goodStem stem ≡ tru
 unfolding judge
 judged stem s p g h = rw (le-leb leastPlaces (length p) h, g) refl
 
-found : (stem : List ℕ) (s : Slices) (p : List ℕ) (t : Step SetRead) → judgeSlices (statedOf stem) s ≡ t → IsAccepted (settled p t .0)
-    → (r : Record) × Lawful (statedOf stem) r × Fits r s
-found stem s p (stops k f l) e a = absurd a
-found stem s p (goes x) e a =
-    let w = slices-sound (statedOf stem) s x e in
-    (recordOf s x, passed-lawful (statedOf stem) s x w, passed-fits (statedOf stem) s x w)
+-- what is accepted has a good stem, places enough, and slices that passed
+module _ (stem : List ℕ) (s : Slices) (p : List ℕ) where
+  record Passed : Type 0 where
+    good : goodStem stem ≡ true
+    enough : leastPlaces ≤ length p
+    set : SetRead
+    slices : judgeSlices (statedOf stem) s ≡ goes set
 
-exactly-one : (stem : List ℕ) (s : Slices) (p : List ℕ) → goodStem stem ≡ true → leastPlaces ≤ length p → Exactly stem s (judge stem s p .0)
-exactly-one stem s p g h = (
-  λ a. found stem s p (judgeSlices (statedOf stem) s) refl (subst (λ (y : Answer × List ℕ). IsAccepted (y .0)) (judged stem s p g h) a),
-  λ r. let w = slices-complete (statedOf stem) s (r .0) (r .1) (r .2) in
-      subst (λ (y : Answer × List ℕ). IsAccepted (y .0)) (sym (judged stem s p g h ∙ ap (settled p) (w .1))) tt,
-)
+  passed : IsAccepted (judge stem s p .0) → Passed
+  unfolding judge
+  passed a = on (leb leastPlaces (length p)) refl (goodStem stem) refl (judgeSlices (statedOf stem) s) refl a
+    where
+      on : (b : Bool) → leb leastPlaces (length p) ≡ b → (g : Bool) → goodStem stem ≡ g → (t : Step SetRead) → judgeSlices (statedOf stem) s ≡ t
+          → IsAccepted (cond b (settled p (require g 2 0 0 t)) (refusal 1 0 0, p) .0) → Passed
+      on false e g f t k a = absurd a
+      on true e false f t k a = absurd a
+      on true e true f (stops n i l) k a = absurd a
+      on true e true f (goes x) k a = record { good = f; enough = leb-true leastPlaces (length p) e; set = x; slices = k }
 
-unique-record : (stem : List ℕ) (s : Slices) → Unique stem s
-unique-record stem s q r lq fq lr fr =
-    let v = slices-complete (statedOf stem) s q lq fq in
-    let w = slices-complete (statedOf stem) s r lr fr in
-    let e : v .0 ≡ w .0 = cc (v .1, w .1) in
-    sym (v .2) ∙ ap (recordOf s) e ∙ w .2
+  exactly-one : Exactly stem s p (judge stem s p .0)
+  exactly-one = (
+    λ a. let v = passed a in
+        let w = slices-sound (statedOf stem) s (v .set) (v .slices) in
+        (v .good, v .enough, (recordOf s (v .set), passed-lawful (statedOf stem) s (v .set) w, passed-fits (statedOf stem) s (v .set) w)),
+    λ h. let r = h .2 in
+        let w = slices-complete (statedOf stem) s (r .0) (r .1) (r .2) in
+        subst (λ (y : Answer × List ℕ). IsAccepted (y .0)) (sym (judged stem s p (h .0) (h .1) ∙ ap (settled p) (w .1))) tt,
+  )
 
-returned-record : (stem : List ℕ) (s : Slices) (p : List ℕ) → goodStem stem ≡ true → leastPlaces ≤ length p → IsReturned stem s p (judge stem s p .0) (judge stem s p .1)
-returned-record stem s p g h a r l f =
-    let w = slices-complete (statedOf stem) s r l f in
-    let x : SetRead = w .0 in
-    let t = slices-sound (statedOf stem) s x (w .1) in
-    subst (λ (y : Answer × List ℕ). Returned r s p (y .0) (y .1)) (sym (judged stem s p g h ∙ ap (settled p) (w .1)))
-    (subst (λ (q : Record). Returned q s p (accepts x) (setFiles files x (cleared leastPlaces p))) (w .2) (passed-returned (statedOf stem) s p h x t))
+  unique-record : Unique stem s
+  unique-record q r lq fq lr fr =
+      let v = slices-complete (statedOf stem) s q lq fq in
+      let w = slices-complete (statedOf stem) s r lr fr in
+      let e : v .0 ≡ w .0 = cc (v .1, w .1) in
+      sym (v .2) ∙ ap (recordOf s) e ∙ w .2
 
-pub theorem : Demand3
-theorem = record { exactly = exactly-one; unique = unique-record; returned = returned-record }
+  returned-record : IsReturned stem s p (judge stem s p .0) (judge stem s p .1)
+  returned-record a r l f =
+      let v = passed a in
+      let w = slices-complete (statedOf stem) s r l f in
+      let x : SetRead = w .0 in
+      let t = slices-sound (statedOf stem) s x (w .1) in
+      subst (λ (y : Answer × List ℕ). Returned r s p (y .0) (y .1)) (sym (judged stem s p (v .good) (v .enough) ∙ ap (settled p) (w .1)))
+      (subst (λ (q : Record). Returned q s p (accepts x) (setFiles files x (cleared leastPlaces p))) (w .2) (passed-returned (statedOf stem) s p (v .enough) x t))
 
--- ---- refusals
+-- ---- what a judging leaves in the places
 
--- what holds of the places, whatever the answer: of those cleared, and of those of a set that passed
+-- what holds of places that stay, of those cleared, and of those of a set that passed
 module _ (P : List ℕ → List ℕ → Type 0) (same : (p : List ℕ) → P p p) (cleared-so : (p : List ℕ) → leastPlaces ≤ length p → P (cleared leastPlaces p) p)
     (filled-so : (p : List ℕ) → leastPlaces ≤ length p → (x : SetRead) → ((f : File) → length (x .file f .pairs) ≤ room f) → P (setFiles files x (cleared leastPlaces p)) p) where
   of-places : (stem : List ℕ) (s : Slices) (p : List ℕ) → P (judge stem s p .1) p
@@ -168,30 +181,29 @@ module _ (P : List ℕ → List ℕ → Type 0) (same : (p : List ℕ) → P p p
       on true q = after step refl (leb-true leastPlaces (length p) q)
       on false q = same p
 
-too-short : (stem : List ℕ) (s : Slices) (p : List ℕ) → length p < leastPlaces → judge stem s p ≡ (refusal 1 0 0, p)
-unfolding judge
-too-short stem s p h = rw (lt-leb leastPlaces (length p) h) refl
+module _ (stem : List ℕ) (s : Slices) (p : List ℕ) where
+  stay : length p < leastPlaces → judge stem s p .1 ≡ p
+  unfolding judge
+  stay h = rw (lt-leb leastPlaces (length p) h) refl
 
-zero-after : (stem : List ℕ) (s : Slices) (p : List ℕ) (k f l : ℕ) → judge stem s p .0 ≡ refusal k f l → (k ≡ 1 → ⊥)
-    → (j : ℕ) → j < leastPlaces → getD (judge stem s p .1) j 0 ≡ 0
-unfolding judge
-zero-after stem s p k f l e n j h = on (leb leastPlaces (length p)) e
-  where
-    step : Step SetRead
-    step = require (goodStem stem) 2 0 0 (judgeSlices (statedOf stem) s)
+  zero-after : ¬ IsAccepted (judge stem s p .0) → leastPlaces ≤ length p → (j : ℕ) → j < leastPlaces → getD (judge stem s p .1) j 0 ≡ 0
+  unfolding judge
+  zero-after n l j h = rw (le-leb leastPlaces (length p) l) (after step (rw (le-leb leastPlaces (length p) l) at n))
+    where
+      step : Step SetRead
+      step = require (goodStem stem) 2 0 0 (judgeSlices (statedOf stem) s)
 
-    after : (t : Step SetRead) → settled p t .0 ≡ refusal k f l → getD (settled p t .1) j 0 ≡ 0
-    after (stops a b c) e = cleared-zero leastPlaces p j h
-    after (goes x) e = clash (cc)
+      after : (t : Step SetRead) → ¬ IsAccepted (settled p t .0) → getD (settled p t .1) j 0 ≡ 0
+      after (stops a b c) n = cleared-zero leastPlaces p j h
+      after (goes x) n = absurd (n tt)
 
-    on : (b : Bool) → cond b (settled p step) (refusal 1 0 0, p) .0 ≡ refusal k f l → getD (cond b (settled p step) (refusal 1 0 0, p) .1) j 0 ≡ 0
-    on true e = after step e
-    on false e = absurd (n (cc))
-
-pub refusals : Refusals
-refusals = record {
-  short = too-short;
-  zero = zero-after;
-  beyond = of-places (λ q p. drop leastPlaces q ≡ drop leastPlaces p) (λ p. refl) (λ p h. cleared-drop leastPlaces p) (λ p h x k. places-beyond x k p h);
-  same-length = of-places (λ q p. length q ≡ length p) (λ p. refl) (λ p h. cleared-length leastPlaces p h) (λ p h x k. places-length x k p h);
+pub theorem : Demands
+theorem = record {
+  demand3 = λ stem s p. record { exactly = exactly-one stem s p; unique = unique-record stem s p; returned = returned-record stem s p };
+  leaves = λ stem s p. record {
+    zero = zero-after stem s p;
+    short = stay stem s p;
+    beyond = of-places (λ q p. drop leastPlaces q ≡ drop leastPlaces p) (λ p. refl) (λ p h. cleared-drop leastPlaces p) (λ p h x k. places-beyond x k p h) stem s p;
+    same-length = of-places (λ q p. length q ≡ length p) (λ p. refl) (λ p h. cleared-length leastPlaces p h) (λ p h x k. places-length x k p h) stem s p;
+  };
 }

@@ -42,9 +42,13 @@ pub record Returned (r : Record) (s : Slices) (before : List ℕ) (answer : Answ
   pub beyond : drop leastPlaces after ≡ drop leastPlaces before
   pub same-length : length after ≡ length before
 
--- (a) a set is accepted exactly when some lawful record fits it
-abbrev pub Exactly : List ℕ → Slices → Answer → Type 0
-Exactly stem s answer = IsAccepted answer ↔ ((r : Record) × Lawful (statedOf stem) r × Fits r s)
+-- some lawful record fits the set
+abbrev pub HasRecord : List ℕ → Slices → Type 0
+HasRecord stem s = (r : Record) × Lawful (statedOf stem) r × Fits r s
+
+-- (a) "given a good stem and enough places, a set is accepted exactly when some lawful record fits it"; without these it is not accepted
+abbrev pub Exactly : List ℕ → Slices → List ℕ → Answer → Type 0
+Exactly stem s before answer = IsAccepted answer ↔ ((goodStem stem ≡ true) × (leastPlaces ≤ length before) × HasRecord stem s)
 
 -- (b) any two lawful records that fit it are the same
 abbrev pub Unique : List ℕ → Slices → Type 0
@@ -54,17 +58,23 @@ Unique stem s = (q r : Record) → Lawful (statedOf stem) q → Fits q s → Law
 abbrev pub IsReturned : List ℕ → Slices → List ℕ → Answer → List ℕ → Type 0
 IsReturned stem s before answer after = IsAccepted answer → (r : Record) → Lawful (statedOf stem) r → Fits r s → Returned r s before answer after
 
-pub record Demand3 : Type 0 where
-  pub exactly : (stem : List ℕ) (s : Slices) (p : List ℕ) → goodStem stem ≡ true → leastPlaces ≤ length p → Exactly stem s (judge stem s p .0)
-  pub unique : (stem : List ℕ) (s : Slices) → Unique stem s
-  pub returned : (stem : List ℕ) (s : Slices) (p : List ℕ) → goodStem stem ≡ true → leastPlaces ≤ length p → IsReturned stem s p (judge stem s p .0) (judge stem s p .1)
+-- demand 3 of an answer and of the places before and after it
+pub record Demand3 (stem : List ℕ) (s : Slices) (before : List ℕ) (answer : Answer) (after : List ℕ) : Type 0 where
+  pub exactly : Exactly stem s before answer
+  pub unique : Unique stem s
+  pub returned : IsReturned stem s before answer after
 
--- what refusals leave in the places
-pub record Refusals : Type 0 where
+-- what a judging leaves in the places, where `refused` says that the set was refused
+pub record Leaves (refused : Type 0) (before after : List ℕ) : Type 0 where
+  -- demand 1: "After a refused set the first 278 places .., if so many were lent, hold 0"
+  pub zero : refused → leastPlaces ≤ length before → (j : ℕ) → j < leastPlaces → getD after j 0 ≡ 0
   -- row 1: "places too short; they stay"
-  pub short : (stem : List ℕ) (s : Slices) (p : List ℕ) → length p < leastPlaces → judge stem s p ≡ (refusal 1 0 0, p)
-  -- after any other refusal the first 278 numbers are 0, and "numbers past 278 stay"
-  pub zero : (stem : List ℕ) (s : Slices) (p : List ℕ) (k f l : ℕ) → judge stem s p .0 ≡ refusal k f l → (k ≡ 1 → ⊥)
-      → (j : ℕ) → j < leastPlaces → getD (judge stem s p .1) j 0 ≡ 0
-  pub beyond : (stem : List ℕ) (s : Slices) (p : List ℕ) → drop leastPlaces (judge stem s p .1) ≡ drop leastPlaces p
-  pub same-length : (stem : List ℕ) (s : Slices) (p : List ℕ) → length (judge stem s p .1) ≡ length p
+  pub short : length before < leastPlaces → after ≡ before
+  -- "numbers past 278 stay"
+  pub beyond : drop leastPlaces after ≡ drop leastPlaces before
+  pub same-length : length after ≡ length before
+
+-- the demands of the judge's definition
+pub record Demands : Type 0 where
+  pub demand3 : (stem : List ℕ) (s : Slices) (p : List ℕ) → Demand3 stem s p (judge stem s p .0) (judge stem s p .1)
+  pub leaves : (stem : List ℕ) (s : Slices) (p : List ℕ) → Leaves (¬ IsAccepted (judge stem s p .0)) p (judge stem s p .1)

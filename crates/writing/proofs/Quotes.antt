@@ -58,7 +58,7 @@ module _ {file n : ℕ} (r : RightFile file n) where
   pub right-table : tableOf file ≡ allSections (r .of)
   right-table = ap tableOf (r .number-is) ∙ table-of (r .of)
 
-axles-range : (n : ℕ) → axlesRight true n ≡ true → (1 ≤ n) × (n ≤ 9)
+pub axles-range : (n : ℕ) → axlesRight true n ≡ true → (1 ≤ n) × (n ≤ 9)
 axles-range n e = (leb-true 1 n (and-left (leb 1 n) (leb n 9) e), leb-true n 9 (and-right (leb 1 n) (leb n 9) e))
 
 pub axles-most : (b : Bool) (n : ℕ) → axlesRight b n ≡ true → n ≤ 9

@@ -1,85 +1,56 @@
--- A written file reads back, and is as long as answered; a refusal leaves the output. Assumes nothing.
+-- A written file is the file of its values, is as long as answered and reads back; a refusal leaves the output. Assumes nothing.
 use Prim.Native.Nat.{ℕ, _+_, _≤_}
 use native.Mathlib.Omega.{arith}
 use native.Mathlib.Nat.{zero-add}
 use mathlib.Core.Path.{_≡_, refl, ap, sym, _∙_}
 use mathlib.Core.Bool.{Bool, true, false, cond}
-use mathlib.Core.List.{List, [], map}
+use mathlib.Core.List.{List, []}
 use lib.Dec.{leb}
 use lib.ListN.{length, take, drop}
 use lib.Seq.{take-at, drop-at}
-use borrow.Author.Tests.{leb-true}
-use Rattle.lines.specs.Line.{Line, textOf, allWellFormed}
+use borrow.Author.Tests.{leb-true, eqb-true}
 use Rattle.lines.specs.Writing.{put}
 use Rattle.lines.proofs.Bools.{clash}
-use Rattle.places.specs.Places.{Pair, valueAt}
-use Rattle.tables.specs.Section.{Section, entriesOf}
-use Rattle.tables.specs.File.{File, fileNumber, sections, allSections, leastSections, entries}
-use Rattle.tables.proofs.Files.{of-file}
-use Rattle.reading.specs.Fitting.{EachKept, FitsText}
-use Rattle.reading.specs.Tables.{mostBytes, cleanTable}
-use Rattle.reading.specs.Reading.{read, readText}
+use Rattle.tables.specs.Section.{entriesOf}
+use Rattle.tables.specs.File.{File, fileNumber, hasAxles, sections, entries}
 use Rattle.reading.specs.Writing.{writeText}
-use Rattle.reading.proofs.Formed.{all-formed, clean-take, short-text}
-use Rattle.reading.proofs.Written.{written as written-fits, read-back, kept-length}
-use Rattle.reading.proofs.Tables.{tables-distinct, tables-clean, tables-short}
-use Rattle.writing.specs.Writing.{valuesOf, Quote, refuse, quote, quoteFile, fitting, refusal, written, answerIs, answerOf, outputOf, bytesOf, Writes}
-use Rattle.writing.specs.declared.WriteAnswer.{WriteAnswer}
-use Rattle.writing.proofs.Quotes.{RightFile, right-of, first-sections, section-range}
+use Rattle.reading.proofs.Written.{written as written-fits, kept-length}
+use Rattle.files.specs.Files.{AxleCount, IsFile}
+use Rattle.files.specs.Alone.{acceptance, aloneAnswer, alonePlaces}
+use Rattle.files.proofs.Pairs.{alone-complete}
+use Rattle.writing.specs.Writing.{axlesRight, valuesOf, Quote, refuse, quote, quoteFile, fitting, refusal, written, answerOf, outputOf, bytesOf}
+use Rattle.writing.specs.ReadBack.{valuesNumbered, outputAfter, ReadsBack}
+use Rattle.writing.proofs.Quotes.{RightFile, right-file, of-right, axles-range}
 use Rattle.writing.proofs.Acceptance.{Accepted, accepted, accepted-right, written-inv}
 
 -- ---- a file that is accepted with the length m
 
-module _ (f : File) (n : ℕ) (s p : List ℕ) (m : ℕ) (e : quoteFile (fileNumber f) n s p ≡ quote m) where
-  right : RightFile (fileNumber f) n
-  right = record { of = f; number-is = refl; axles = sym (right-of f n refl) ∙ accepted-right (fileNumber f) n s p m e }
+count-of : (b : Bool) (n : ℕ) → axlesRight b n ≡ true → AxleCount b n
+count-of true n e = axles-range n e
+count-of false n e = eqb-true n 0 e
 
-  is : Accepted f n s p m
-  unfolding right
-  is = accepted (fileNumber f) n s p m e right
+module _ (file n : ℕ) (s p : List ℕ) (m : ℕ) (e : quoteFile file n s p ≡ quote m) where
+  pub right : RightFile file n
+  right = right-file file n (accepted-right file n s p m e)
 
-  pub bytes-are : bytesOf (fileNumber f) n s p ≡ writeText (sections f n) (valuesOf f n s p)
-  bytes-are = of-file [] (λ g. writeText (sections g n) (valuesOf g n s p)) f
+  is : Accepted (right .of) n s p m
+  is = accepted file n s p m e right
+
+  bytes-are : bytesOf file n s p ≡ writeText (sections (right .of) n) (valuesOf (right .of) n s p)
+  bytes-are = of-right right [] (λ g. writeText (sections g n) (valuesOf g n s p))
 
   -- the length answered is the length of the bytes
-  pub length-is : length (bytesOf (fileNumber f) n s p) ≡ m
+  pub length-is : length (bytesOf file n s p) ≡ m
   length-is = ap length bytes-are ∙ is .length-is
 
-  fits : FitsText (sections f n) (valuesOf f n s p) (writeText (sections f n) (valuesOf f n s p))
+  -- the bytes are the file of these values
+  pub is-file : IsFile (right .of) n (valuesOf (right .of) n s p) (bytesOf file n s p)
   unfolding entries
-  fits = written-fits (sections f n) (valuesOf f n s p) (kept-length (entriesOf (sections f n)) (valuesOf f n s p) (is .kept))
-
-  pub kept : EachKept (entriesOf (sections f n)) (valuesOf f n s p)
-  unfolding entries
-  kept = is .kept
-
-  first : take (length (sections f n)) (allSections f) ≡ sections f n
-  first = first-sections f n (is .axles)
-
-  -- 01, Writing: "By this call a written file reads back": as many sections, and the same values at its pairs
-  pub read-after-write : (ps : List Pair) × (ls : List ℕ)
-      × (readText (allSections f) (leastSections f) (bytesOf (fileNumber f) n s p) ≡ read (length (sections f n)) ps ls)
-      × (map (valueAt (bytesOf (fileNumber f) n s p)) ps ≡ valuesOf f n s p)
-  read-after-write =
-      let c = length (sections f n) in
-      let b = read-back (allSections f) (leastSections f) (tables-distinct f) (tables-clean f) c (valuesOf f n s p) (section-range f n (is .axles) .0) (section-range f n (is .axles) .1) (rw first kept) in
-      let w : writeText (take c (allSections f)) (valuesOf f n s p) ≡ bytesOf (fileNumber f) n s p = ap (λ (t : List Section). writeText t (valuesOf f n s p)) first ∙ sym bytes-are in
-      rw w at b
-
-  -- 3 does not refuse it
-  pub not-too-long : m ≤ mostBytes
-  not-too-long =
-      omega (
-        arith,
-        short-text (allSections f) (length (sections f n)) (valuesOf f n s p) (writeText (sections f n) (valuesOf f n s p)) (tables-short f) (rw first fits) (rw first kept),
-        is .length-is,
-      )
-
-  -- 4 does not refuse a line of it
-  pub well-formed : (ls : List Line) × (bytesOf (fileNumber f) n s p ≡ textOf ls) × (allWellFormed ls ≡ true)
-  well-formed =
-      let c : cleanTable (sections f n) ≡ true = rw first at (clean-take (allSections f) (length (sections f n)) (tables-clean f)) in
-      (fits .lines, bytes-are ∙ fits .text-is, all-formed (sections f n) (valuesOf f n s p) (writeText (sections f n) (valuesOf f n s p)) c fits kept)
+  is-file = record {
+    count = count-of (hasAxles (right .of)) n (is .axles);
+    fits = rw bytes-are (written-fits (sections (right .of) n) (valuesOf (right .of) n s p) (kept-length (entriesOf (sections (right .of) n)) (valuesOf (right .of) n s p) (is .kept)));
+    kept = is .kept;
+  }
 
 -- ---- what a call of `write_file` leaves
 
@@ -97,23 +68,38 @@ refused-inv : (file : ℕ) (q : Quote) (k g l : ℕ) (bytes out : List ℕ) → 
 refused-inv file (refuse i j) k g l bytes out e = refl
 refused-inv file (quote m) k g l bytes out e = clash (cc)
 
-module _ {s p : List ℕ} {file n : ℕ} {out after : List ℕ} {r : WriteAnswer} (w : Writes s p file n out after r) where
-  -- "refused, the output stays"
-  pub refused-stays : (k g l : ℕ) → answerIs r ≡ refusal k g l → after ≡ out
-  refused-stays k g l e = w .output ∙ refused-inv file (fitting (quoteFile file n s p) (length out)) k g l (bytesOf file n s p) out (sym (w .answer) ∙ e)
+-- what is answered with a length was accepted, and the output had room
+module _ (file n : ℕ) (s p out : List ℕ) (m : ℕ) (e : answerOf file (fitting (quoteFile file n s p) (length out)) ≡ written m) where
+  fits : fitting (quoteFile file n s p) (length out) ≡ quote m
+  fits = written-inv file (fitting (quoteFile file n s p) (length out)) m (sym e)
 
-  -- what is written was accepted, and the output had room
-  pub written-accepted : (m : ℕ) → answerIs r ≡ written m → (quoteFile file n s p ≡ quote m) × (m ≤ length out)
-  written-accepted m e = fits-inv (quoteFile file n s p) (length out) m (written-inv file (fitting (quoteFile file n s p) (length out)) m (sym e ∙ w .answer))
+  pub written-accepted : (quoteFile file n s p ≡ quote m) × (m ≤ length out)
+  written-accepted = fits-inv (quoteFile file n s p) (length out) m fits
 
   -- the file stands at the output's start, "later output bytes stay"
-  pub written-output : (f : File) → file ≡ fileNumber f → (m : ℕ) → answerIs r ≡ written m → (take m after ≡ bytesOf file n s p) × (drop m after ≡ drop m out)
+  pub written-output : (take m (outputAfter file n s p out) ≡ bytesOf file n s p) × (drop m (outputAfter file n s p out) ≡ drop m out)
   unfolding put
-  written-output f en m e =
-      let q = written-accepted m e in
+  written-output =
       let b = bytesOf file n s p in
-      let l : length b ≡ m = ap (λ (i : ℕ). length (bytesOf i n s p)) en ∙ length-is f n s p m (rw en at (q .0)) in
-      let v : fitting (quoteFile file n s p) (length out) ≡ quote m = written-inv file (fitting (quoteFile file n s p) (length out)) m (sym e ∙ w .answer) in
-      let a : after ≡ put out 0 b = w .output ∙ ap (λ (x : Quote). outputOf x b out) v in
+      let l : length b ≡ m = length-is file n s p m (written-accepted .0) in
+      let a : outputAfter file n s p out ≡ put out 0 b = ap (λ (x : Quote). outputOf x b out) fits in
       let d : drop (0 + length b) out ≡ drop m out = ap (λ (i : ℕ). drop i out) (zero-add (length b) ∙ l) in
       (ap (take m) a ∙ take-at b (drop (0 + length b) out) m l, ap (drop m) a ∙ drop-at b (drop (0 + length b) out) m l ∙ d)
+
+-- "refused, the output stays"
+pub refused-stays : (file n : ℕ) (s p out : List ℕ) (k g l : ℕ) → answerOf file (fitting (quoteFile file n s p) (length out)) ≡ refusal k g l → outputAfter file n s p out ≡ out
+refused-stays file n s p out k g l e = refused-inv file (fitting (quoteFile file n s p) (length out)) k g l (bytesOf file n s p) out e
+
+-- 01, Writing: "By this call a written file reads back"
+pub reads-back : ReadsBack
+reads-back file n s p out m e q l =
+    let w = written-accepted file n s p out m e in
+    let r = right file n s p m (w .0) in
+    let t : take m (outputAfter file n s p out) ≡ bytesOf file n s p = written-output file n s p out m e .0 in
+    let b = bytesOf file n s p in
+    let a = alone-complete (r .of) n (valuesOf (r .of) n s p) b (is-file file n s p m (w .0)) q l in
+    let x : aloneAnswer file b q ≡ acceptance n = ap (λ (i : ℕ). aloneAnswer i b q) (r .number-is) ∙ a .0 in
+    let y : alonePlaces file b q ≡ alonePlaces (fileNumber (r .of)) b q = ap (λ (i : ℕ). alonePlaces i b q) (r .number-is) in
+    let v : valuesNumbered file n b (alonePlaces file b q) ≡ valuesNumbered file n s p
+    = of-right r [] (λ f. valuesOf f n b (alonePlaces file b q)) ∙ ap (valuesOf (r .of) n b) y ∙ a .1 ∙ sym (of-right r [] (λ f. valuesOf f n s p)) in
+    record { answer = rw t x; values = rw t v }

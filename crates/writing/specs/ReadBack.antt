@@ -1,0 +1,26 @@
+-- 01, Writing: "By this call a written file reads back", said of the two calls' own definitions.
+use Prim.Native.Nat.{ℕ, _≤_}
+use mathlib.Core.Path.{_≡_}
+use mathlib.Core.List.{List, []}
+use lib.ListN.{length, take}
+use Rattle.tables.specs.File.{leastPlaces, ofNumber}
+use Rattle.files.specs.Alone.{acceptance, aloneAnswer, alonePlaces}
+use Rattle.writing.specs.Writing.{valuesOf, quoteFile, fitting, written, answerOf, outputOf, bytesOf}
+
+-- the values at the pairs of the file of this number with n axles
+abbrev pub valuesNumbered : ℕ → ℕ → List ℕ → List ℕ → List (List ℕ)
+valuesNumbered file n s p = ofNumber [] (λ f. valuesOf f n s p) file
+
+-- the text t, read alone into the places q, is accepted as the file of this number with n axles, and its values are those of s at the pairs of p
+pub record IsReadBack (file n : ℕ) (s p t q : List ℕ) : Type 0 where
+  pub answer : aloneAnswer file t q ≡ acceptance n
+  pub values : valuesNumbered file n t (alonePlaces file t q) ≡ valuesNumbered file n s p
+
+-- the output after writing
+abbrev pub outputAfter : ℕ → ℕ → List ℕ → List ℕ → List ℕ → List ℕ
+outputAfter file n s p out = outputOf (fitting (quoteFile file n s p) (length out)) (bytesOf file n s p) out
+
+-- what writing accepts with the length m, and wrote into the first m bytes of the output, reads back
+abbrev pub ReadsBack : Type 0
+ReadsBack = (file n : ℕ) (s p out : List ℕ) (m : ℕ) → answerOf file (fitting (quoteFile file n s p) (length out)) ≡ written m
+    → (q : List ℕ) → leastPlaces ≤ length q → IsReadBack file n s p (take m (outputAfter file n s p out)) q
