@@ -1,4 +1,4 @@
--- One file of a set: what the judge lets through is what is lawful and fits, for any of the five. Assumes the of the reader of one file.
+-- One file of a set: what the judge lets through is what is lawful and fits, for any of the five. Assumes nothing.
 use Prim.Native.Nat.{ℕ, _<_}
 use native.Mathlib.Omega.{arith}
 use mathlib.Core.Path.{_≡_, refl, sym, _∙_, subst}
@@ -8,26 +8,27 @@ use lib.Dec.{ltb}
 use lib.ListN.{length, getD}
 use borrow.Author.Tests.{ltb-false, le-ltb}
 use Rattle.lines.proofs.Bools.{clash}
+use Rattle.kinds.proofs.Laws.{by-test}
 use Rattle.places.specs.Places.{Pair, valueAt, Within}
 use Rattle.tables.specs.File.{File, ac2, acc, drift, suspension, gas, fileNumber, sections, entries}
 use Rattle.reading.specs.Fitting.{StartOf}
 use Rattle.reading.specs.Reading.{Reading, refused, read}
 use Rattle.files.specs.Files.{readFile, axlesOf, IsFile}
 use Rattle.files.proofs.Theorem.{read-sound, read-complete}
-use Rattle.due.specs.Booking.{bookingIn}
+use Rattle.due.specs.Booking.{isL, bookingIn}
 use Rattle.due.specs.Conditions.{conditionsOf, gasValues}
 use Rattle.due.specs.Due.{isAsDue, firstNotAsDue}
 use Rattle.due.specs.declared.Conditions.{Conditions}
 use Rattle.due.proofs.FirstNotAsDue.{first-le, each-as-due, all-as-due}
 use Rattle.rules.specs.Rule.{Rule, allHold, firstBroken}
 use Rattle.rules.specs.Rules.{rulesOf}
-use Rattle.rules.specs.Slices.{sliceRight, isRead}
+use Rattle.rules.specs.Slices.{oldBookingRight, sliceRight, isRead}
 use Rattle.rules.specs.declared.Stated.{Stated}
 use Rattle.rules.specs.declared.RuleCheck.{RuleCheck}
 use Rattle.rules.specs.declared.RuleCheck.the-variants.{Kept, Broken}
 use Rattle.rules.proofs.Laws.{kept-all, all-kept}
 use Rattle.sets.specs.Records.{isGiven, EachAsDue}
-use Rattle.sets.specs.Judge.{Step, goes, FileCheck, passed, failed, checkDue, checkRule, fileChecks, firstFailed, FileRead, notRead, fileRead, booked, checkedFile, judgeRead, judgeReading, judgeText, judgeFile}
+use Rattle.sets.specs.Judge.{Step, stops, goes, FileCheck, passed, failed, checkDue, checkRule, fileChecks, firstFailed, FileRead, notRead, fileRead, booked, checkedFile, judgeRead, judgeReading, judgeText, judgeFile}
 use Rattle.sets.proofs.Steps.{require-inv, both-passed}
 
 -- ---- the checks
@@ -179,3 +180,16 @@ pub file-goes : (f : File) (st : Stated) (a : List (List ℕ)) (s : List ℕ) (c
     → firstFailed (fileChecks f (booked f a vs) vs (axlesOf f c)) ≡ passed → judgeFile f st a s ≡ goes (record { axles = axlesOf f c; pairs = ps; values = vs })
 unfolding judgeFile judgeText
 file-goes f st a s c ps ls vs r q e v k = rw (r, q, e, v, k) refl
+
+-- ---- ACC with category L, by the stem's first digit
+
+-- 01, Bookings: "With category L it is not read, even if too long": of a text of any length nothing but that it is given counts
+module _ (st : Stated) (a : List (List ℕ)) (s : List ℕ) (l : isL (bookingIn a .category) ≡ true) where
+  pub old-not-read : st .nine ≡ true → judgeFile acc st a s ≡ goes notRead
+  unfolding judgeFile sliceRight oldBookingRight isRead
+  old-not-read n = by-test (isGiven s) (λ h. rw (h, l, n) refl) (λ h. rw h refl)
+
+  -- row 11: "ACC given with L and a stem whose first digit isn't 9"
+  pub old-refused : st .nine ≡ false → isGiven s ≡ true → judgeFile acc st a s ≡ stops 11 2 0
+  unfolding judgeFile sliceRight oldBookingRight isRead
+  old-refused n h = rw (h, l, n) refl

@@ -1,4 +1,4 @@
--- The files and slice 6 together: what the judge lets through is a lawful record that fits, and each such record is let through. Assumes the of the reader of one file.
+-- The files and slice 6 together: what the judge lets through is a lawful record that fits, and each such record is let through. Assumes nothing.
 use Prim.Native.Nat.{ℕ}
 use mathlib.Core.Path.{_≡_, refl, ap, sym, _∙_, subst}
 use mathlib.Core.Bool.{Bool, true, false, true≢false}
