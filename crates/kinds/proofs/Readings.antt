@@ -1,6 +1,6 @@
 -- A value that passes its kind is read as what it means, and a drift lies between -9999 and 9999. Assumes nothing.
-use mathlib.Core.Path.{_≡_, refl, sym, ap}
-use mathlib.Core.Bool.{Bool, true, false, _&&_, false≢true}
+use mathlib.Core.Path.{_≡_, refl, sym, ap, _∙_}
+use mathlib.Core.Bool.{Bool, true, false, cond, _&&_, false≢true}
 use mathlib.Core.List.{List, [], _∷_}
 use Prim.Native.Nat.{ℕ, zero, suc, _+_, _≤_, zero-le}
 use native.Mathlib.Omega.{arith}
@@ -77,6 +77,11 @@ unfolding signed
 abs-signed true zero = refl
 abs-signed true (suc n) = refl
 abs-signed false n = refl
+
+-- 01, Kinds of value: "`-0.00` means 0": of no hundredths the sign does not count
+pub drift-zero : (v : List ℕ) → kindOk Deriva v ≡ true → hundredths (cond (startsWith 45 v) (drop 1 v) v) ≡ 0 → driftRead v ≡ DriftRead.Of (pos 0)
+unfolding drift signed
+drift-zero v e z = drift-reads v e ∙ ap DriftRead.Of (by-test (startsWith 45 v) (λ h. rw (h, rw h at z) refl) (λ h. rw (h, rw h at z) refl))
 
 -- the size of a drift
 pub drift-size : (v : List ℕ) → kindOk Deriva v ≡ true → natAbs (drift v) ≤ 9999

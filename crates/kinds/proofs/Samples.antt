@@ -1,4 +1,4 @@
--- Samples of 01, Established samples, by computation. Assumes nothing.
+-- Samples of 01, Established samples and Kinds of value, by computation. Assumes nothing.
 use mathlib.Core.Path.{_≡_, refl}
 use mathlib.Core.Bool.{true, false}
 use lib.IntN.{pos, negℤ}
@@ -22,6 +22,11 @@ module _ where
   pub drift-three : kindOk Deriva (bytes "100.00") ≡ false
   unfolding kindOk isDrift startsWith isFixed allDigits
   drift-three = refl
+
+  -- 01, Kinds of value: "`-0.00` means 0"
+  pub drift-minus-zero : driftRead (bytes "-0.00") ≡ DriftRead.Of (pos 0)
+  unfolding driftRead isDrift drift startsWith isFixed hundredths signed allDigits numberFrom
+  drift-minus-zero = refl
 
 -- 00031994 yes, 02001997 no; 29022000 yes, 29021900 no
 pub first-day-unknown : kindOk DataPrimaImm (bytes "00031994") ≡ true
