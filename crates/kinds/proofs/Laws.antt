@@ -1,17 +1,18 @@
 -- One byte of a value at a time, and parts of digits. Assumes nothing.
-use mathlib.Core.Path.{_≡_, refl, sym, ap, _∙_}
+use mathlib.Core.Path.{_≡_, refl, sym, ap, ap₂, _∙_}
 use mathlib.Core.Bool.{Bool, true, false, cond, _&&_}
 use mathlib.Core.List.{List, [], _∷_}
 use Prim.Native.Nat.{ℕ, zero, suc, _+_, _-_, _*_, _<_, _≤_, _^_, zero-le}
 use native.Mathlib.Omega.{arith}
 use native.Mathlib.Nat.{pow-suc, pow-le-pow-right, le-of-suc-le-suc, le-refl, add-zero}
 use native.Mathlib.Numerals.{add-one}
-use borrow.Author.Tests.{leb-true, eqb-true, le-leb}
+use borrow.Author.Tests.{leb-true, eqb-true, le-leb, eq-eqb, ne-eqb}
 use lib.Dec.{leb, eqb, lit<}
 use lib.ListN.{length, getD, take, drop, length-take, length-drop, drop-of-length-le, List·getD-eq-default}
 use lib.Seq.{drop-cons, take-all}
-use Rattle.lines.specs.Bytes.{allPrintable}
-use Rattle.lines.proofs.Bools.{and-left, and-right}
+use Rattle.lines.specs.Bytes.{allPrintable, sameBytes}
+use Rattle.lines.proofs.Bools.{clash, and-left, and-right}
+use Rattle.lines.proofs.Bytes.{same-is, same-refl}
 use Rattle.kinds.specs.Digits.{isDigit, allDigits, number, numberFrom}
 use Rattle.kinds.specs.Value.{isSorN, allSorN, isFixed, areDigits, pointPlace, isWordAt, wordIndex, wordsOf, numberedLists, startsWith, isString, isExact, isNumber, kindOk}
 use Rattle.kinds.specs.Kind.{NoKind, kindOf, numbered}
@@ -84,6 +85,10 @@ module _ (n : ℕ) (v : List ℕ) (e : areDigits n v ≡ true) where
   -- what `number_at` asks of a part of them
   pub part-inside : (at count : ℕ) → at + count ≤ n → count ≤ 9 → (at + count ≤ length v) × (count ≤ 9) × (allDigits v ≡ true)
   part-inside at count h k = (rw digits-length h, k, digits-all)
+
+  pub digits-drop : (k : ℕ) → areDigits (n - k) (drop k v) ≡ true
+  unfolding areDigits
+  digits-drop k = rw (length-drop, digits-length, eq-eqb (n - k) (n - k) refl) (all-drop k v digits-all)
 
 -- what a fixed-point value is known to be
 pub record FixedPoint (d w : ℕ) (v : List ℕ) : Type 0 where
@@ -200,3 +205,23 @@ no-kind n v h = rw (List·getD-eq-default numbered NoKind h)
 pub by-test : {A : Type 0} (t : Bool) → (t ≡ true → A) → (t ≡ false → A) → A
 by-test true a b = a refl
 by-test false a b = b refl
+
+-- digits as long that spell the same number are the same
+spelt-same : (s t : List ℕ) (m n : ℕ) → length s ≡ length t → allDigits s ≡ true → allDigits t ≡ true → numberFrom m s ≡ numberFrom n t → (m ≡ n) × (s ≡ t)
+unfolding allDigits numberFrom
+spelt-same [] [] m n l p q e = (e, refl)
+spelt-same [] (b ∷ t) m n l p q e = absurd (omega arith)
+spelt-same (a ∷ s) [] m n l p q e = absurd (omega arith)
+spelt-same (a ∷ s) (b ∷ t) m n l p q e =
+    let x = digit a (and-left (isDigit a) (allDigits s) p) in
+    let y = digit b (and-left (isDigit b) (allDigits t) q) in
+    let r = spelt-same s t (m * 10 + (a - 48)) (n * 10 + (b - 48)) (omega arith) (and-right (isDigit a) _ p) (and-right (isDigit b) _ q) e in
+    (omega arith, ap₂ (λ (c : ℕ) (u : List ℕ). c ∷ u) (omega arith) (r .1))
+
+-- n digits compare as bytes as they do as numbers
+pub same-number : (n : ℕ) (s t : List ℕ) → areDigits n s ≡ true → areDigits n t ≡ true → sameBytes s t ≡ eqb (number s) (number t)
+same-number n s t p q =
+    let spelt = spelt-same s t 0 0 (digits-length n s p ∙ sym (digits-length n t q)) (digits-all n s p) (digits-all n t q) in
+    by-test (sameBytes s t)
+    (λ h. h ∙ sym (eq-eqb (number s) (number t) (ap number (same-is s t h))))
+    (λ h. h ∙ sym (ne-eqb (number s) (number t) (λ e. let d : s ≡ t = spelt e .1 in clash (cc (same-refl t)))))
