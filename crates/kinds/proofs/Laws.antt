@@ -183,7 +183,7 @@ module _ (w : ℕ) (v : List ℕ) (e : isNumber w v ≡ true) where
 pub kind-at : (n : ℕ) (v : List ℕ) {kind : ℕ} {r : Bool} → kind ≡ n → r ≡ kindOk (kindOf n) v → r ≡ kindOk (kindOf kind) v
 kind-at n v e h = h ∙ ap (λ (k : ℕ). kindOk (kindOf k) v) (sym e)
 
-and-true : (b : Bool) → (b && true) ≡ b
+pub and-true : (b : Bool) → (b && true) ≡ b
 and-true true = refl
 and-true false = refl
 

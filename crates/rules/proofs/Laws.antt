@@ -2,31 +2,33 @@
 use Prim.Native.Nat.{ℕ, _≤_}
 use native.Mathlib.Omega.{arith}
 use mathlib.Core.Path.{_≡_, refl, ap, ap₂, sym, _∙_}
-use mathlib.Core.Bool.{Bool, true, false, cond, false≢true}
+use mathlib.Core.Bool.{Bool, true, false, cond, false≢true, _&&_, _||_}
 use mathlib.Core.List.{List, [], _∷_}
-use lib.Dec.{eqb}
+use lib.Dec.{eqb, ltb}
+use lib.ListN.{drop}
+use lib.Seq.{take-all}
 use Rattle.lines.specs.Bytes.{sameBytes}
 use Rattle.lines.specs.Text.{bytes}
 use Rattle.lines.proofs.Bools.{and-left, and-right}
 use Rattle.lines.proofs.Bytes.{same-is, same-refl}
-use Rattle.kinds.specs.Kind.{N, DataPrimaImm}
+use Rattle.kinds.specs.Kind.{N, DataPrimaImm, AnnoPrimaImm}
 use Rattle.kinds.specs.Digits.{number}
-use Rattle.kinds.specs.Value.{isNumber, kindOk}
+use Rattle.kinds.specs.Value.{isNumber, isFirstDay, isWord, areDigits, yearOf, kindOk}
 use Rattle.kinds.specs.Meaning.{dayNumber}
-use Rattle.kinds.proofs.Laws.{by-test}
+use Rattle.kinds.proofs.Laws.{and-true, by-test, digits-length, digits-drop, same-number}
 use Rattle.kinds.proofs.Readings.{number-reads, first-day-reads}
-use Rattle.tables.specs.File.{File, ac2}
+use Rattle.tables.specs.File.{File, ac2, acc}
 use Rattle.tables.specs.Value.{of}
-use Rattle.due.specs.Booking.{isPetrol, fuelIn, bookingIn}
+use Rattle.due.specs.Booking.{isL, isPetrol, fuelIn, bookingIn}
 use Rattle.due.specs.declared.Fuel.the-variants.{Petrol, Diesel, OtherFuel}
 use Rattle.rules.specs.Rule.{Rule, broken, allHold, firstBroken}
-use Rattle.rules.specs.Bookings.{numberIs, periodAt, periodOf}
+use Rattle.rules.specs.Bookings.{parkingBrakeFits, descriptionsOf, descriptions, yearFits, directiveOf, periodAt, periodOf, petrolWord, petrolFits, dieselFits, fuelFits, oldBrakeFits, numberIs, countOf, parkingAxlesFit, oldRules}
 use Rattle.rules.specs.Differences.{difference, differenceFits}
 use Rattle.rules.specs.Answer.{sameFields}
 use Rattle.rules.specs.declared.BrokenRule.{BrokenRule}
 use Rattle.rules.specs.declared.RuleCheck.{RuleCheck}
 use Rattle.rules.specs.declared.RuleCheck.the-variants.{Kept, Broken}
-use Rattle.rules.proofs.Tests.{number-of, day-of}
+use Rattle.rules.proofs.Tests.{word-here, word-later, word-last, number-of, day-of}
 
 -- ---- the first broken rule
 
@@ -94,6 +96,93 @@ difference-is l r d el er ed =
 -- the fuel dates compare as the number yyyymmdd
 pub period-is : (v : List ℕ) → kindOk DataPrimaImm v ≡ true → periodOf v ≡ periodAt (dayNumber v)
 period-is v e = day-of v (dayNumber v) (first-day-reads v e)
+
+-- ---- the rules of bookings, in plain terms (01, Bookings)
+
+not-same : (s t : List ℕ) → (s ≡ t → ⊥) → sameBytes s t ≡ false
+not-same s t n = by-test (sameBytes s t) (λ h. absurd (n (same-is s t h))) (λ h. h)
+
+-- "NON PRESENTE only with L", and any other word with every category
+module _ (category : ℕ) where
+  pub no-parking-brake : parkingBrakeFits category (bytes "NON PRESENTE") ≡ isL category
+  unfolding parkingBrakeFits
+  no-parking-brake = rw (same-refl (bytes "NON PRESENTE")) (by-test (isL category) (λ h. rw h refl) (λ h. rw h refl))
+
+  pub any-parking-brake : (v : List ℕ) → (v ≡ bytes "NON PRESENTE" → ⊥) → parkingBrakeFits category v ≡ true
+  unfolding parkingBrakeFits
+  any-parking-brake v n = rw (not-same v (bytes "NON PRESENTE") n) (by-test (isL category) (λ h. rw h refl) (λ h. rw h refl))
+
+-- "AnnoPrimaImm is the year of DataPrimaImm"
+pub year-is : (date year : List ℕ) → kindOk DataPrimaImm date ≡ true → kindOk AnnoPrimaImm year ≡ true → yearFits date year ≡ eqb (number year) (yearOf date)
+unfolding kindOk isFirstDay yearFits
+year-is date year d y =
+    let e : areDigits 4 (drop 4 date) ≡ true = digits-drop 8 date (and-left (areDigits 8 date) _ d) 4 in
+    rw (take-all 4 (drop 4 date) (omega (arith, digits-length 4 (drop 4 date) e))) (same-number 4 year (drop 4 date) y e)
+
+-- "with 91/441/CEE or 98/69/CE "BENZINA CAT"; with RT1902 or NESSUNA before 01/10/1986 "BENZINA<86"; with RT1902 from then
+-- and before 01/07/2002 "BENZINA NO CAT"; else no value fits", the day as the number yyyymmdd
+pub petrol-words : (date old : List ℕ) → kindOk DataPrimaImm date ≡ true
+    → (petrolFits (petrolWord (directiveOf (bytes "91/441/CEE")) (periodOf date)) old ≡ sameBytes old (bytes "BENZINA CAT"))
+    × (petrolFits (petrolWord (directiveOf (bytes "98/69/CE")) (periodOf date)) old ≡ sameBytes old (bytes "BENZINA CAT"))
+    × (petrolFits (petrolWord (directiveOf (bytes "RT1902")) (periodOf date)) old
+    ≡ cond (ltb (dayNumber date) 19861001) (sameBytes old (bytes "BENZINA<86")) (ltb (dayNumber date) 20020701 && sameBytes old (bytes "BENZINA NO CAT")))
+    × (petrolFits (petrolWord (directiveOf (bytes "NESSUNA")) (periodOf date)) old ≡ (ltb (dayNumber date) 19861001 && sameBytes old (bytes "BENZINA<86")))
+unfolding directiveOf sameBytes periodAt
+petrol-words date old d =
+    rw (period-is date d)
+    (by-test (ltb (dayNumber date) 19861001)
+    (λ h. rw h (refl, refl, refl, refl))
+    (λ h. by-test (ltb (dayNumber date) 20020701) (λ k. rw (h, k) (refl, refl, refl, refl)) (λ k. rw (h, k) (refl, refl, refl, refl))))
+
+-- "Turbo S "DIESEL TURBO COMPRESSO"; else by AC2's CorrettorePressione, N .., S .."
+pub diesel-words : (corrector old : List ℕ)
+    → (dieselFits (bytes "S") corrector old ≡ sameBytes old (bytes "DIESEL TURBO COMPRESSO"))
+    × (dieselFits (bytes "N") (bytes "N") old ≡ sameBytes old (bytes "DIESEL ASPIRATO SENZA CORRETTORE"))
+    × (dieselFits (bytes "N") (bytes "S") old ≡ sameBytes old (bytes "DIESEL ASPIRATO CON CORRETTORE"))
+unfolding dieselFits sameBytes
+diesel-words corrector old = (refl, refl, refl)
+
+-- "Else the same bytes": of a fuel that is neither
+pub other-fuel : (a : List (List ℕ)) (old : List ℕ) → (of ac2 a "Alimentazione_1" ≡ bytes "BENZINA" → ⊥) → (of ac2 a "Alimentazione_1" ≡ bytes "DIESEL" → ⊥)
+    → fuelFits a old ≡ sameBytes old (of ac2 a "Alimentazione_1")
+unfolding fuelFits
+other-fuel a old p d = rw (not-same (of ac2 a "Alimentazione_1") (bytes "BENZINA") p, not-same (of ac2 a "Alimentazione_1") (bytes "DIESEL") d) refl
+
+-- "MANO or PEDALE for ELETTRICO, else the same bytes"
+pub electric-brake : (old : List ℕ) → oldBrakeFits (bytes "ELETTRICO") old ≡ (sameBytes old (bytes "MANO") || sameBytes old (bytes "PEDALE"))
+unfolding oldBrakeFits
+electric-brake old =
+    rw (same-refl (bytes "ELETTRICO"))
+    (by-test (sameBytes old (bytes "MANO"))
+    (λ h. rw h (word-here (bytes "MANO") (bytes "PEDALE" ∷ []) old h))
+    (λ h. rw h (word-later (bytes "MANO") (bytes "PEDALE" ∷ []) old h ∙ word-last (bytes "PEDALE") old)))
+
+pub other-brake : (new old : List ℕ) → (new ≡ bytes "ELETTRICO" → ⊥) → oldBrakeFits new old ≡ sameBytes old new
+unfolding oldBrakeFits
+other-brake new old n = rw (not-same new (bytes "ELETTRICO") n) refl
+
+-- "NumAssiStazionamento is the number of S in PosAssiStaz"
+pub parking-axles-are : (positions old : List ℕ) → kindOk (N 1) old ≡ true → parkingAxlesFit positions old ≡ eqb (number old) (countOf 83 positions)
+unfolding parkingAxlesFit
+parking-axles-are positions old e = number-is 1 old (countOf 83 positions) (omega arith) e
+
+-- the six rules of ACC together, for values of their kinds: the year and the axles compare as numbers
+pub old-rules-are : (a o : List (List ℕ)) → kindOk DataPrimaImm (of ac2 a "DataPrimaImm") ≡ true → kindOk AnnoPrimaImm (of acc o "AnnoPrimaImm") ≡ true
+    → kindOk (N 1) (of acc o "NumAssiStazionamento") ≡ true
+    → allHold (oldRules a o)
+    ≡ (sameBytes (of acc o "TipoVeicolo") (of ac2 a "TipoVeicolo")
+    && (isWord (descriptions (descriptionsOf (bookingIn a .category))) (of acc o "DescrizioneVeicolo")
+    && (eqb (number (of acc o "AnnoPrimaImm")) (yearOf (of ac2 a "DataPrimaImm"))
+    && (fuelFits a (of acc o "Alimentazione_1")
+    && (oldBrakeFits (of ac2 a "AzionamentoFrenoStazionamento") (of acc o "FrenoStazionamento")
+    && eqb (number (of acc o "NumAssiStazionamento")) (countOf 83 (of ac2 a "PosAssiStaz")))))))
+unfolding allHold oldRules
+old-rules-are a o day year axles =
+    rw (
+      and-true (parkingAxlesFit (of ac2 a "PosAssiStaz") (of acc o "NumAssiStazionamento")),
+      year-is (of ac2 a "DataPrimaImm") (of acc o "AnnoPrimaImm") day year,
+      parking-axles-are (of ac2 a "PosAssiStaz") (of acc o "NumAssiStazionamento") axles,
+    ) refl
 
 -- ---- "AC2 has BENZINA"
 
