@@ -366,7 +366,8 @@ fn read_into(
     answer
 }
 
-// 3 to 9 of one file: its pairs into the places, the lines of its entries, in entry order, into `lines`.
+// 3 to 9 of one file: its pairs into the places, the lines of its entries, in entry order, into `lines`. Refused, the
+// places stay. Left open is what `lines` holds after a refusal, and past the lines of the entries.
 pub fn read_text(file: u32, text: &[u8], places: &mut [u32], lines: &mut [u32]) -> TextAnswer
     requires { ⌜ (leastPlaces ≤ length (now places)) × (64 ≤ length (now lines)) ⌝ }
     ensures { λ r. ⌜ ReadsText file (now (text .entry)) r (now (places .entry)) (now (places .exit)) (now (lines .exit)) ⌝ }

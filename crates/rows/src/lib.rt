@@ -198,7 +198,8 @@ fn gas_kind(row: usize) -> u8
     if row < 55 { GAS[row] } else { HEADING }
 }
 
-// The kind number of a row of the file of a number.
+// The kind number of a row of the file of a number. Of a heading, and of a row that the table has not, it is left open
+// which number from `HEADING` on this is.
 pub fn row_kind(file: u32, row: usize) -> u8
     ensures { λ r. ⌜ rowKind r ≡ getD (rowKinds (tableOf file)) row none ⌝ }
 {
@@ -224,7 +225,8 @@ fn put(numbers: &[u8], kinds: &mut [u8])
     }
 }
 
-// The kind numbers of all rows of the file of a number, in the table's order.
+// The kind numbers of all rows of the file of a number, in the table's order. The bytes past the rows are left open, and
+// so is which number from `HEADING` on stands for a heading.
 pub fn write_kinds(file: u32, kinds: &mut [u8])
     requires { ⌜ rowCount (tableOf file) ≤ length (now kinds) ⌝ }
     ensures { λ _. ⌜ map rowKind (take (rowCount (tableOf file)) (now (kinds .exit))) ≡ rowKinds (tableOf file) ⌝ }

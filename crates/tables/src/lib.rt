@@ -491,7 +491,8 @@ pub fn name_tags() -> [u8; 91]
     NAME_TAGS
 }
 
-// The place of a section, for all look-ups under its heading.
+// The place of a section, for all look-ups under its heading. Of a section that there is not, it is left open
+// which number that no list has stands for its list.
 pub fn section_place(file: u32, section: usize) -> SectionPlace
     ensures { λ r. ⌜ IsPlaceOf file section r ⌝ }
 {
