@@ -163,7 +163,7 @@ pub struct EntryName {
 /// Judges a whole set; the places have the pairs of all files that were read.
 pub fn judge(set: &Set, places: &mut Places) -> Result<Acceptance, Refusal> {
     answered(|answer| lent::judge(set, &mut places.0, answer)).map(|values| {
-        let [drift_axles, suspension_axles, drift, suspension, gas] = values;
+        let [drift_axles, suspension_axles, drift, suspension, gas, ..] = values;
         Acceptance {
             drift_axles,
             suspension_axles,
@@ -227,11 +227,11 @@ fn text_of(output: &[u8], length: u32) -> String {
     String::from_utf8_lossy(bytes).into_owned()
 }
 
-/// Makes a call with an answer array of its own: numbers 3 to 7 of an acceptance, or the refusal.
-fn answered(call: impl FnOnce(&mut [u32]) -> u32) -> Result<[u32; 5], Refusal> {
+/// Makes a call with an answer array of its own: what an acceptance carries, from number 3 on, or the refusal.
+fn answered(call: impl FnOnce(&mut [u32]) -> u32) -> Result<[u32; ANSWER - 3], Refusal> {
     let mut answer = [0; ANSWER];
     call(&mut answer);
-    let [number, file, line, values @ .., _, _, _, _, _, _, _, _] = answer;
+    let [number, file, line, values @ ..] = answer;
     if number == 0 {
         Ok(values)
     } else {

@@ -5,43 +5,43 @@ use mathlib.Core.Path.{_≡_, refl, ap, ap₂, sym, subst, _∙_}
 use mathlib.Core.Bool.{Bool, true, false, cond}
 use mathlib.Core.List.{List, _++_}
 use lib.Dec.{leb}
-use lib.ListN.{length, getD, drop, replicate}
+use lib.ListN.{length, drop, replicate}
 use borrow.Author.Tests.{le-leb, lt-leb}
+use Rattle.refusals.specs.Answer.{Answer, refusal, acceptance, require}
 use Rattle.refusals.specs.declared.Refusal.{Refusal}
 use Rattle.refusals.specs.declared.RefusalKind.the-variants.{PlacesTooShort, StemForm}
 use Rattle.places.specs.Places.{cleared}
-use Rattle.places.proofs.Laws.{cleared-length, cleared-drop, cleared-zero}
+use Rattle.places.proofs.Laws.{cleared-length, cleared-drop}
 use Rattle.tables.specs.File.{files, leastPlaces}
 use Rattle.rules.specs.Slices.{goodStem, statedOf}
 use Rattle.rules.specs.declared.Stated.{Stated}
 use Rattle.sets.specs.Records.{Slices}
-use Rattle.sets.specs.Judge as J
-use Rattle.sets.specs.Judge.{Answer, refusal, SetRead, require, judgeSlices, setFiles, settled, judge, answerIs}
+use Rattle.sets.specs.Judge.{SetRead, judgeSlices, setFiles, settled, judge, answerIs}
 use Rattle.sets.specs.declared.Acceptance.{Acceptance}
 use Rattle.sets.specs.declared.SetAnswer.{SetAnswer}
 use Rattle.sets.specs.declared.SetAnswer.the-variants.{Accepted, Refused}
 use Rattle.sets.specs.Demand3.{IsAccepted, Demand3, Leaves}
 use Rattle.sets.proofs.Theorem.{theorem}
-use Rattle.judge.specs.Steps.{AllZero, JudgesSlices}
+use Rattle.judge.specs.Steps.{JudgesSlices}
 use Rattle.judge.specs.Judged.{SetJudged}
 
 -- ---- what the definition answers, and so what the code answers, keeps the demands
 
 judged : (stem : List ℕ) (s : Slices) (p q : List ℕ) (r : SetAnswer) → judge stem s p ≡ (answerIs r, q) → SetJudged stem s p q r
 judged stem s p q r e = record {
-  answer = sym (ap (λ (x : Answer × List ℕ). x .0) e);
-  places = sym (ap (λ (x : Answer × List ℕ). x .1) e);
-  demand3 = subst (λ (x : Answer × List ℕ). Demand3 stem s p (x .0) (x .1)) e (theorem .demand3 stem s p);
-  leaves = subst (λ (x : Answer × List ℕ). Leaves (¬ IsAccepted (x .0)) p (x .1)) e (theorem .leaves stem s p);
+  answer = sym (ap (λ (x : Answer Acceptance × List ℕ). x .0) e);
+  places = sym (ap (λ (x : Answer Acceptance × List ℕ). x .1) e);
+  demand3 = subst (λ (x : Answer Acceptance × List ℕ). Demand3 stem s p (x .0) (x .1)) e (theorem .demand3 stem s p);
+  leaves = subst (λ (x : Answer Acceptance × List ℕ). Leaves (¬ IsAccepted (x .0)) p (x .1)) e (theorem .leaves stem s p);
 }
 
 -- ---- the ways out
 
 module _ (stem : List ℕ) (s : Slices) (p : List ℕ) where
-  abbrev whole : Bool → Bool → J.Step SetRead → Answer × List ℕ
+  abbrev whole : Bool → Bool → Answer SetRead → Answer Acceptance × List ℕ
   whole x y t = cond x (settled p (require y 2 0 0 t)) (refusal 1 0 0, p)
 
-  abbrev all : J.Step SetRead
+  abbrev all : Answer SetRead
   all = judgeSlices (statedOf stem) s
 
   whole-is : judge stem s p ≡ whole (leb leastPlaces (length p)) (goodStem stem) all
@@ -61,20 +61,17 @@ module _ (stem : List ℕ) (s : Slices) (p : List ℕ) where
       cleared-is : m ≡ cleared leastPlaces p
       cleared-is = em ∙ ap (λ (n : ℕ). cleared n p) el
 
-      pub all-zero : AllZero m
-      all-zero = (
-        omega (arith, ap length cleared-is, cleared-length leastPlaces p enough, enough),
-        λ j l. ap (λ (x : List ℕ). getD x j 0) cleared-is ∙ cleared-zero leastPlaces p j l,
-      )
+      pub still-enough : leastPlaces ≤ length m
+      still-enough = omega (arith, ap length cleared-is, cleared-length leastPlaces p enough, enough)
 
       pub set-stem : goodStem stem ≡ false → SetJudged stem s p m (Refused (record { kind = StemForm; file = 0; line = 0 }))
       set-stem g =
           judged stem s p m (Refused (record { kind = StemForm; file = 0; line = 0 }))
           (whole-is ∙ ap₂ (λ (x y : Bool). whole x y all) (le-leb leastPlaces (length p) enough) g ∙ ap (λ (z : List ℕ). (refusal 2 0 0, z)) (sym cleared-is))
 
-      module _ (g : goodStem stem ≡ true) (st : Stated) (es : st ≡ statedOf stem) (n : List ℕ) (r : SetAnswer) (w : JudgesSlices (judgeSlices st s) r m n) where
-        told : (x : SetAnswer) → r ≡ x → JudgesSlices all x m n
-        told x e = subst (λ (y : Stated). JudgesSlices (judgeSlices y s) x m n) es (subst (λ (y : SetAnswer). JudgesSlices (judgeSlices st s) y m n) e w)
+      module _ (g : goodStem stem ≡ true) (st : Stated) (es : st ≡ statedOf stem) (n : List ℕ) (r : SetAnswer) (w : JudgesSlices files (judgeSlices st s) r m n) where
+        told : (x : SetAnswer) → r ≡ x → JudgesSlices files all x m n
+        told x e = subst (λ (y : Stated). JudgesSlices files (judgeSlices y s) x m n) es (subst (λ (y : SetAnswer). JudgesSlices files (judgeSlices st s) y m n) e w)
 
         good : judge stem s p ≡ settled p all
         good = whole-is ∙ ap₂ (λ (x y : Bool). whole x y all) (le-leb leastPlaces (length p) enough) g
@@ -90,4 +87,4 @@ module _ (stem : List ℕ) (s : Slices) (p : List ℕ) where
         set-accepted a e =
             let v = told (Accepted a) e in
             subst (λ (z : SetAnswer). SetJudged stem s p n z) (sym e) (judged stem s p n (Accepted a)
-            (good ∙ ap (settled p) (v .1) ∙ ap₂ (λ (y : Answer) (z : List ℕ). (y, z)) (v .2) (sym (v .3 ∙ ap (setFiles files (v .0)) cleared-is))))
+            (good ∙ ap (settled p) (v .1) ∙ ap₂ (λ (y : Acceptance) (z : List ℕ). (acceptance y, z)) (sym (v .2)) (sym (v .3 ∙ ap (setFiles files (v .0)) cleared-is))))

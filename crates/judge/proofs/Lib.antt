@@ -3,5 +3,5 @@ pub mod Values
 pub mod Text
 pub mod File
 pub mod Answer
-pub mod Chains
+pub mod Slices
 pub mod Judged

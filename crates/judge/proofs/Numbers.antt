@@ -1,27 +1,30 @@
 -- Files by number, and how many pairs they have. Assumes nothing.
 use Prim.Native.Nat.{ℕ, _≤_}
 use native.Mathlib.Omega.{arith}
-use mathlib.Core.Path.{_≡_, ap, sym, subst, _∙_}
+use mathlib.Core.Path.{_≡_, refl, ap, sym, subst, _∙_}
 use mathlib.Core.List.{List, []}
 use lib.ListN.{length}
 use Rattle.places.specs.Places.{pairsAt, valuesAt, Within}
-use Rattle.tables.specs.File.{File, ac2, acc, drift, suspension, gas, fileNumber, allSections, room, firstPair, ofNumber, tableOf}
+use Rattle.tables.specs.File.{File, ac2, acc, drift, suspension, gas, allSections, room, firstPair, ofNumber, tableOf}
 use Rattle.tables.proofs.Numbers.{first-pairs}
 use Rattle.due.specs.Booking.{bookingIn}
 use Rattle.due.specs.declared.Booking.{Booking}
 use Rattle.rules.specs.Values.{newValues, NewHeld}
 use Rattle.rules.proofs.Pairs.{new-room, of-number}
-use Rattle.judge.specs.Steps.{fileNumbered}
+use Rattle.judge.specs.Steps.{fileNumbered, IsNumber}
 
 -- ---- the file of a number
 
-module _ (file : ℕ) (e : fileNumber (fileNumbered file) ≡ file) where
+module _ (file : ℕ) (e : IsNumber file) where
   pub by-file : {A : Type 0} (d : A) (g : File → A) → ofNumber d g file ≡ g (fileNumbered file)
   by-file d g = of-number d g (fileNumbered file) file (sym e)
 
   pub table : tableOf file ≡ allSections (fileNumbered file)
   unfolding tableOf
   table = by-file [] allSections
+
+pub new-number : fileNumbered 1 ≡ ac2
+new-number = of-number ac2 (λ f. f) ac2 1 refl
 
 -- ---- counts
 

@@ -1,14 +1,16 @@
--- The text of a file: what `judge_text` asks of the values, and a law for each way out. Assumes nothing.
+-- The text of a file: what its judges ask of the values, and a law for each way out. Assumes nothing.
 use Prim.Native.Nat.{ℕ, _+_, _*_, _≤_}
 use native.Mathlib.Omega.{arith}
-use mathlib.Core.Path.{_≡_, ap, ap₂, sym, subst, _∙_}
+use mathlib.Core.Path.{_≡_, refl, ap, ap₂, sym, subst, _∙_}
 use mathlib.Core.List.{List, map}
 use lib.ListN.{length, take, drop}
 use Rattle.refusals.specs.Refusals.{numberOf}
-use Rattle.places.specs.Places.{Pair, setPairs, pairsAt, valueAt, Within}
+use Rattle.refusals.specs.Answer.{refusal, acceptance}
+use Rattle.refusals.specs.declared.Refusal.{Refusal}
+use Rattle.places.specs.Places.{Pair, placeSize, setPairs, pairsAt, valueAt, Within}
 use Rattle.places.proofs.Laws.{set-length, pairs-before, drop-pairs}
 use Rattle.tables.specs.Section.{Section}
-use Rattle.tables.specs.File.{File, ac2, acc, drift, suspension, gas, fileNumber, hasAxles, fixedSections, allSections, leastSections, entries, firstPair, leastPlaces}
+use Rattle.tables.specs.File.{File, ac2, acc, drift, suspension, gas, fileNumber, hasAxles, fixedSections, allSections, leastSections, entries, room, firstPair, leastPlaces}
 use Rattle.tables.proofs.Numbers.{first-pairs}
 use Rattle.reading.specs.Reading.{read}
 use Rattle.reading.proofs.Tables.{tables-distinct}
@@ -24,145 +26,162 @@ use Rattle.files.proofs.Pairs.{few-axles, pairs-fit, own-pairs}
 use Rattle.due.specs.Booking.{bookingIn}
 use Rattle.due.specs.declared.Booking.{Booking}
 use Rattle.rules.specs.Values.{pairsOf, newValues, NewHeld}
-use Rattle.rules.specs.Answer.{isMarked}
 use Rattle.rules.proofs.Pairs.{new-count}
-use Rattle.sets.specs.Judge.{FileRead, fileRead, stops, goes, booked, fileChecks, firstFailed, checkedFile, judgeReading, judgeText}
-use Rattle.judge.specs.Steps.{fileNumbered, Own, Booked, Ready, ValuesReady, valuesStep, JudgesValues, JudgesFile, textStep}
+use Rattle.sets.specs.Judge.{fileRead, fileChecks, firstFailed, checkedFile, judgeReading, judgeText}
+use Rattle.judge.specs.Steps.{fileNumbered, IsNumber, keptOf, IsBooking, Ready, ValuesReady, valuesStep, JudgesValues, JudgesFile, textJudged, JudgesBooking}
+use Rattle.judge.specs.declared.Kept.{Kept}
 use Rattle.judge.specs.declared.Step.{Step}
 use Rattle.judge.specs.declared.Step.the-variants.{Stop, Go}
-use Rattle.judge.proofs.Numbers.{by-file, table}
+use Rattle.judge.specs.declared.BookingStep.the-variants as B
+use Rattle.judge.proofs.Numbers.{by-file, table, new-number}
 
 -- ---- AC2's pairs
 
--- AC2's pairs stay when a later file is read
-abbrev pub Later : File → Type 0
-Later ac2 = ⊥
-Later acc = Unit {0}
-Later drift = Unit {0}
-Later suspension = Unit {0}
-Later gas = Unit {0}
+after-booking : (f : File) → 2 ≤ fileNumber f → 12 ≤ firstPair f
+after-booking ac2 l = absurd (omega (arith, l))
+after-booking acc l = omega (arith, first-pairs)
+after-booking drift l = omega (arith, first-pairs)
+after-booking suspension l = omega (arith, first-pairs)
+after-booking gas l = omega (arith, first-pairs)
 
-later-of : (f : File) → 2 ≤ fileNumber f → Later f
-later-of ac2 l = absurd (omega (arith, l))
-later-of acc l = tt
-later-of drift l = tt
-later-of suspension l = tt
-later-of gas l = tt
-
-after-book : (f : File) → Later f → 12 ≤ firstPair f
-after-book acc l = omega (arith, first-pairs)
-after-book drift l = omega (arith, first-pairs)
-after-book suspension l = omega (arith, first-pairs)
-after-book gas l = omega (arith, first-pairs)
-
-pub book-kept : (f : File) → Later f → (ps : List Pair) (p : List ℕ) → pairsOf ac2 0 (setPairs (firstPair f) ps p) ≡ pairsOf ac2 0 p
-book-kept f l ps p = pairs-before (firstPair f) ps p (firstPair ac2) (length (entries ac2 0)) (omega (arith, after-book f l, new-count 0, first-pairs .0))
+-- they stay when a later file is read
+pub booking-kept : (f : File) → 2 ≤ fileNumber f → (ps : List Pair) (p : List ℕ) → pairsOf ac2 0 (setPairs (firstPair f) ps p) ≡ pairsOf ac2 0 p
+booking-kept f l ps p = pairs-before (firstPair f) ps p (firstPair ac2) (length (entries ac2 0)) (omega (arith, after-booking f l, new-count 0, first-pairs .0))
 
 -- AC2 has no axles
 pub new-pairs : (n : ℕ) (p : List ℕ) → pairsOf ac2 n p ≡ pairsOf ac2 0 p
 new-pairs n p = ap (λ (k : ℕ). pairsAt p (firstPair ac2) k) (new-count n ∙ sym (new-count 0))
 
-module _ (s t : List ℕ) (c : ℕ) (ps : List Pair) (p : List ℕ) (l : leastPlaces ≤ length p) where
-  -- AC2's values while a file is judged
-  pub book-now : (f : File) → Own f s t → NewHeld s p → T.FileRead f t c ps
-      → (newValues s (setPairs (firstPair f) ps p) ≡ booked f (newValues s p) (map (valueAt t) ps)) × NewHeld s (setPairs (firstPair f) ps p)
-  book-now = on
-    where
-      longer : (f : File) → leastPlaces ≤ length (setPairs (firstPair f) ps p)
-      longer f = omega (arith, set-length (firstPair f) ps p, l)
-
-      later : (f : File) → Later f → NewHeld s p → (newValues s (setPairs (firstPair f) ps p) ≡ newValues s p) × NewHeld s (setPairs (firstPair f) ps p)
-      later f i h = (ap (map (valueAt s)) (book-kept f i ps p), (longer f, subst (Within s) (sym (book-kept f i ps p)) (h .1)))
-
-      on : (f : File) → Own f s t → NewHeld s p → T.FileRead f t c ps
-          → (newValues s (setPairs (firstPair f) ps p) ≡ booked f (newValues s p) (map (valueAt t) ps)) × NewHeld s (setPairs (firstPair f) ps p)
-      on ac2 o h x =
-          let e : pairsOf ac2 0 (setPairs (firstPair ac2) ps p) ≡ ps
-          = sym (new-pairs (axlesOf ac2 c) (setPairs (firstPair ac2) ps p)) ∙ own-pairs ac2 (axlesOf ac2 c) ps p (x .many) (pairs-fit ac2 t c ps x) l in
-          (ap₂ (λ (u : List ℕ) (v : List Pair). map (valueAt u) v) o e, (longer ac2, subst (Within s) (sym e) (subst (λ (u : List ℕ). Within u ps) (sym o) (x .within))))
-      on acc o h x = later acc tt h
-      on drift o h x = later drift tt h
-      on suspension o h x = later suspension tt h
-      on gas o h x = later gas tt h
-
 -- ---- what was read
 
-by-number : (file : ℕ) (t : List ℕ) → fileNumber (fileNumbered file) ≡ file → readFile (fileNumbered file) t ≡ readNumbered file t
+by-number : (file : ℕ) (t : List ℕ) → IsNumber file → readFile (fileNumbered file) t ≡ readNumbered file t
 by-number file t e = sym (ap₂ (λ (x : List Section) (n : ℕ). readBy x n t) (table file e) (by-file file e 0 leastSections))
 
--- 3 to 9
-pub text-faulty : (file : ℕ) (s t p q ls : List ℕ) → Ready file s t p → (r : TextAnswer) → ReadsText file t r p q ls → (x : Fault) → r ≡ Faulty x
-    → JudgesFile (fileNumbered file) (textStep file s t p) (Stop (record { kind = x .kind; file = file; line = x .line })) p q
-unfolding judgeText
-text-faulty file s t p q ls d r w x e =
-    let v = subst (λ (y : TextAnswer). ReadsText file t y p q ls) e w in (
-      ap (judgeReading (fileNumbered file) (newValues s p) t) (by-number file t (d .number) ∙ v .0) ∙ ap (λ (m : ℕ). stops (numberOf (x .kind)) m (x .line)) (d .number),
-      ap (drop leastPlaces) (v .1),
-    )
-
-module _ (file : ℕ) (s t p q ls : List ℕ) (d : Ready file s t p) (r : TextAnswer) (w : ReadsText file t r p q ls) (c : ℕ) (e : r ≡ Sections c) where
+module _ (file : ℕ) (number : IsNumber file) (t p q ls : List ℕ) (r : TextAnswer) (w : ReadsText file t r p q ls) where
   abbrev f : File
   f = fileNumbered file
 
-  abbrev v : ReadsText file t (Sections c) p q ls
-  v = subst (λ (y : TextAnswer). ReadsText file t y p q ls) e w
-
-  abbrev ps : List Pair
-  ps = v .0
-
-  was-read : readFile f t ≡ read c ps (take (length ps) ls)
-  was-read = by-number file t (d .number) ∙ v .1
-
-  x : T.FileRead f t c ps
-  x = T.read-sound f t c ps (take (length ps) ls) was-read
-
-  set : q ≡ setPairs (firstPair f) ps p
-  set = v .2 ∙ ap (λ (k : ℕ). setPairs k ps p) (by-file file (d .number) 0 firstPair)
-
-  fit : 2 * (firstPair f + length ps) ≤ leastPlaces
-  fit = pairs-fit f t c ps x
-
-  own : pairsOf f (axlesOf f c) q ≡ ps
-  own = ap (pairsOf f (axlesOf f c)) set ∙ own-pairs f (axlesOf f c) ps p (x .many) fit (d .held .0)
-
-  now-booked : (newValues s (setPairs (firstPair f) ps p) ≡ booked f (newValues s p) (map (valueAt t) ps)) × NewHeld s (setPairs (firstPair f) ps p)
-  now-booked = book-now s t c ps p (d .held .0) f (d .own) (d .held) x
-
-  pub text-ready : 64 ≤ length ls → ValuesReady file c s t q ls
-  text-ready l =
-      let i = sound (allSections f) (leastSections f) t (tables-distinct f) c ps _ (T.by-inv (allSections f) (leastSections f) t c ps _ was-read .1) .is in
-      let h : NewHeld s q = subst (NewHeld s) (sym set) (now-booked .1) in
-      record {
-        number = d .number;
-        least = omega (arith, count-in file t p q ls r c w e .0, by-file file (d .number) 0 (λ f. length (fixedSections f)));
-        most = i .most;
-        sections-are = x .counted .sections-are;
-        few = few-axles (hasAxles f) (axlesOf f c) (x .counted .count);
-        held = h;
-        own = (h .0, subst (Within t) (sym own) (x .within));
-        lines = l;
-      }
-
-  -- reading a file after AC2 leaves what AC2 says
-  pub text-booked : (b : Booking) → Booked file b s p → Booked file b s q
-  text-booked b h l =
-      h l ∙ ap (λ (y : List Pair). bookingIn (map (valueAt s) y))
-      (sym (ap (pairsOf ac2 0) set ∙ book-kept f (later-of f (omega (arith, d .number, l))) ps p))
-
-  step : textStep file s t p ≡ valuesStep f c s t q ls
+  -- 3 to 9
+  pub text-faulty : (booking : List (List ℕ) → List (List ℕ)) (x : Fault) → r ≡ Faulty x
+      → JudgesFile f (judgeText f booking t) (Stop (record { kind = x .kind; file = file; line = x .line })) p q
   unfolding judgeText
-  step =
-      ap (judgeReading f (newValues s p) t) was-read
-      ∙ ap₂ (λ (a : List (List ℕ)) (m : ℕ). checkedFile f (fileRead f t c ps) (take m ls) (firstFailed (fileChecks f a (map (valueAt t) ps) (axlesOf f c))))
-      (sym (ap (newValues s) set ∙ now-booked .0)) (x .many)
-      ∙ ap (λ (y : List Pair). checkedFile f (fileRead f t c y) (take (length (entries f (axlesOf f c))) ls) (firstFailed (fileChecks f (newValues s q) (map (valueAt t) y) (axlesOf f c)))) (sym own)
+  text-faulty booking x e =
+      let v = subst (λ (y : TextAnswer). ReadsText file t y p q ls) e w in (
+        ap (judgeReading f booking t) (by-number file t number ∙ v .0) ∙ ap (λ (m : ℕ). refusal (numberOf (x .kind)) m (x .line)) number,
+        ap (drop leastPlaces) (v .1),
+      )
 
-  pub text-judged : (y : Step) → JudgesValues f c s t q ls y → JudgesFile f (textStep file s t p) y p q
-  text-judged (Stop y) j = (step ∙ j, ap (drop leastPlaces) set ∙ drop-pairs leastPlaces (firstPair f) ps p fit)
-  text-judged (Go y) j = (
-    fileRead f t c ps,
-    step ∙ j .0 ∙ ap (λ (z : List Pair). goes (fileRead f t c z)) own,
-    j .1,
-    ap (λ (z : List Pair). isMarked f (map (valueAt t) z)) (sym own) ∙ j .2,
-    set,
-  )
+  module _ (enough : leastPlaces ≤ length p) (c : ℕ) (e : r ≡ Sections c) where
+    abbrev v : ReadsText file t (Sections c) p q ls
+    v = subst (λ (y : TextAnswer). ReadsText file t y p q ls) e w
+
+    abbrev ps : List Pair
+    ps = v .0
+
+    was-read : readFile f t ≡ read c ps (take (length ps) ls)
+    was-read = by-number file t number ∙ v .1
+
+    x : T.FileRead f t c ps
+    x = T.read-sound f t c ps (take (length ps) ls) was-read
+
+    set : q ≡ setPairs (firstPair f) ps p
+    set = v .2 ∙ ap (λ (k : ℕ). setPairs k ps p) (by-file file number 0 firstPair)
+
+    fit : placeSize * (firstPair f + length ps) ≤ leastPlaces
+    fit = pairs-fit f t c ps x
+
+    own : pairsOf f (axlesOf f c) q ≡ ps
+    own = ap (pairsOf f (axlesOf f c)) set ∙ own-pairs f (axlesOf f c) ps p (x .many) fit enough
+
+    still : leastPlaces ≤ length q
+    still = omega (arith, ap length set, set-length (firstPair f) ps p, enough)
+
+    -- s for AC2's text
+    pub text-ready : (b : Booking) (s : List ℕ) → NewHeld s q → IsBooking b s q → 64 ≤ length ls → ValuesReady file c b s t q ls
+    text-ready b s h eb l =
+        let i = sound (allSections f) (leastSections f) t (tables-distinct f) c ps _ (T.by-inv (allSections f) (leastSections f) t c ps _ was-read .1) .is in
+        record {
+          number = number;
+          least = omega (arith, count-in file t p q ls r c w e .0, by-file file number 0 (λ f. length (fixedSections f)));
+          most = i .most;
+          sections-are = x .counted .sections-are;
+          few = few-axles (hasAxles f) (axlesOf f c) (x .counted .count);
+          held = h;
+          own = (still, subst (Within t) (sym own) (x .within));
+          lines = l;
+          booking = eb;
+        }
+
+    step : (booking : List (List ℕ) → List (List ℕ)) (s : List ℕ) → booking (map (valueAt t) ps) ≡ newValues s q → judgeText f booking t ≡ valuesStep f c s t q ls
+    unfolding judgeText
+    step booking s eb =
+        ap (judgeReading f booking t) was-read
+        ∙ ap₂ (λ (a : List (List ℕ)) (m : ℕ). checkedFile f (fileRead f t c ps) (take m ls) (firstFailed (fileChecks f a (map (valueAt t) ps) (axlesOf f c)))) eb (x .many)
+        ∙ ap (λ (y : List Pair). checkedFile f (fileRead f t c y) (take (length (entries f (axlesOf f c))) ls) (firstFailed (fileChecks f (newValues s q) (map (valueAt t) y) (axlesOf f c)))) (sym own)
+
+    module _ (booking : List (List ℕ) → List (List ℕ)) (s : List ℕ) (eb : booking (map (valueAt t) ps) ≡ newValues s q) where
+      stopped : (y : Refusal) → JudgesValues f c s t q ls (Stop y) → JudgesFile f (judgeText f booking t) (Stop y) p q
+      stopped y j = (step booking s eb ∙ j, ap (drop leastPlaces) set ∙ drop-pairs leastPlaces (firstPair f) ps p fit)
+
+      went : (y : Kept) → JudgesValues f c s t q ls (Go y) → (judgeText f booking t ≡ acceptance (fileRead f t c ps)) × (y ≡ keptOf f (fileRead f t c ps))
+      went y j = (
+        step booking s eb ∙ j .0 ∙ ap (λ (z : List Pair). acceptance (fileRead f t c z)) own,
+        j .1 ∙ ap (λ (z : List Pair). keptOf f (fileRead f t c z)) own,
+      )
+
+    -- ---- a file after AC2, whose text is s
+
+    module _ (b : Booking) (s : List ℕ) (d : Ready file b s p) where
+      same : pairsOf ac2 0 q ≡ pairsOf ac2 0 p
+      same = ap (pairsOf ac2 0) set ∙ booking-kept f (omega (arith, number, d .later)) ps p
+
+      pub later-ready : 64 ≤ length ls → ValuesReady file c b s t q ls
+      later-ready l = text-ready b s (still, subst (Within s) (sym same) (d .held .1)) (d .booking ∙ ap (λ (y : List Pair). bookingIn (map (valueAt s) y)) (sym same)) l
+
+      pub later-judged : (y : Step) → JudgesValues f c s t q ls y → JudgesFile f (textJudged file s t p) y p q
+      later-judged (Stop y) j = stopped (λ own. newValues s p) s (ap (map (valueAt s)) (sym same)) y j
+      later-judged (Go y) j = let h = went (λ own. newValues s p) s (ap (map (valueAt s)) (sym same)) y j in (fileRead f t c ps, h .0, h .1, set)
+
+-- ---- AC2
+
+module _ (t p q ls : List ℕ) (r : TextAnswer) (w : ReadsText 1 t r p q ls) where
+  pub booking-faulty : (x : Fault) → r ≡ Faulty x → JudgesBooking (judgeText ac2 (λ own. own) t) (B.Stop (record { kind = x .kind; file = 1; line = x .line })) p q
+  booking-faulty x e =
+      subst (λ (f : File). JudgesFile f (judgeText f (λ own. own) t) (Stop (record { kind = x .kind; file = 1; line = x .line })) p q) new-number
+      (text-faulty 1 (ap fileNumber new-number) t p q ls r w (λ own. own) x e)
+
+  module _ (enough : leastPlaces ≤ length p) (c : ℕ) (e : r ≡ Sections c) where
+    number : IsNumber 1
+    number = ap fileNumber new-number
+
+    abbrev pairs : List Pair
+    pairs = ps 1 number t p q ls r w enough c e
+
+    now-own : pairsOf ac2 0 q ≡ pairs
+    now-own = sym (new-pairs (axlesOf ac2 c) q) ∙ subst (λ (f : File). pairsOf f (axlesOf f c) q ≡ pairs) new-number (own 1 number t p q ls r w enough c e)
+
+    pub booking-held : NewHeld t q
+    booking-held = (still 1 number t p q ls r w enough c e, subst (Within t) (sym now-own) (x 1 number t p q ls r w enough c e .within))
+
+    pub values-ready : (b : Booking) → IsBooking b t q → 64 ≤ length ls → ValuesReady 1 c b t t q ls
+    values-ready b eb l = text-ready 1 number t p q ls r w enough c e b t booking-held eb l
+
+    booking-values : map (valueAt t) pairs ≡ newValues t q
+    booking-values = ap (map (valueAt t)) (sym now-own)
+
+    pub booking-stopped : (y : Refusal) → JudgesValues (fileNumbered 1) c t t q ls (Stop y) → JudgesBooking (judgeText ac2 (λ own. own) t) (B.Stop y) p q
+    booking-stopped y j =
+        subst (λ (f : File). JudgesFile f (judgeText f (λ own. own) t) (Stop y) p q) new-number (stopped 1 number t p q ls r w enough c e (λ own. own) t booking-values y j)
+
+    pub booking-went : (b : Booking) → IsBooking b t q → (y : Kept) → JudgesValues (fileNumbered 1) c t t q ls (Go y)
+        → JudgesBooking (judgeText ac2 (λ own. own) t) (B.Go (record { booking = b; kept = y })) p q
+    booking-went b eb y j =
+        let h : (judgeText ac2 (λ own. own) t ≡ acceptance (fileRead ac2 t c pairs)) × (y ≡ keptOf ac2 (fileRead ac2 t c pairs))
+        = subst (λ (f : File). (judgeText f (λ own. own) t ≡ acceptance (fileRead f t c pairs)) × (y ≡ keptOf f (fileRead f t c pairs))) new-number
+        (went 1 number t p q ls r w enough c e (λ own. own) t booking-values y j) in (
+          fileRead ac2 t c pairs,
+          h .0,
+          h .1,
+          eb ∙ ap bookingIn (sym booking-values),
+          set 1 number t p q ls r w enough c e ∙ ap (λ (f : File). setPairs (firstPair f) pairs p) new-number,
+        )

@@ -2,12 +2,13 @@
 use Prim.Native.Nat.{ℕ, _+_, _-_, _*_, _≤_, _<_}
 use native.Mathlib.Omega.{arith}
 use mathlib.Core.Path.{_≡_, refl, ap, ap₂, sym, subst, _∙_}
-use mathlib.Core.Bool.{Bool, true, false}
+use mathlib.Core.Bool.{true, false}
 use mathlib.Core.List.{List, [], _∷_}
 use lib.Dec.{ltb}
 use lib.ListN.{length, getD, take}
 use borrow.Author.Tests.{lt-ltb, le-ltb}
 use Rattle.refusals.specs.Refusals.{numberOf}
+use Rattle.refusals.specs.Answer.{refusal}
 use Rattle.refusals.specs.declared.RefusalKind.the-variants.{NotAsDue}
 use Rattle.places.specs.Places.{Pair, pairsAt, valuesAt, Within}
 use Rattle.places.proofs.Laws.{values-length}
@@ -28,13 +29,13 @@ use Rattle.due.proofs.FirstNotAsDue.{first-at-values}
 use Rattle.rules.specs.Rule.{firstBroken}
 use Rattle.rules.specs.Rules.{rulesOf, firstBrokenAt}
 use Rattle.rules.specs.Values.{pairsOf, valuesOf, newValues, NewHeld, NumberHeld}
-use Rattle.rules.specs.Answer.{isMarked}
 use Rattle.rules.specs.declared.BrokenRule.{BrokenRule}
 use Rattle.rules.specs.declared.RuleCheck.{RuleCheck}
 use Rattle.rules.specs.declared.RuleCheck.the-variants.{Kept, Broken}
 use Rattle.rules.proofs.Pairs.{gas-room}
-use Rattle.sets.specs.Judge.{stops, checkRule, checkedFile, firstFailed}
-use Rattle.judge.specs.Steps.{fileNumbered, ValuesReady, readAt, valuesStep, JudgesValues}
+use Rattle.sets.specs.Judge.{checkRule, checkedFile, firstFailed}
+use Rattle.judge.specs.Steps.{fileNumbered, IsNumber, keptFrom, ValuesReady, readAt, valuesStep, JudgesValues}
+use Rattle.judge.specs.declared.Kept as K
 use Rattle.judge.specs.declared.Step.the-variants.{Stop, Go}
 use Rattle.judge.proofs.Numbers.{by-file, table, few-entries, booking-ready}
 
@@ -45,7 +46,7 @@ gas-own drift n t p = gas-values-file drift (valuesAt t p (firstPair gas) (room 
 gas-own suspension n t p = gas-values-file suspension (valuesAt t p (firstPair gas) (room gas))
 gas-own gas n t p = gas-values-file gas (valuesAt t p (firstPair gas) (room gas)) ∙ ap (λ (k : ℕ). valuesAt t p (firstPair gas) k) (gas-room n)
 
-module _ (file c : ℕ) (s t p ls : List ℕ) (w : ValuesReady file c s t p ls) where
+module _ (file c : ℕ) (b : Booking) (s t p ls : List ℕ) (w : ValuesReady file c b s t p ls) where
   abbrev f : File
   f = fileNumbered file
 
@@ -64,6 +65,7 @@ module _ (file c : ℕ) (s t p ls : List ℕ) (w : ValuesReady file c s t p ls) 
   -- ---- what is asked
 
   pub conditions-ready : (278 ≤ length p) × (file ≡ 5 → Within t (pairsAt p (firstPair gas) (room gas)))
+  unfolding ofNumber
   conditions-ready = (
     booking-ready s p (w .held) .0,
     λ e. subst (λ (k : ℕ). Within t (pairsAt p (firstPair gas) k)) (sym (gas-room n))
@@ -98,33 +100,32 @@ module _ (file c : ℕ) (s t p ls : List ℕ) (w : ValuesReady file c s t p ls) 
   pub axles-are : (k : ℕ) → k ≡ ofNumber 0 (λ f. length (fixedSections f)) file → c - k ≡ n
   axles-are k e = ap (λ (x : ℕ). c - x) (e ∙ by-file file (w .number) 0 (λ f. length (fixedSections f)))
 
-  pub axles-few : (k : ℕ) → k ≡ ofNumber 0 (λ f. length (fixedSections f)) file → c - k ≤ 9
-  axles-few k e = omega (arith, axles-are k e, w .few)
-
-  pub number-held : (m : ℕ) → m ≡ n → NumberHeld file m t p
+  number-held : (m : ℕ) → m ≡ n → NumberHeld file m t p
   number-held m e =
       (w .own .0, rw (by-file file (w .number) 0 firstPair, by-file file (w .number) 0 (λ f. length (entries f m)), e) (w .own .1))
+
+  pub kept-ready : (m : ℕ) → m ≡ n → IsNumber file × (m ≤ 9) × NumberHeld file m t p
+  kept-ready m e = (w .number, omega (arith, e, w .few), number-held m e)
 
   pub broken-ready : (m : ℕ) → m ≡ n → (m ≤ 9) × NewHeld s p × NumberHeld file m t p
   broken-ready m e = (omega (arith, e, w .few), w .held, number-held m e)
 
   -- ---- 10
 
-  pub due-is : (b : Booking) → b ≡ bookingIn (newValues s p)
-      → (k : Conditions) → k ≡ withLinks b (linksIn (gasValuesIn file (valuesAt t p (firstPair gas) (room gas))))
+  pub due-is : (k : Conditions) → k ≡ withLinks b (linksIn (gasValuesIn file (valuesAt t p (firstPair gas) (room gas))))
       → (first : ℕ) → first ≡ ofNumber 0 firstPair file → (count : ℕ) → count ≡ size
       → (e : ℕ) → e ≡ firstNotAsDueFrom (λ i. dueIn file i k) 0 (filledPairs (pairsAt p first count)) → e ≡ firstNotAsDue f conditions vs
   unfolding conditionsOf
-  due-is b eb k ek first ef count ec e h =
+  due-is k ek first ef count ec e h =
       let g : gasValuesIn file (valuesAt t p (firstPair gas) (room gas)) ≡ gasValues f vs
       = ap (λ (m : ℕ). gasValuesIn m (valuesAt t p (firstPair gas) (room gas))) (sym (w .number)) ∙ gas-own f n t p in
-      let q : k ≡ conditions = ek ∙ ap₂ (λ (x : Booking) (y : List (List ℕ)). withLinks x (linksIn y)) eb g in
+      let q : k ≡ conditions = ek ∙ ap₂ (λ (x : Booking) (y : List (List ℕ)). withLinks x (linksIn y)) (w .booking) g in
       h
       ∙ ap₂ (λ (m : ℕ) (ps : List Pair). firstNotAsDueFrom (λ i. dueIn m i k) 0 (filledPairs ps)) (sym (w .number)) (ap₂ (λ (x y : ℕ). pairsAt p x y) (ef ∙ by-file file (w .number) 0 firstPair) ec)
       ∙ first-at-values f k t (pairsOf f n p) (w .own .1)
       ∙ ap (λ (x : Conditions). firstNotAsDue f x vs) q
 
-  due-failed : ltb (firstNotAsDue f conditions vs) (length vs) ≡ true → valuesStep f c s t p ls ≡ stops 10 (fileNumber f) (getD (take size ls) (firstNotAsDue f conditions vs) 0)
+  due-failed : ltb (firstNotAsDue f conditions vs) (length vs) ≡ true → valuesStep f c s t p ls ≡ refusal 10 (fileNumber f) (getD (take size ls) (firstNotAsDue f conditions vs) 0)
   due-failed q = rw q refl
 
   due-passed : ltb (firstNotAsDue f conditions vs) (length vs) ≡ false
@@ -138,7 +139,7 @@ module _ (file c : ℕ) (s t p ls : List ℕ) (w : ValuesReady file c s t p ls) 
     pub values-due : e < count → (l : ℕ) → l ≡ getD (take count ls) e 0 → JudgesValues f c s t p ls (Stop (record { kind = NotAsDue; file = file; line = l }))
     values-due i l el =
         due-failed (lt-ltb (firstNotAsDue f conditions vs) (length vs) (omega (arith, many, ec, h, i)))
-        ∙ ap₂ (λ (x y : ℕ). stops 10 x y) (w .number) (sym (el ∙ ap₂ (λ (x y : ℕ). getD (take x ls) y 0) ec h))
+        ∙ ap₂ (λ (x y : ℕ). refusal 10 x y) (w .number) (sym (el ∙ ap₂ (λ (x y : ℕ). getD (take x ls) y 0) ec h))
 
     module _ (i : count ≤ e) (m : ℕ) (em : m ≡ n) (r : RuleCheck) (er : r ≡ ofNumber Kept (λ f. firstBrokenAt f m s t p) file) where
       rule-is : firstBroken f (rulesOf f (newValues s p) vs n) ≡ r
@@ -151,11 +152,7 @@ module _ (file c : ℕ) (s t p ls : List ℕ) (w : ValuesReady file c s t p ls) 
 
       pub values-broken : (x : BrokenRule) → r ≡ Broken x → (l : ℕ) → l ≡ getD (take count ls) (x .entry) 0 → JudgesValues f c s t p ls (Stop (record { kind = x .kind; file = file; line = l }))
       values-broken x q l el =
-          judged (Broken x) q ∙ ap₂ (λ (y z : ℕ). stops (numberOf (x .kind)) y z) (w .number) (sym (el ∙ ap (λ (y : ℕ). getD (take y ls) (x .entry) 0) ec))
+          judged (Broken x) q ∙ ap₂ (λ (y z : ℕ). refusal (numberOf (x .kind)) y z) (w .number) (sym (el ∙ ap (λ (y : ℕ). getD (take y ls) (x .entry) 0) ec))
 
-      pub values-pass : r ≡ Kept → (b : Bool) → b ≡ ofNumber false (λ f. isMarked f (valuesOf f m t p)) file → JudgesValues f c s t p ls (Go (record { axles = m; mark = b }))
-      values-pass q b eb = (
-        judged Kept q,
-        sym em,
-        sym (eb ∙ by-file file (w .number) false (λ f. isMarked f (valuesOf f m t p)) ∙ ap (λ (k : ℕ). isMarked f (valuesOf f k t p)) em),
-      )
+      pub values-pass : r ≡ Kept → (y : K.Kept) → y ≡ keptFrom f m (valuesOf f m t p) → JudgesValues f c s t p ls (Go y)
+      values-pass q y ey = (judged Kept q, ey ∙ ap (λ (k : ℕ). keptFrom f k (valuesOf f k t p)) em)

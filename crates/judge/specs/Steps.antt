@@ -1,56 +1,81 @@
 -- What the steps of judging a set promise. Each is said by cases of the code's answer: the pairs, which it has no room for, are in the places.
 use Prim.Native.Nat.{ℕ, _≤_, _<_}
 use mathlib.Core.Path.{_≡_}
-use mathlib.Core.Bool.{cond}
-use mathlib.Core.List.{List}
-use lib.Dec.{eqb}
+use mathlib.Core.Bool.{true, false}
+use mathlib.Core.List.{List, [], _∷_}
 use lib.ListN.{length, getD, take, drop}
-use Rattle.refusals.specs.Refusals.{numberOf}
+use Rattle.refusals.specs.Answer.{Answer, acceptance, refusalOf}
 use Rattle.refusals.specs.declared.Refusal.{Refusal}
 use Rattle.refusals.specs.declared.RefusalKind.{RefusalKind}
 use Rattle.places.specs.Places.{setPairs}
-use Rattle.tables.specs.File.{File, ac2, acc, drift, suspension, gas, files, fileNumber, sections, allSections, fixedSections, entries, firstPair, leastPlaces}
+use Rattle.tables.specs.File.{File, ac2, acc, drift, suspension, gas, files, fileNumber, sections, allSections, fixedSections, entries, firstPair, leastPlaces, ofNumber}
 use Rattle.files.specs.Files.{axlesOf}
 use Rattle.due.specs.Booking.{bookingIn}
 use Rattle.due.specs.declared.Booking.{Booking}
-use Rattle.rules.specs.Values.{pairsOf, valuesOf, newValues, gasValues, Held, NewHeld}
+use Rattle.rules.specs.Values.{pairsOf, valuesOf, newValues, gasValues, Held, NewHeld, GasHeld}
 use Rattle.rules.specs.Answer.{isMarked}
 use Rattle.rules.specs.declared.Stated.{Stated}
-use Rattle.sets.specs.Records.{isGiven}
-use Rattle.sets.specs.Judge as J
-use Rattle.sets.specs.Judge.{FileRead, SetRead, fileRead, stops, goes, checkedFile, firstFailed, fileChecks, judgeFile, judgeText, judgeAnswer, accepts, setFiles, answerIs}
+use Rattle.sets.specs.Records.{Slices, isGiven}
+use Rattle.sets.specs.Judge.{acceptanceOf, FileRead, SetRead, fileRead, checkedFile, firstFailed, fileChecks, judgeText, judgeFile, judgeAnswer, setRead, laterSlices, eachAccepted, setFiles, answerIs}
+use Rattle.sets.specs.declared.Acceptance.{Acceptance}
 use Rattle.sets.specs.declared.SetAnswer.{SetAnswer}
 use Rattle.sets.specs.declared.SetAnswer.the-variants.{Accepted, Refused}
+use Rattle.judge.specs.declared.Kept.{Kept}
 use Rattle.judge.specs.declared.Step.{Step}
 use Rattle.judge.specs.declared.Step.the-variants.{Stop, Go}
-use Rattle.judge.specs.declared.Check.{Check}
-use Rattle.judge.specs.declared.Check.the-variants.{Pass, Refuse}
+use Rattle.judge.specs.declared.BookingStep.{BookingStep}
+use Rattle.judge.specs.declared.BookingStep.the-variants as B
 
--- the file of a number from 1 to 5
+-- the file of a number; AC2 for a number that no file has
 abbrev pub fileNumbered : ℕ → File
-fileNumbered n = cond (eqb n 1) ac2 (cond (eqb n 2) acc (cond (eqb n 3) drift (cond (eqb n 4) suspension gas)))
+fileNumbered n = ofNumber ac2 (λ f. f) n
 
--- AC2 is judged by its own values
-abbrev pub Own : File → List ℕ → List ℕ → Type 0
-Own ac2 s t = s ≡ t
-Own acc s t = Unit {0}
-Own drift s t = Unit {0}
-Own suspension s t = Unit {0}
-Own gas s t = Unit {0}
+abbrev pub IsNumber : ℕ → Type 0
+IsNumber n = fileNumber (fileNumbered n) ≡ n
 
--- for a file after AC2, b is what AC2's values say; for AC2, whose values are not read yet, nothing is asked of b
-abbrev pub Booked : ℕ → Booking → List ℕ → List ℕ → Type 0
-Booked file b s p = 2 ≤ file → b ≡ bookingIn (newValues s p)
+-- ---- what is kept
 
--- what judging a file asks: AC2's text s, the file's text t
-pub record Ready (file : ℕ) (s t p : List ℕ) : Type 0 where
-  pub number : fileNumber (fileNumbered file) ≡ file
-  pub own : Own (fileNumbered file) s t
+-- of a file of n axles with these values
+abbrev pub keptFrom : File → ℕ → List (List ℕ) → Kept
+keptFrom f n vs = record { axles = n; mark = isMarked f vs }
+
+abbrev pub keptOf : File → FileRead → Kept
+keptOf f g = keptFrom f (g .axles) (g .values)
+
+abbrev pub nothingKept : Kept
+nothingKept = record { axles = 0; mark = false }
+
+-- by a step; after a refusal nothing
+abbrev pub keptIn : Step → Kept
+keptIn (Stop x) = nothingKept
+keptIn (Go y) = y
+
+-- the acceptance, from what was kept of drift, suspension and gas
+abbrev pub acceptanceWith : Kept → Kept → Kept → Acceptance
+acceptanceWith d u g = record {
+  driftaxles = d .axles;
+  suspensionaxles = u .axles;
+  driftmark = d .mark;
+  suspensionmark = u .mark;
+  gasmark = g .mark;
+}
+
+-- ---- one file
+
+-- b is what AC2's values say: its text s, its pairs in p
+abbrev pub IsBooking : Booking → List ℕ → List ℕ → Type 0
+IsBooking b s p = b ≡ bookingIn (newValues s p)
+
+-- what judging a file after AC2 asks: AC2's text s
+pub record Ready (file : ℕ) (b : Booking) (s p : List ℕ) : Type 0 where
+  pub number : IsNumber file
+  pub later : 2 ≤ file
   pub held : NewHeld s p
+  pub booking : IsBooking b s p
 
--- what judging the values of a file of c sections asks: its pairs lie within its text, and ls has room for the line of each entry
-pub record ValuesReady (file c : ℕ) (s t p ls : List ℕ) : Type 0 where
-  pub number : fileNumber (fileNumbered file) ≡ file
+-- what judging the values of a file of c sections asks: its text t, its pairs within it, and ls has room for the line of each entry
+pub record ValuesReady (file c : ℕ) (b : Booking) (s t p ls : List ℕ) : Type 0 where
+  pub number : IsNumber file
   pub least : length (fixedSections (fileNumbered file)) ≤ c
   pub most : c ≤ length (allSections (fileNumbered file))
   pub sections-are : take c (allSections (fileNumbered file)) ≡ sections (fileNumbered file) (axlesOf (fileNumbered file) c)
@@ -58,55 +83,78 @@ pub record ValuesReady (file c : ℕ) (s t p ls : List ℕ) : Type 0 where
   pub held : NewHeld s p
   pub own : Held (fileNumbered file) (axlesOf (fileNumbered file) c) t p
   pub lines : 64 ≤ length ls
-
--- the refusal
-abbrev pub stop : {A : Type 0} → Refusal → J.Step A
-stop x = stops (numberOf (x .kind)) (x .file) (x .line)
+  pub booking : IsBooking b s p
 
 -- what stands at the pairs of a file of c sections
 abbrev pub readAt : File → ℕ → List ℕ → List ℕ → FileRead
 readAt f c t p = fileRead f t c (pairsOf f (axlesOf f c) p)
 
 -- all of 10, then 12 or 13, of a file of c sections whose pairs are in the places and whose lines are the first of ls
-abbrev pub valuesStep : File → ℕ → List ℕ → List ℕ → List ℕ → List ℕ → J.Step FileRead
+abbrev pub valuesStep : File → ℕ → List ℕ → List ℕ → List ℕ → List ℕ → Answer FileRead
 valuesStep f c s t p ls =
     checkedFile f (readAt f c t p) (take (length (entries f (axlesOf f c))) ls)
     (firstFailed (fileChecks f (newValues s p) (valuesOf f (axlesOf f c) t p) (axlesOf f c)))
 
 abbrev pub JudgesValues : File → ℕ → List ℕ → List ℕ → List ℕ → List ℕ → Step → Type 0
-JudgesValues f c s t p ls (Stop x) = valuesStep f c s t p ls ≡ stop x
-JudgesValues f c s t p ls (Go y) =
-    (valuesStep f c s t p ls ≡ goes (readAt f c t p)) × (axlesOf f c ≡ y .axles) × (isMarked f (valuesOf f (axlesOf f c) t p) ≡ y .mark)
+JudgesValues f c s t p ls (Stop x) = valuesStep f c s t p ls ≡ refusalOf x
+JudgesValues f c s t p ls (Go y) = (valuesStep f c s t p ls ≡ acceptance (readAt f c t p)) × (y ≡ keptOf f (readAt f c t p))
 
--- a file was judged, by the definition with s; places p before, q after. After a refusal only those past the pairs are promised.
-abbrev pub JudgesFile : File → J.Step FileRead → Step → List ℕ → List ℕ → Type 0
-JudgesFile f s (Stop x) p q = (s ≡ stop x) × (drop leastPlaces q ≡ drop leastPlaces p)
-JudgesFile f s (Go y) p q =
-    (g : FileRead) × (s ≡ goes g) × (g .axles ≡ y .axles) × (isMarked f (g .values) ≡ y .mark) × (q ≡ setPairs (firstPair f) (g .pairs) p)
+-- a file was judged, by the definition with a; places p before, q after. After a refusal only those past the pairs are promised.
+abbrev pub JudgesFile : File → Answer FileRead → Step → List ℕ → List ℕ → Type 0
+JudgesFile f a (Stop x) p q = (a ≡ refusalOf x) × (drop leastPlaces q ≡ drop leastPlaces p)
+JudgesFile f a (Go y) p q = (g : FileRead) × (a ≡ acceptance g) × (y ≡ keptOf f g) × (q ≡ setPairs (firstPair f) (g .pairs) p)
 
-abbrev pub textStep : ℕ → List ℕ → List ℕ → List ℕ → J.Step FileRead
-textStep file s t p = judgeText (fileNumbered file) (newValues s p) t
+-- 3 to 9, then the checks, of a file after AC2; and 11 before them
+abbrev pub textJudged : ℕ → List ℕ → List ℕ → List ℕ → Answer FileRead
+textJudged file s t p = judgeText (fileNumbered file) (λ own. newValues s p) t
 
-abbrev pub fileStep : ℕ → Stated → List ℕ → List ℕ → List ℕ → J.Step FileRead
-fileStep file stated s t p = judgeFile (fileNumbered file) stated (newValues s p) t
+abbrev pub fileJudged : ℕ → Stated → List ℕ → List ℕ → List ℕ → Answer FileRead
+fileJudged file stated s t p = judgeFile (fileNumbered file) stated (newValues s p) t
 
--- slice 6: what it gives is the address, which the answer has no room for
-abbrev pub answerStep : List ℕ → List ℕ → List ℕ → J.Step (List ℕ)
-answerStep g i p = judgeAnswer (isGiven g) (gasValues g p) i
+-- AC2 was judged: what is kept, and what its values say
+abbrev pub JudgesBooking : Answer FileRead → BookingStep → List ℕ → List ℕ → Type 0
+JudgesBooking a (B.Stop x) p q = (a ≡ refusalOf x) × (drop leastPlaces q ≡ drop leastPlaces p)
+JudgesBooking a (B.Go y) p q =
+    (g : FileRead) × (a ≡ acceptance g) × (y .kept ≡ keptOf ac2 g) × (y .booking ≡ bookingIn (g .values)) × (q ≡ setPairs (firstPair ac2) (g .pairs) p)
 
-abbrev pub JudgesAnswer : J.Step (List ℕ) → Check → Type 0
-JudgesAnswer s Pass = (v : List ℕ) × (s ≡ goes v)
-JudgesAnswer s (Refuse x) = s ≡ stop x
+-- ---- one slice after another
+
+-- what is asked where the slices before were accepted
+abbrev pub Asked : Step → Type 0 → Type 0
+Asked (Stop x) P = Unit {0}
+Asked (Go y) P = P
+
+-- after a refused slice nothing is done; after an accepted one P
+abbrev pub Next : Step → Step → List ℕ → List ℕ → Type 0 → Type 0
+Next (Stop x) r p q P = (r ≡ Stop x) × (q ≡ p)
+Next (Go y) r p q P = P
+
+-- slice 6: what it gives is the address, which a step has no room for
+abbrev pub answerJudged : List ℕ → List ℕ → List ℕ → Answer (List ℕ)
+answerJudged g i p = judgeAnswer (isGiven g) (gasValues g p) i
+
+abbrev pub JudgesAnswer : Answer (List ℕ) → Step → Type 0
+JudgesAnswer a (Stop x) = a ≡ refusalOf x
+JudgesAnswer a (Go y) = (v : List ℕ) × (a ≡ acceptance v)
+
+-- gas, where it is given, has its pairs within its text g
+abbrev pub AnswerReady : List ℕ → List ℕ → Type 0
+AnswerReady g p = 0 < length g → GasHeld g p
 
 -- a refusal of slice 6
-abbrev pub answerRefused : RefusalKind → Check
-answerRefused k = Refuse (record { kind = k; file = 6; line = 0 })
+abbrev pub answerRefused : RefusalKind → Step
+answerRefused k = Stop (record { kind = k; file = 6; line = 0 })
 
--- all pairs are 0
-abbrev pub AllZero : List ℕ → Type 0
-AllZero p = (leastPlaces ≤ length p) × ((j : ℕ) → j < leastPlaces → getD p j 0 ≡ 0)
+-- ---- the set
 
--- slices 1 to 6 were judged
-abbrev pub JudgesSlices : J.Step SetRead → SetAnswer → List ℕ → List ℕ → Type 0
-JudgesSlices s (Refused x) p q = (s ≡ stop x) × (drop leastPlaces q ≡ drop leastPlaces p)
-JudgesSlices s (Accepted a) p q = (x : SetRead) × (s ≡ goes x) × (accepts x ≡ answerIs (Accepted a)) × (q ≡ setFiles files x p)
+-- the files after AC2, in the order of their slices
+abbrev pub laterFiles : List File
+laterFiles = acc ∷ drift ∷ suspension ∷ gas ∷ []
+
+abbrev pub acceptanceIn : SetRead → Acceptance
+acceptanceIn x = acceptanceOf (λ f. x .file f .axles) (λ f. x .file f .values)
+
+-- slices were judged, by the definition with a, among them the files fs; places p before, q after
+abbrev pub JudgesSlices : List File → Answer SetRead → SetAnswer → List ℕ → List ℕ → Type 0
+JudgesSlices fs a (Refused x) p q = (a ≡ refusalOf x) × (drop leastPlaces q ≡ drop leastPlaces p)
+JudgesSlices fs a (Accepted y) p q = (x : SetRead) × (a ≡ acceptance x) × (y ≡ acceptanceIn x) × (q ≡ setFiles fs x p)

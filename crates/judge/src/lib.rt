@@ -2,13 +2,13 @@
 ghost use mathlib.Core.Path.{_≡_};
 ghost use Prim.Native.Nat.{_≤_};
 ghost use lib.ListN.{length, getD};
-ghost use Rattle.due.specs.Booking.{bookingIn};
-ghost use Rattle.rules.specs.Values.{newValues, NewHeld, GasHeld};
-ghost use Rattle.sets.specs.Judge.{judgeSlices};
-ghost use Rattle.judge.specs.Steps.{fileNumbered, Booked, Ready, ValuesReady, JudgesValues, JudgesFile, textStep, fileStep, answerStep, JudgesAnswer, answerRefused, AllZero, JudgesSlices};
-ghost use Rattle.judge.specs.Judged.{slicesOf, SetJudged};
+ghost use Rattle.tables.specs.File.{ac2, files, leastPlaces};
+ghost use Rattle.rules.specs.Values.{valuesOf, newValues, NewHeld, NumberHeld};
+ghost use Rattle.sets.specs.Records.{slicesOf};
+ghost use Rattle.sets.specs.Judge.{judgeText, judgeBooking, judgeSlices, setRead, laterSlices, eachAccepted};
+ghost use Rattle.judge.specs.Steps.{fileNumbered, IsNumber, keptFrom, keptIn, acceptanceWith, IsBooking, Ready, ValuesReady, JudgesValues, JudgesFile, textJudged, fileJudged, JudgesBooking, Asked, Next, answerJudged, JudgesAnswer, AnswerReady, answerRefused, laterFiles, JudgesSlices};
+ghost use Rattle.judge.specs.Judged.{SetJudged};
 use due::Booking;
-use due::Fuel;
 use files::TextAnswer;
 use refusals::Refusal;
 use refusals::RefusalKind;
@@ -18,20 +18,30 @@ use serial::AnswerRead;
 use sets::Acceptance;
 use sets::SetAnswer;
 
+// The number of AC2.
+const AC2: u32 = 1;
+
 // What is kept of a file that passed: its axle count, and whether its CodErrore is filled.
-struct Passed {
+struct Kept {
     axles: u32,
     mark: bool,
 }
 
+// A slice that was judged.
 enum Step {
     Stop(Refusal),
-    Go(Passed),
+    Go(Kept),
 }
 
-enum Check {
-    Pass,
-    Refuse(Refusal),
+// AC2 that passed: what its values say, for all slices after it, and what is kept of it.
+struct Booked {
+    booking: Booking,
+    kept: Kept,
+}
+
+enum BookingStep {
+    Stop(Refusal),
+    Go(Booked),
 }
 
 // The line of an entry; 0 where there is none.
@@ -41,18 +51,19 @@ fn line_of(lines: &[u32], entry: usize) -> u32
     if entry < lines.len() { lines[entry] } else { 0 }
 }
 
-// The booking that the values of a file are judged by: AC2's own, now that it was read; for a file after it, b.
-fn booking_for(file: u32, b: Booking, booking: &[u8], places: &[u32]) -> Booking
-    requires { ⌜ NewHeld (now booking) (now places) × Booked file b (now booking) (now places) ⌝ }
-    ensures { λ r. ⌜ r ≡ bookingIn (newValues (now (booking .entry)) (now (places .entry))) ⌝ }
+// What is kept of a file whose pairs are in the places.
+fn kept_of(file: u32, axles: usize, text: &[u8], places: &[u32]) -> Kept
+    requires { ⌜ IsNumber file × (axles ≤ 9) × NumberHeld file axles (now text) (now places) ⌝ }
+    ensures { λ r. ⌜ r ≡ keptFrom (fileNumbered file) axles (valuesOf (fileNumbered file) axles (now (text .entry)) (now (places .entry))) ⌝ }
 {
-    if 1 < file {
-        return b;
+    let mark = rules::is_marked(file, axles, text, places);
+    Kept {
+        axles: axles as u32,
+        mark: mark,
     }
-    due::booking_of(booking, places)
 }
 
-// All of 10, then 12 or 13, of a file whose pairs are in the places, with the lines of its entries.
+// All of 10, then 12 or 13, of a file whose pairs are in the places, with the lines of its entries. b is what AC2 says.
 fn judge_values(
     file: u32,
     sections: usize,
@@ -62,10 +73,10 @@ fn judge_values(
     places: &[u32],
     lines: &[u32],
 ) -> Step
-    requires { ⌜ ValuesReady file sections (now booking) (now text) (now places) (now lines) × Booked file b (now booking) (now places) ⌝ }
+    requires { ⌜ ValuesReady file sections b (now booking) (now text) (now places) (now lines) ⌝ }
     ensures { λ r. ⌜ JudgesValues (fileNumbered file) sections (now (booking .entry)) (now (text .entry)) (now (places .entry)) (now (lines .entry)) r ⌝ }
 {
-    let conditions = due::conditions_of(file, booking_for(file, b, booking, places), text, places);
+    let conditions = due::conditions_of(file, b, text, places);
     let count = tables::rows_before(file, sections) - sections;
     let first = tables::first_pair(file);
     let entry = due::first_not_as_due(file, first, count, conditions, places);
@@ -87,17 +98,55 @@ fn judge_values(
                 line: line_of(&lines[..count], broken),
             })
         }
-        RuleCheck::Kept => {
-            let mark = rules::is_marked(file, axles, text, places);
-            Step::Go(Passed {
-                axles: axles as u32,
-                mark: mark,
+        RuleCheck::Kept => Step::Go(kept_of(file, axles, text, places)),
+    }
+}
+
+// AC2's text: 3 to 9, then the values, by what they say themselves.
+fn judge_booking_text(text: &[u8], places: &mut [u32], lines: &mut [u32]) -> BookingStep
+    requires { ⌜ (leastPlaces ≤ length (now places)) × (64 ≤ length (now lines)) ⌝ }
+    ensures { λ r. ⌜ JudgesBooking (judgeText ac2 (λ own. own) (now (text .entry))) r (now (places .entry)) (now (places .exit)) ⌝ }
+{
+    match files::read_text(AC2, text, places, lines) {
+        TextAnswer::Faulty(x) => {
+            let kind = x.kind;
+            let line = x.line;
+            BookingStep::Stop(Refusal {
+                kind: kind,
+                file: AC2,
+                line: line,
             })
+        }
+        TextAnswer::Sections(sections) => {
+            let booking = due::booking_of(text, places);
+            match judge_values(AC2, sections, booking, text, text, places, lines) {
+                Step::Stop(x) => BookingStep::Stop(x),
+                Step::Go(kept) => BookingStep::Go(Booked {
+                    booking: booking,
+                    kept: kept,
+                }),
+            }
         }
     }
 }
 
-// 3 to 9, then the values.
+// AC2: 11, then the rest.
+fn judge_booking(text: &[u8], places: &mut [u32]) -> BookingStep
+    requires { ⌜ leastPlaces ≤ length (now places) ⌝ }
+    ensures { λ r. ⌜ JudgesBooking (judgeBooking (now (text .entry))) r (now (places .entry)) (now (places .exit)) ⌝ }
+{
+    if text.len() == 0 {
+        return BookingStep::Stop(Refusal {
+            kind: RefusalKind::SliceNotAsDue,
+            file: AC2,
+            line: 0,
+        });
+    }
+    let mut lines = [0u32; 64];
+    judge_booking_text(text, places, &mut lines)
+}
+
+// The text of a file after AC2: 3 to 9, then the values.
 fn judge_text(
     file: u32,
     b: Booking,
@@ -106,8 +155,8 @@ fn judge_text(
     places: &mut [u32],
     lines: &mut [u32],
 ) -> Step
-    requires { ⌜ Ready file (now booking) (now text) (now places) × Booked file b (now booking) (now places) × (64 ≤ length (now lines)) ⌝ }
-    ensures { λ r. ⌜ JudgesFile (fileNumbered file) (textStep file (now (booking .entry)) (now (text .entry)) (now (places .entry))) r (now (places .entry)) (now (places .exit)) ⌝ }
+    requires { ⌜ Ready file b (now booking) (now places) × (64 ≤ length (now lines)) ⌝ }
+    ensures { λ r. ⌜ JudgesFile (fileNumbered file) (textJudged file (now (booking .entry)) (now (text .entry)) (now (places .entry))) r (now (places .entry)) (now (places .exit)) ⌝ }
 {
     match files::read_text(file, text, places, lines) {
         TextAnswer::Faulty(x) => {
@@ -131,7 +180,7 @@ fn judge_text(
     }
 }
 
-// 11, then, of a file that is read, the rest. b is the booking, for a file after AC2.
+// A file after AC2: 11, then, where it is read, the rest.
 fn judge_file(
     file: u32,
     stated: Stated,
@@ -140,8 +189,8 @@ fn judge_file(
     text: &[u8],
     places: &mut [u32],
 ) -> Step
-    requires { ⌜ Ready file (now booking) (now text) (now places) × Booked file b (now booking) (now places) ⌝ }
-    ensures { λ r. ⌜ JudgesFile (fileNumbered file) (fileStep file stated (now (booking .entry)) (now (text .entry)) (now (places .entry))) r (now (places .entry)) (now (places .exit)) ⌝ }
+    requires { ⌜ Ready file b (now booking) (now places) ⌝ }
+    ensures { λ r. ⌜ JudgesFile (fileNumbered file) (fileJudged file stated (now (booking .entry)) (now (text .entry)) (now (places .entry))) r (now (places .entry)) (now (places .exit)) ⌝ }
 {
     let given = 0 < text.len();
     if !rules::slice_right(file, stated, b, given) {
@@ -152,7 +201,7 @@ fn judge_file(
         });
     }
     if !rules::is_read(file, b, given) {
-        return Step::Go(Passed {
+        return Step::Go(Kept {
             axles: 0,
             mark: false,
         });
@@ -161,27 +210,50 @@ fn judge_file(
     judge_text(file, b, booking, text, places, &mut lines)
 }
 
-fn refuse_answer(kind: RefusalKind) -> Check
+// A file after other slices: where one of them was refused, that refusal stands.
+fn judge_next(
+    before: Step,
+    file: u32,
+    stated: Stated,
+    b: Booking,
+    booking: &[u8],
+    text: &[u8],
+    places: &mut [u32],
+) -> Step
+    requires { ⌜ Asked before (Ready file b (now booking) (now places)) ⌝ }
+    ensures { λ r. ⌜ Next before r (now (places .entry)) (now (places .exit)) (JudgesFile (fileNumbered file) (fileJudged file stated (now (booking .entry)) (now (text .entry)) (now (places .entry))) r (now (places .entry)) (now (places .exit))) ⌝ }
+{
+    match before {
+        Step::Stop(x) => Step::Stop(x),
+        Step::Go(_k) => judge_file(file, stated, b, booking, text, places),
+    }
+}
+
+fn refuse_answer(kind: RefusalKind) -> Step
     ensures { λ r. ⌜ r ≡ answerRefused kind ⌝ }
 {
-    Check::Refuse(Refusal {
+    Step::Stop(Refusal {
         kind: kind,
         file: 6,
         line: 0,
     })
 }
 
-// Slice 6: 11, 14, 15.
-fn judge_answer(gas: &[u8], identification: &[u8], places: &[u32]) -> Check
-    requires { ⌜ GasHeld (now gas) (now places) ⌝ }
-    ensures { λ r. ⌜ JudgesAnswer (answerStep (now (gas .entry)) (now (identification .entry)) (now (places .entry))) r ⌝ }
+// Slice 6: 11, 14, 15. Nothing is kept of it.
+fn judge_answer(gas: &[u8], identification: &[u8], places: &[u32]) -> Step
+    requires { ⌜ AnswerReady (now gas) (now places) ⌝ }
+    ensures { λ r. ⌜ JudgesAnswer (answerJudged (now (gas .entry)) (now (identification .entry)) (now (places .entry))) r ⌝ }
 {
     let given = 0 < identification.len();
+    let passed = Step::Go(Kept {
+        axles: 0,
+        mark: false,
+    });
     if !rules::answer_right(gas, places, given) {
         return refuse_answer(RefusalKind::SliceNotAsDue);
     }
     if !given {
-        return Check::Pass;
+        return passed;
     }
     match serial::read_answer(identification) {
         AnswerRead::Malformed => refuse_answer(RefusalKind::AnswerForm),
@@ -189,12 +261,78 @@ fn judge_answer(gas: &[u8], identification: &[u8], places: &[u32]) -> Check
             if !rules::same_fields(identification, ends, gas, places) {
                 return refuse_answer(RefusalKind::AnswerDiffers);
             }
-            Check::Pass
+            passed
         }
     }
 }
 
-// Slices 1 to 6, into places whose pairs are all 0.
+// Slice 6 after other slices.
+fn answer_next(before: Step, gas: &[u8], identification: &[u8], places: &[u32]) -> Step
+    requires { ⌜ Asked before (AnswerReady (now gas) (now places)) ⌝ }
+    ensures { λ r. ⌜ Next before r (now (places .entry)) (now (places .entry)) (JudgesAnswer (answerJudged (now (gas .entry)) (now (identification .entry)) (now (places .entry))) r) ⌝ }
+{
+    match before {
+        Step::Stop(x) => Step::Stop(x),
+        Step::Go(_k) => judge_answer(gas, identification, places),
+    }
+}
+
+// What a step kept; after a refusal nothing.
+fn kept_in(step: Step) -> Kept
+    ensures { λ r. ⌜ r ≡ keptIn step ⌝ }
+{
+    match step {
+        Step::Stop(_x) => Kept {
+            axles: 0,
+            mark: false,
+        },
+        Step::Go(k) => k,
+    }
+}
+
+// The acceptance, from what was kept of the result files.
+fn acceptance_with(drift: Step, suspension: Step, gas: Step) -> Acceptance
+    ensures { λ r. ⌜ r ≡ acceptanceWith (keptIn drift) (keptIn suspension) (keptIn gas) ⌝ }
+{
+    let d = kept_in(drift);
+    let u = kept_in(suspension);
+    let g = kept_in(gas);
+    Acceptance {
+        driftaxles: d.axles,
+        suspensionaxles: u.axles,
+        driftmark: d.mark,
+        suspensionmark: u.mark,
+        gasmark: g.mark,
+    }
+}
+
+// The slices after AC2, whose pairs are in the places; b is what it says. After a refusal the others are passed over.
+fn judge_later(
+    stated: Stated,
+    b: Booking,
+    ac2: &[u8],
+    acc: &[u8],
+    drift: &[u8],
+    suspension: &[u8],
+    gas: &[u8],
+    identification: &[u8],
+    places: &mut [u32],
+) -> SetAnswer
+    requires { ⌜ NewHeld (now ac2) (now places) × IsBooking b (now ac2) (now places) ⌝ }
+    ensures { λ r. ⌜ JudgesSlices laterFiles (eachAccepted stated (slicesOf (now (ac2 .entry)) (now (acc .entry)) (now (drift .entry)) (now (suspension .entry)) (now (gas .entry)) (now (identification .entry))) (newValues (now (ac2 .entry)) (now (places .entry))) laterSlices (setRead stated (slicesOf (now (ac2 .entry)) (now (acc .entry)) (now (drift .entry)) (now (suspension .entry)) (now (gas .entry)) (now (identification .entry))) (newValues (now (ac2 .entry)) (now (places .entry))))) r (now (places .entry)) (now (places .exit)) ⌝ }
+{
+    let o = judge_file(2, stated, b, ac2, acc, places);
+    let d = judge_next(o, 3, stated, b, ac2, drift, places);
+    let u = judge_next(d, 4, stated, b, ac2, suspension, places);
+    let g = judge_next(u, 5, stated, b, ac2, gas, places);
+    let last = answer_next(g, gas, identification, places);
+    match last {
+        Step::Stop(x) => SetAnswer::Refused(x),
+        Step::Go(_k) => SetAnswer::Accepted(acceptance_with(d, u, g)),
+    }
+}
+
+// All slices: AC2, then the others by what it says.
 fn judge_slices(
     stated: Stated,
     ac2: &[u8],
@@ -205,42 +343,22 @@ fn judge_slices(
     identification: &[u8],
     places: &mut [u32],
 ) -> SetAnswer
-    requires { ⌜ AllZero (now places) ⌝ }
-    ensures { λ r. ⌜ JudgesSlices (judgeSlices stated (slicesOf (now (ac2 .entry)) (now (acc .entry)) (now (drift .entry)) (now (suspension .entry)) (now (gas .entry)) (now (identification .entry)))) r (now (places .entry)) (now (places .exit)) ⌝ }
+    requires { ⌜ leastPlaces ≤ length (now places) ⌝ }
+    ensures { λ r. ⌜ JudgesSlices files (judgeSlices stated (slicesOf (now (ac2 .entry)) (now (acc .entry)) (now (drift .entry)) (now (suspension .entry)) (now (gas .entry)) (now (identification .entry)))) r (now (places .entry)) (now (places .exit)) ⌝ }
 {
-    // 11 does not ask for the booking of AC2, and 10 takes AC2's own
-    let unknown = Booking {
-        category: 0,
-        six: false,
-        fuel: Fuel::OtherFuel,
-        late: false,
-        nessuna: false,
-    };
-    if let Step::Stop(x) = judge_file(1, stated, unknown, ac2, ac2, places) {
-        return SetAnswer::Refused(x);
-    }
-    let b = due::booking_of(ac2, places);
-    if let Step::Stop(x) = judge_file(2, stated, b, ac2, acc, places) {
-        return SetAnswer::Refused(x);
-    }
-    match judge_file(3, stated, b, ac2, drift, places) {
-        Step::Stop(x) => SetAnswer::Refused(x),
-        Step::Go(d) => match judge_file(4, stated, b, ac2, suspension, places) {
-            Step::Stop(x) => SetAnswer::Refused(x),
-            Step::Go(u) => match judge_file(5, stated, b, ac2, gas, places) {
-                Step::Stop(x) => SetAnswer::Refused(x),
-                Step::Go(g) => match judge_answer(gas, identification, places) {
-                    Check::Refuse(x) => SetAnswer::Refused(x),
-                    Check::Pass => SetAnswer::Accepted(Acceptance {
-                        driftaxles: d.axles,
-                        suspensionaxles: u.axles,
-                        driftmark: d.mark,
-                        suspensionmark: u.mark,
-                        gasmark: g.mark,
-                    }),
-                },
-            },
-        },
+    match judge_booking(ac2, places) {
+        BookingStep::Stop(x) => SetAnswer::Refused(x),
+        BookingStep::Go(booked) => judge_later(
+            stated,
+            booked.booking,
+            ac2,
+            acc,
+            drift,
+            suspension,
+            gas,
+            identification,
+            places,
+        ),
     }
 }
 

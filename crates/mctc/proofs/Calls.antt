@@ -7,6 +7,7 @@ use mathlib.Core.Option.{Option}
 use mathlib.Core.List.{List}
 use lib.ListN.{length, getD, take}
 use borrow.Author.Tests.{le-leb, lt-leb}
+use Rattle.refusals.specs.Answer.{Answer}
 use Rattle.refusals.proofs.Laws.{not-zero}
 use Rattle.tables.specs.File.{leastPlaces}
 use Rattle.files.specs.Alone as F
@@ -20,6 +21,7 @@ use Rattle.names.specs.Names as N
 use Rattle.names.specs.declared.NameAnswer.{NameAnswer}
 use Rattle.sets.specs.Judge as J
 use Rattle.sets.specs.Records.{Slices}
+use Rattle.sets.specs.declared.Acceptance.{Acceptance}
 use Rattle.sets.specs.declared.SetAnswer.{SetAnswer}
 use Rattle.sets.specs.declared.SetAnswer.the-variants.{Accepted, Refused}
 use Rattle.sets.specs.Demand3.{IsAccepted, Demand3}
@@ -89,14 +91,14 @@ module _ (a b : List ℕ) (r : ℕ) (l : answerSize ≤ length a) where
   pub judge-done : (stem : List ℕ) (s : Slices) (p q : List ℕ) (x : SetAnswer) → SetJudged stem s p q x → Filled (setNumbers (J.answerIs x)) a b r → JudgeCall stem s p q a b r
   judge-done stem s p q x h f =
       let t = le-leb answerSize (length a) l in
-      let g = subst (λ (y : J.Answer). Filled (setNumbers y) a b r) (h .answer) f in
+      let g = subst (λ (y : Answer Acceptance). Filled (setNumbers y) a b r) (h .answer) f in
       let z = zero-accepts x r (f .number) in
       let v = h .leaves in
       record {
         number = rw t (g .number);
         answer = rw t (g .answer);
         places = rw t (h .places);
-        demand3 = λ k. subst (λ (y : J.Answer). Demand3 stem s p y q) (h .answer) (h .demand3);
+        demand3 = λ k. subst (λ (y : Answer Acceptance). Demand3 stem s p y q) (h .answer) (h .demand3);
         accepted = (λ e. let w = h .demand3 .exactly .0 (z .0 e) in (l, w .0, w .1, w .2), λ w. z .1 (h .demand3 .exactly .1 (w .1, w .2, w .3)));
         leaves = record { zero = λ n. v .zero (λ k. n .1 (z .1 k)); short = v .short; beyond = v .beyond; same-length = v .same-length };
       }

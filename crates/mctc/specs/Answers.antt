@@ -1,15 +1,16 @@
 -- Each answer as numbers in an array that the caller lends, of at least 16.
-use Prim.Native.Nat.{ℕ, _-_}
+use Prim.Native.Nat.{ℕ, _-_, _≤_}
 use mathlib.Core.Path.{_≡_}
 use mathlib.Core.Bool.{Bool, cond}
 use mathlib.Core.List.{List, [], _∷_, _++_}
 use lib.ListN.{length, getD, drop, replicate}
 use Rattle.refusals.specs.Refusals.{numberOf}
+use Rattle.refusals.specs.Answer.{Answer, refusal, acceptance}
 use Rattle.refusals.specs.declared.Refusal.{Refusal}
 use Rattle.files.specs.Alone as F
 use Rattle.writing.specs.Writing as W
 use Rattle.names.specs.Names as N
-use Rattle.sets.specs.Judge as J
+use Rattle.sets.specs.declared.Acceptance.{Acceptance}
 use Rattle.columns.specs.Column as C
 
 -- how many numbers of the array are set
@@ -44,9 +45,16 @@ abbrev pub markNumber : Bool → ℕ
 markNumber b = cond b 1 0
 
 -- a judged set (01, Judging): "two axle counts .. and a mark per result file"
-abbrev pub setNumbers : J.Answer → List ℕ
-setNumbers (J.refusal k f l) = k ∷ f ∷ l ∷ []
-setNumbers (J.acceptance d u x y z) = 0 ∷ 0 ∷ 0 ∷ d ∷ u ∷ markNumber x ∷ markNumber y ∷ markNumber z ∷ []
+abbrev pub setNumbers : Answer Acceptance → List ℕ
+setNumbers (refusal k f l) = k ∷ f ∷ l ∷ []
+setNumbers (acceptance a) =
+    0 ∷ 0 ∷ 0 ∷ a .driftaxles ∷ a .suspensionaxles ∷ markNumber (a .driftmark) ∷ markNumber (a .suspensionmark) ∷ markNumber (a .gasmark) ∷ []
+
+-- there are numbers, and the array has room for them
+pub record Room (ns lent : List ℕ) : Type 0 where
+  pub some : 1 ≤ length ns
+  pub few : length ns ≤ answerSize
+  pub enough : answerSize ≤ length lent
 
 -- an array that is long enough was filled, and its first number returned
 pub record Filled (ns before after : List ℕ) (r : ℕ) : Type 0 where

@@ -2,16 +2,15 @@
 // and headings copied, the due column of one file. Each call fills an array of numbers that the caller lends with its
 // answer, and returns the first of them.
 ghost use mathlib.Core.Path.{_≡_};
-ghost use mathlib.Core.List.{[], _∷_};
 ghost use Prim.Native.Nat.{_≤_};
 ghost use lib.ListN.{length};
 ghost use Rattle.files.specs.Alone as F;
 ghost use Rattle.writing.specs.Writing as W;
 ghost use Rattle.names.specs.Names as N;
 ghost use Rattle.sets.specs.Judge as J;
-ghost use Rattle.judge.specs.Judged.{slicesOf};
+ghost use Rattle.sets.specs.Records.{slicesOf};
 ghost use Rattle.columns.specs.Column as C;
-ghost use Rattle.mctc.specs.Answers.{answerSize, answered, refusalNumbers, readNumbers, writeNumbers, nameNumbers, markNumber, setNumbers, dueNumbers, Filled};
+ghost use Rattle.mctc.specs.Answers.{answerSize, refusalNumbers, readNumbers, writeNumbers, nameNumbers, markNumber, setNumbers, dueNumbers, Room, Filled};
 ghost use Rattle.mctc.specs.Calls.{ReadCall, WriteCall, NameCall, JudgeCall, DueCall};
 use columns::ColumnAnswer;
 use files::FileAnswer;
@@ -26,31 +25,18 @@ const ANSWER_SIZE: usize = 16;
 // Returned where the answer array is too short; no refusal has this number.
 const TOO_SHORT: u32 = 4294967295;
 
-// The answer array: eight numbers, then zeros. The first is returned.
-fn fill(
-    answer: &mut [u32],
-    number: u32,
-    file: u32,
-    line: u32,
-    fourth: u32,
-    fifth: u32,
-    sixth: u32,
-    seventh: u32,
-    eighth: u32,
-) -> u32
-    requires { ⌜ answerSize ≤ length (now answer) ⌝ }
-    ensures { λ r. ⌜ (r ≡ number) × (now (answer .exit) ≡ answered (number ∷ file ∷ line ∷ fourth ∷ fifth ∷ sixth ∷ seventh ∷ eighth ∷ []) (now (answer .entry))) ⌝ }
+// The answer array: these numbers, then zeros. The first is returned.
+fn fill(answer: &mut [u32], numbers: &[u32]) -> u32
+    requires { ⌜ Room (now numbers) (now answer) ⌝ }
+    ensures { λ r. ⌜ Filled (now (numbers .entry)) (now (answer .entry)) (now (answer .exit)) r ⌝ }
 {
     places::clear(answer, ANSWER_SIZE);
-    answer[0] = number;
-    answer[1] = file;
-    answer[2] = line;
-    answer[3] = fourth;
-    answer[4] = fifth;
-    answer[5] = sixth;
-    answer[6] = seventh;
-    answer[7] = eighth;
-    number
+    let mut i = 0;
+    while i < numbers.len() {
+        answer[i] = numbers[i];
+        i += 1;
+    }
+    numbers[0]
 }
 
 // Document 01's number of the refusal, its file and its line.
@@ -62,7 +48,7 @@ fn fill_refusal(answer: &mut [u32], refusal: Refusal) -> u32
     let number = refusals::refusal_number(kind);
     let file = refusal.file;
     let line = refusal.line;
-    fill(answer, number, file, line, 0, 0, 0, 0, 0)
+    fill(answer, &[number, file, line])
 }
 
 // What reading a file alone says.
@@ -74,7 +60,7 @@ fn fill_read(answer: &mut [u32], read: FileAnswer) -> u32
         FileAnswer::Refused(x) => fill_refusal(answer, x),
         FileAnswer::Accepted(a) => {
             let axles = a.axles;
-            fill(answer, 0, 0, 0, axles, 0, 0, 0, 0)
+            fill(answer, &[0, 0, 0, axles])
         }
     }
 }
@@ -88,7 +74,7 @@ fn fill_written(answer: &mut [u32], written: WriteAnswer) -> u32
         WriteAnswer::Refused(x) => fill_refusal(answer, x),
         WriteAnswer::Written(a) => {
             let length = a.length;
-            fill(answer, 0, 0, 0, length, 0, 0, 0, 0)
+            fill(answer, &[0, 0, 0, length])
         }
     }
 }
@@ -115,14 +101,7 @@ fn fill_judged(answer: &mut [u32], judged: SetAnswer) -> u32
             let suspensionaxles = a.suspensionaxles;
             fill(
                 answer,
-                0,
-                0,
-                0,
-                driftaxles,
-                suspensionaxles,
-                drift,
-                suspension,
-                gas,
+                &[0, 0, 0, driftaxles, suspensionaxles, drift, suspension, gas],
             )
         }
     }
@@ -200,7 +179,7 @@ fn fill_name(answer: &mut [u32], copied: NameAnswer) -> u32
         NameAnswer::Named(a) => {
             let length = a.length;
             let section = a.section;
-            fill(answer, 0, 0, 0, length, section, 0, 0, 0)
+            fill(answer, &[0, 0, 0, length, section])
         }
     }
 }
@@ -249,7 +228,7 @@ fn fill_column(answer: &mut [u32], given: ColumnAnswer) -> u32
         ColumnAnswer::Column(a) => {
             let axles = a.axles;
             let count = a.count;
-            fill(answer, 0, 0, 0, axles, count, 0, 0, 0)
+            fill(answer, &[0, 0, 0, axles, count])
         }
     }
 }

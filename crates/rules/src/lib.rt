@@ -668,9 +668,9 @@ pub fn is_serial(gas: &[u8], places: &[u32]) -> bool
     value_is(gas, places, 110, b"RS SENZA ESITO")
 }
 
-// 11 of slice 6.
+// 11 of slice 6. Of gas that is not given no value is looked at.
 pub fn answer_right(gas: &[u8], places: &[u32], given: bool) -> bool
-    requires { ⌜ GasHeld (now gas) (now places) ⌝ }
+    requires { ⌜ (0 < length (now gas) → GasHeld (now gas) (now places)) ⌝ }
     ensures { λ r. ⌜ r ≡ answerRight (ltb 0 (length (now (gas .entry)))) (gasValues (now (gas .entry)) (now (places .entry))) given ⌝ }
 {
     if gas.len() == 0 {

@@ -9,6 +9,7 @@ use lib.ListN.{length}
 use Rattle.lines.specs.Text.{bytes}
 use Rattle.lines.proofs.Texts.{laid-out}
 use Rattle.lines.proofs.Bools.{clash}
+use Rattle.refusals.specs.Answer.{acceptance}
 use Rattle.places.specs.Places.{Pair, valueAt}
 use Rattle.reading.specs.Tables.{mostBytes}
 use Rattle.files.specs.Files.{readBy, readFile, axlesOf}
@@ -36,11 +37,11 @@ use Rattle.rules.specs.Differences.{differenceFits, differencesFrom}
 use Rattle.rules.specs.Slices.{statedOf, oldBookingRight, sliceRight, isRead, isSerial, answerRight}
 use Rattle.rules.specs.Answer.{sevenOf}
 use Rattle.serial.specs.Answer.{separated, sum, hexDigit, checksum, answerOf, addressOk, fieldOk, allFieldsOk, sevenOk}
-use Rattle.sets.specs.Records.{Slices, isGiven, Record, Lawful, Fits}
-use Rattle.sets.specs.Judge.{goes, passed, fileChecks, firstFailed, FileRead, notRead, booked, judgeFile, judgeAnswer, SetRead, eachFile, judgeSlices}
-use Rattle.sets.proofs.File.{file-goes}
-use Rattle.sets.proofs.Answer.{answer-complete}
-use Rattle.sets.proofs.Set.{recordOf, same-record, slices-sound, slices-go, passed-lawful, passed-fits}
+use Rattle.sets.specs.Records.{Slices, eachFile, slicesOf, isGiven, Record, Lawful, Fits}
+use Rattle.sets.specs.Judge.{passed, fileChecks, firstFailed, FileRead, notRead, judgeFile, judgeAnswer, SetRead}
+use Rattle.sets.proofs.File.{file-sound, file-accepted}
+use Rattle.sets.proofs.Answer.{answer-sound, answer-complete}
+use Rattle.sets.proofs.Set.{recordOf, same-record, of-each, SetPassed, passed-lawful, passed-fits}
 
 abbrev h : String → Line
 h s = heading (bytes s)
@@ -80,7 +81,7 @@ pub record Computed (f : File) (st : Stated) (a : List (List ℕ)) (ls : List Li
   pub short : leb (length (textOf ls)) mostBytes ≡ true
   pub reads : Reads c (readLines f ls)
   pub values : map (valueAt (textOf ls)) (pairsIn (readLines f ls)) ≡ vs
-  pub checks : firstFailed (fileChecks f (booked f a vs) vs (axlesOf f c)) ≡ passed
+  pub checks : firstFailed (fileChecks f a vs (axlesOf f c)) ≡ passed
 
 file-reads : (f : File) (ls : List Line) → allWellFormed ls ≡ true → leb (length (textOf ls)) mostBytes ≡ true → readFile f (textOf ls) ≡ readLines f ls
 unfolding readBy readText
@@ -91,17 +92,19 @@ file-reads f ls w q =
 abbrev given : File → List Line → ℕ → List (List ℕ) → FileRead
 given f ls c vs = record { axles = axlesOf f c; pairs = pairsIn (readLines f ls); values = vs }
 
-computed-goes : (f : File) (st : Stated) (a : List (List ℕ)) (ls : List Line) (c : ℕ) (vs : List (List ℕ)) → Computed f st a ls c vs
-    → judgeFile f st a (textOf ls) ≡ goes (given f ls c vs)
-computed-goes f st a ls c vs k =
+computed-accepted : (f : File) (st : Stated) (a : List (List ℕ)) (ls : List Line) (c : ℕ) (vs : List (List ℕ)) → Computed f st a ls c vs
+    → judgeFile f st a (textOf ls) ≡ acceptance (given f ls c vs)
+computed-accepted f st a ls c vs k =
     let r : Reading = readLines f ls in
-    file-goes f st a (textOf ls) c (pairsIn r) (numbersIn r) vs (k .slice) (k .is-read) (file-reads f ls (k .well-formed) (k .short) ∙ reading-is c r (k .reads)) (k .values) (k .checks)
+    file-accepted f st a (textOf ls) c (pairsIn r) (numbersIn r) vs (k .slice) (k .is-read) (file-reads f ls (k .well-formed) (k .short) ∙ reading-is c r (k .reads)) (k .values) (k .checks)
 
--- a set that goes on has this record
-record-fits : (st : Stated) (s : Slices) (x : SetRead) (r : Record) → judgeSlices st s ≡ goes x → recordOf s x ≡ r → Lawful st r × Fits r s
-record-fits st s x r e q =
-    let w = slices-sound st s x e in
-    subst (λ (r : Record). Lawful st r × Fits r s) q (passed-lawful st s x w, passed-fits st s x w)
+-- a set whose slices are accepted has this record, a being AC2's values
+record-fits : (st : Stated) (s : Slices) (x : SetRead) → ((f : File) → judgeFile f st (x .file ac2 .values) (s .file f) ≡ acceptance (x .file f))
+    → judgeAnswer (isGiven (s .file gas)) (x .file gas .values) (s .answer) ≡ acceptance (x .address) → Lawful st (recordOf s x) × Fits (recordOf s x) s
+record-fits st s x e q =
+    let v = answer-sound (isGiven (s .file gas)) (x .file gas .values) (s .answer) (x .address) q in
+    let w : SetPassed st s x = record { file = λ f. file-sound f st (x .file ac2 .values) (s .file f) (x .file f) (e f); answer = v .0; address = v .1; identification = v .2 } in
+    (passed-lawful st s x w, passed-fits st s x w)
 
 -- ---- an L vehicle: ACC is given and, with a stem whose first digit is 9, not read
 
@@ -126,40 +129,18 @@ motorcycleValues =
     map bytes (
     "AB12345" ∷ "MOTOVEICOLO" ∷ "L3e" ∷ "" ∷ "15062005" ∷ "ELETTRICA" ∷ "" ∷ "" ∷ "" ∷ "" ∷ "NON PRESENTE" ∷ "NSNNNNNNN" ∷ [])
 
-abbrev pub fileTexts : List ℕ → List ℕ → List ℕ → List ℕ → List ℕ → File → List ℕ
-fileTexts a o d u g ac2 = a
-fileTexts a o d u g acc = o
-fileTexts a o d u g drift = d
-fileTexts a o d u g suspension = u
-fileTexts a o d u g gas = g
-
 abbrev pub motorcycleStem : List ℕ
 motorcycleStem = bytes "AA912345"
 
 abbrev pub motorcycleSet : Slices
-motorcycleSet = record { file = fileTexts (textOf motorcycle) (bytes "no line") [] [] []; answer = [] }
-
-abbrev pub motorcycleGiven : File → Bool
-motorcycleGiven ac2 = true
-motorcycleGiven acc = true
-motorcycleGiven drift = false
-motorcycleGiven suspension = false
-motorcycleGiven gas = false
-
-abbrev pub onlyNew : List (List ℕ) → File → List (List ℕ)
-onlyNew a ac2 = a
-onlyNew a acc = []
-onlyNew a drift = []
-onlyNew a suspension = []
-onlyNew a gas = []
+motorcycleSet = slicesOf (textOf motorcycle) (bytes "no line") [] [] [] []
 
 abbrev pub motorcycleRecord : Record
 motorcycleRecord = record {
-  given = motorcycleGiven;
+  given = eachFile true true false false false;
   answerGiven = false;
-  driftAxles = 0;
-  suspensionAxles = 0;
-  values = onlyNew motorcycleValues;
+  axles = λ f. 0;
+  values = eachFile motorcycleValues [] [] [] [];
   address = [];
 }
 
@@ -335,21 +316,16 @@ abbrev pub carAnswer : List ℕ
 carAnswer = 2 ∷ bytes "GAS" ++ (23 ∷ bytes "12" ++ (23 ∷ bytes "ID" ++ (23 ∷ bytes "BETA" ++ (23 ∷ bytes "A2" ++ (23 ∷ bytes "OM77" ++ (23 ∷ bytes "77" ++ (23 ∷ bytes "30062025" ++ (23 ∷ bytes "2.1" ++ (23 ∷ bytes "210" ++ (bytes "57" ++ (3 ∷ [])))))))))))
 
 abbrev pub carSet : Slices
-carSet = record { file = fileTexts (textOf carNew) (textOf carOld) (textOf carDrift) (textOf carSuspension) (textOf carGas); answer = carAnswer }
+carSet = slicesOf (textOf carNew) (textOf carOld) (textOf carDrift) (textOf carSuspension) (textOf carGas) carAnswer
 
 abbrev pub carValues : File → List (List ℕ)
-carValues ac2 = carNewValues
-carValues acc = carOldValues
-carValues drift = carDriftValues
-carValues suspension = carSuspensionValues
-carValues gas = carGasValues
+carValues = eachFile carNewValues carOldValues carDriftValues carSuspensionValues carGasValues
 
 abbrev pub carRecord : Record
 carRecord = record {
   given = λ f. true;
   answerGiven = true;
-  driftAxles = 2;
-  suspensionAxles = 1;
+  axles = eachFile 0 0 2 1 0;
   values = carValues;
   address = bytes "12";
 }
@@ -363,13 +339,13 @@ abbrev carStated : Stated
 carStated = statedOf carStem
 
 computed :
-    Computed ac2 motorcycleStated [] motorcycle 1 motorcycleValues
-    × (judgeFile acc motorcycleStated motorcycleValues (bytes "no line") ≡ goes notRead)
-    × (judgeFile drift motorcycleStated motorcycleValues [] ≡ goes notRead)
-    × (judgeFile suspension motorcycleStated motorcycleValues [] ≡ goes notRead)
-    × (judgeFile gas motorcycleStated motorcycleValues [] ≡ goes notRead)
-    × (judgeAnswer false [] [] ≡ goes [])
-    × Computed ac2 carStated [] carNew 1 carNewValues
+    Computed ac2 motorcycleStated motorcycleValues motorcycle 1 motorcycleValues
+    × (judgeFile acc motorcycleStated motorcycleValues (bytes "no line") ≡ acceptance notRead)
+    × (judgeFile drift motorcycleStated motorcycleValues [] ≡ acceptance notRead)
+    × (judgeFile suspension motorcycleStated motorcycleValues [] ≡ acceptance notRead)
+    × (judgeFile gas motorcycleStated motorcycleValues [] ≡ acceptance notRead)
+    × (judgeAnswer false [] [] ≡ acceptance [])
+    × Computed ac2 carStated carNewValues carNew 1 carNewValues
     × Computed acc carStated carNewValues carOld 1 carOldValues
     × Computed drift carStated carNewValues carDrift 3 carDriftValues
     × Computed suspension carStated carNewValues carSuspension 2 carSuspensionValues
@@ -399,68 +375,36 @@ computed = (
 
 -- ---- the records
 
-abbrev motorcycleRead : SetRead
-motorcycleRead = record { file = eachFile (given ac2 motorcycle 1 motorcycleValues) notRead notRead notRead notRead; address = [] }
-
-motorcycle-goes : judgeSlices motorcycleStated motorcycleSet ≡ goes motorcycleRead
-unfolding textOf
-motorcycle-goes =
-    slices-go motorcycleStated motorcycleSet (given ac2 motorcycle 1 motorcycleValues) notRead notRead notRead notRead []
-    (computed-goes ac2 motorcycleStated [] motorcycle 1 motorcycleValues (computed .0))
-    (computed .1) (computed .2) (computed .3) (computed .4) (computed .5)
+abbrev motorcycleRead : File → FileRead
+motorcycleRead = eachFile (given ac2 motorcycle 1 motorcycleValues) notRead notRead notRead notRead
 
 pub motorcycle-lawful : Lawful (statedOf motorcycleStem) motorcycleRecord × Fits motorcycleRecord motorcycleSet
 unfolding textOf fixedSections
-motorcycle-lawful = record-fits motorcycleStated motorcycleSet motorcycleRead motorcycleRecord motorcycle-goes (same-record _ motorcycleRecord same-given refl refl refl same-values refl)
-  where
-    same-given : (f : File) → isGiven (motorcycleSet .file f) ≡ motorcycleGiven f
-    same-given ac2 = refl
-    same-given acc = refl
-    same-given drift = refl
-    same-given suspension = refl
-    same-given gas = refl
+motorcycle-lawful =
+    subst (λ (r : Record). Lawful motorcycleStated r × Fits r motorcycleSet)
+    (same-record _ motorcycleRecord (of-each _ refl refl refl refl refl) refl (of-each _ refl refl refl refl refl) (of-each _ refl refl refl refl refl) refl)
+    (record-fits motorcycleStated motorcycleSet (record { file = motorcycleRead; address = [] })
+    (of-each _ (computed-accepted ac2 motorcycleStated motorcycleValues motorcycle 1 motorcycleValues (computed .0)) (computed .1) (computed .2) (computed .3) (computed .4))
+    (computed .5))
 
-    same-values : (f : File) → motorcycleRead .file f .values ≡ motorcycleRecord .values f
-    same-values ac2 = refl
-    same-values acc = refl
-    same-values drift = refl
-    same-values suspension = refl
-    same-values gas = refl
-
-abbrev carRead : SetRead
-carRead = record {
-  file = eachFile (given ac2 carNew 1 carNewValues) (given acc carOld 1 carOldValues) (given drift carDrift 3 carDriftValues) (given suspension carSuspension 2 carSuspensionValues) (given gas carGas 2 carGasValues);
-  address = bytes "12";
-}
-
-car-goes : judgeSlices carStated carSet ≡ goes carRead
-unfolding textOf
-car-goes =
-    slices-go carStated carSet (carRead .file ac2) (carRead .file acc) (carRead .file drift) (carRead .file suspension) (carRead .file gas) (bytes "12")
-    (computed-goes ac2 carStated [] carNew 1 carNewValues (computed .6))
-    (computed-goes acc carStated carNewValues carOld 1 carOldValues (computed .7))
-    (computed-goes drift carStated carNewValues carDrift 3 carDriftValues (computed .8))
-    (computed-goes suspension carStated carNewValues carSuspension 2 carSuspensionValues (computed .9))
-    (computed-goes gas carStated carNewValues carGas 2 carGasValues (computed .10))
-    (answer-complete true carGasValues true carAnswer (bytes "12") refl (computed .11) (computed .12) (λ q. (computed .13, computed .14)))
+abbrev carRead : File → FileRead
+carRead =
+    eachFile (given ac2 carNew 1 carNewValues) (given acc carOld 1 carOldValues) (given drift carDrift 3 carDriftValues)
+    (given suspension carSuspension 2 carSuspensionValues) (given gas carGas 2 carGasValues)
 
 pub car-lawful : Lawful (statedOf carStem) carRecord × Fits carRecord carSet
 unfolding textOf fixedSections
-car-lawful = record-fits carStated carSet carRead carRecord car-goes (same-record _ carRecord same-given refl refl refl same-values refl)
-  where
-    same-given : (f : File) → isGiven (carSet .file f) ≡ true
-    same-given ac2 = refl
-    same-given acc = refl
-    same-given drift = refl
-    same-given suspension = refl
-    same-given gas = refl
-
-    same-values : (f : File) → carRead .file f .values ≡ carRecord .values f
-    same-values ac2 = refl
-    same-values acc = refl
-    same-values drift = refl
-    same-values suspension = refl
-    same-values gas = refl
+car-lawful =
+    subst (λ (r : Record). Lawful carStated r × Fits r carSet)
+    (same-record _ carRecord (of-each _ refl refl refl refl refl) refl (of-each _ refl refl refl refl refl) (of-each _ refl refl refl refl refl) refl)
+    (record-fits carStated carSet (record { file = carRead; address = bytes "12" })
+    (of-each _
+    (computed-accepted ac2 carStated carNewValues carNew 1 carNewValues (computed .6))
+    (computed-accepted acc carStated carNewValues carOld 1 carOldValues (computed .7))
+    (computed-accepted drift carStated carNewValues carDrift 3 carDriftValues (computed .8))
+    (computed-accepted suspension carStated carNewValues carSuspension 2 carSuspensionValues (computed .9))
+    (computed-accepted gas carStated carNewValues carGas 2 carGasValues (computed .10)))
+    (answer-complete true carGasValues true carAnswer (bytes "12") refl (computed .11) (computed .12) (λ q. (computed .13, computed .14))))
 
 -- ---- not every set has one
 

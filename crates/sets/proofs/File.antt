@@ -9,6 +9,7 @@ use lib.ListN.{length, getD}
 use borrow.Author.Tests.{ltb-false, le-ltb}
 use Rattle.lines.proofs.Bools.{clash}
 use Rattle.kinds.proofs.Laws.{by-test}
+use Rattle.refusals.specs.Answer.{Answer, refusal, acceptance}
 use Rattle.places.specs.Places.{Pair, valueAt, Within}
 use Rattle.tables.specs.File.{File, ac2, acc, drift, suspension, gas, fileNumber, sections, entries}
 use Rattle.reading.specs.Fitting.{StartOf}
@@ -28,7 +29,7 @@ use Rattle.rules.specs.declared.RuleCheck.{RuleCheck}
 use Rattle.rules.specs.declared.RuleCheck.the-variants.{Kept, Broken}
 use Rattle.rules.proofs.Laws.{kept-all, all-kept}
 use Rattle.sets.specs.Records.{isGiven, EachAsDue}
-use Rattle.sets.specs.Judge.{Step, stops, goes, FileCheck, passed, failed, checkDue, checkRule, fileChecks, firstFailed, FileRead, notRead, fileRead, booked, checkedFile, judgeRead, judgeReading, judgeText, judgeFile}
+use Rattle.sets.specs.Judge.{FileCheck, passed, failed, checkDue, checkRule, fileChecks, firstFailed, FileRead, notRead, fileRead, checkedFile, judgeRead, judgeReading, judgeText, judgeBooking, judgeFile}
 use Rattle.sets.proofs.Steps.{require-inv, both-passed}
 
 -- ---- the checks
@@ -66,25 +67,15 @@ checks-complete : (f : File) (a vs : List (List ℕ)) (n : ℕ) → RulesKept f 
 checks-complete f a vs n k =
     rw (passed-due f (conditionsOf a (gasValues f vs)) vs (k .dues), all-kept f (rulesOf f a vs n) (k .rules)) refl
 
--- ---- 11 and reading ask AC2's values of the other files only
-
-pub read-booked : (f : File) (a own : List (List ℕ)) (given : Bool) → isRead f (bookingIn a) given ≡ isRead f (bookingIn (booked f a own)) given
-unfolding isRead
-read-booked ac2 a own given = refl
-read-booked acc a own given = refl
-read-booked drift a own given = refl
-read-booked suspension a own given = refl
-read-booked gas a own given = refl
-
-right-booked : (f : File) (st : Stated) (a own : List (List ℕ)) (given : Bool) → sliceRight f st (bookingIn a) given ≡ sliceRight f st (bookingIn (booked f a own)) given
-unfolding sliceRight
-right-booked ac2 st a own given = refl
-right-booked acc st a own given = refl
-right-booked drift st a own given = refl
-right-booked suspension st a own given = refl
-right-booked gas st a own given = refl
-
 -- ---- what is let through
+
+accepted-read : (f : File) (booking : List (List ℕ) → List (List ℕ)) (h : FileRead) (ls : List ℕ) (g : FileRead) → judgeRead f booking h ls ≡ acceptance g
+    → (firstFailed (fileChecks f (booking (h .values)) (h .values) (h .axles)) ≡ passed) × (h ≡ g)
+accepted-read f booking h ls g e = on (firstFailed (fileChecks f (booking (h .values)) (h .values) (h .axles))) e
+  where
+    on : (k : FileCheck) → checkedFile f h ls k ≡ acceptance g → (k ≡ passed) × (h ≡ g)
+    on passed e = (refl, cc)
+    on (failed k i) e = clash (cc)
 
 -- a file that is read
 pub record Passed (f : File) (a : List (List ℕ)) (s : List ℕ) (g : FileRead) : Type 0 where
@@ -101,95 +92,99 @@ pub record FilePassed (f : File) (st : Stated) (a : List (List ℕ)) (s : List �
   pub read : isRead f (bookingIn a) (isGiven s) ≡ true → Passed f a s g
   pub unread : isRead f (bookingIn a) (isGiven s) ≡ false → g ≡ notRead
 
-read-passed : (f : File) (a : List (List ℕ)) (s : List ℕ) (c : ℕ) (ps : List Pair) (ls : List ℕ) (g : FileRead) → readFile f s ≡ read c ps ls
-    → judgeRead f a (fileRead f s c ps) ls ≡ goes g → Passed f (booked f a (g .values)) s g
-read-passed f a s c ps ls g e q =
+read-passed : (f : File) (booking : List (List ℕ) → List (List ℕ)) (s : List ℕ) (c : ℕ) (ps : List Pair) (ls : List ℕ) (g : FileRead) → readFile f s ≡ read c ps ls
+    → judgeRead f booking (fileRead f s c ps) ls ≡ acceptance g → Passed f (booking (g .values)) s g
+read-passed f booking s c ps ls g e q =
     let h : FileRead = fileRead f s c ps in
-    let w = checked (firstFailed (fileChecks f (booked f a (h .values)) (h .values) (h .axles))) q in
+    let w = accepted-read f booking h ls g q in
     let r = read-sound f s c ps ls e in
-    subst (λ (g : FileRead). Passed f (booked f a (g .values)) s g) (w .1) (record {
-      kept = checks-sound f (booked f a (h .values)) (h .values) (h .axles) (w .0);
+    subst (λ (g : FileRead). Passed f (booking (g .values)) s g) (w .1) (record {
+      kept = checks-sound f (booking (h .values)) (h .values) (h .axles) (w .0);
       is = r .is;
       values = refl;
       within = r .within;
       starts = r .starts;
       many = r .many;
     })
-  where
-    checked : (k : FileCheck) → checkedFile f (fileRead f s c ps) ls k ≡ goes g → (k ≡ passed) × (fileRead f s c ps ≡ g)
-    checked passed e = (refl, cc)
-    checked (failed k i) e = clash (cc)
 
-text-sound : (f : File) (a : List (List ℕ)) (s : List ℕ) (g : FileRead) → judgeText f a s ≡ goes g → Passed f (booked f a (g .values)) s g
+text-sound : (f : File) (booking : List (List ℕ) → List (List ℕ)) (s : List ℕ) (g : FileRead) → judgeText f booking s ≡ acceptance g → Passed f (booking (g .values)) s g
 unfolding judgeText
-text-sound f a s g e = on (readFile f s) refl e
+text-sound f booking s g e = on (readFile f s) refl e
   where
-    on : (r : Reading) → readFile f s ≡ r → judgeReading f a s r ≡ goes g → Passed f (booked f a (g .values)) s g
+    on : (r : Reading) → readFile f s ≡ r → judgeReading f booking s r ≡ acceptance g → Passed f (booking (g .values)) s g
     on (refused k l) q e = clash (cc)
-    on (read c ps ls) q e = read-passed f a s c ps ls g q e
+    on (read c ps ls) q e = read-passed f booking s c ps ls g q e
 
-pub file-sound : (f : File) (st : Stated) (a : List (List ℕ)) (s : List ℕ) (g : FileRead) → judgeFile f st a s ≡ goes g
-    → FilePassed f st (booked f a (g .values)) s g
+pub file-sound : (f : File) (st : Stated) (a : List (List ℕ)) (s : List ℕ) (g : FileRead) → judgeFile f st a s ≡ acceptance g → FilePassed f st a s g
 unfolding judgeFile
 file-sound f st a s g e =
-    let i = require-inv (sliceRight f st (bookingIn a) (isGiven s)) 11 (fileNumber f) 0 (cond (isRead f (bookingIn a) (isGiven s)) (judgeText f a s) (goes notRead)) g e in
+    let i = require-inv (sliceRight f st (bookingIn a) (isGiven s)) 11 (fileNumber f) 0 (cond (isRead f (bookingIn a) (isGiven s)) (judgeText f (λ own. a) s) (acceptance notRead)) g e in
     record {
-      slice = sym (right-booked f st a (g .values) (isGiven s)) ∙ i .0;
-      read = λ h. text-sound f a s g (rw (read-booked f a (g .values) (isGiven s), h) at (i .1));
-      unread = λ h. cc (rw (read-booked f a (g .values) (isGiven s), h) at (i .1));
+      slice = i .0;
+      read = λ h. text-sound f (λ own. a) s g (rw h at (i .1));
+      unread = λ h. cc (rw h at (i .1));
     }
+
+-- AC2, judged by its own values, passes as a file beside them
+own-read : (booking : List (List ℕ) → List (List ℕ)) (s : List ℕ) (g : FileRead) (r : Reading) → judgeReading ac2 booking s r ≡ acceptance g
+    → judgeReading ac2 (λ own. booking (g .values)) s r ≡ acceptance g
+own-read booking s g (refused k l) e = clash (cc)
+own-read booking s g (read c ps ls) e =
+    let h : FileRead = fileRead ac2 s c ps in
+    let w = accepted-read ac2 booking h ls g e in
+    subst (λ (x : FileRead). judgeRead ac2 (λ own. booking (x .values)) h ls ≡ acceptance x) (w .1) (rw (w .0) refl)
+
+pub booking-file : (st : Stated) (s : List ℕ) (g : FileRead) → judgeBooking s ≡ acceptance g → judgeFile ac2 st (g .values) s ≡ acceptance g
+unfolding judgeBooking judgeFile judgeText sliceRight isRead
+booking-file st s g e =
+    let i = require-inv (isGiven s) 11 1 0 (judgeReading ac2 (λ own. own) s (readFile ac2 s)) g e in
+    rw (i .0) (own-read (λ own. own) s g (readFile ac2 s) (i .1))
 
 -- ---- what fits is let through
 
-text-complete : (f : File) (a : List (List ℕ)) (s : List ℕ) (n : ℕ) (vs : List (List ℕ)) → RulesKept f (booked f a vs) n vs → IsFile f n vs s
-    → (g : FileRead) × (judgeText f a s ≡ goes g) × (g .axles ≡ n) × (g .values ≡ vs)
+text-complete : (f : File) (booking : List (List ℕ) → List (List ℕ)) (s : List ℕ) (n : ℕ) (vs : List (List ℕ)) → RulesKept f (booking vs) n vs → IsFile f n vs s
+    → (g : FileRead) × (judgeText f booking s ≡ acceptance g) × (g .axles ≡ n) × (g .values ≡ vs)
 unfolding judgeText
-text-complete f a s n vs k h =
+text-complete f booking s n vs k h =
     let r = read-complete f n vs s h in
-    (fileRead f s (r .0) (r .1), rw (r .3, r .4, r .5, checks-complete f (booked f a vs) vs n k) refl, r .4, r .5)
+    (fileRead f s (r .0) (r .1), rw (r .3, r .4, r .5, checks-complete f (booking vs) vs n k) refl, r .4, r .5)
 
-judged-read : (f : File) (st : Stated) (a : List (List ℕ)) (given : Bool) (s : List ℕ) (t : Step FileRead) → given ≡ isGiven s
-    → sliceRight f st (bookingIn a) given ≡ true → isRead f (bookingIn a) given ≡ true → judgeText f a s ≡ t → judgeFile f st a s ≡ t
-unfolding judgeFile
-judged-read f st a given s t e r q j = rw (← e, r, q) j
+pub booking-complete : (s : List ℕ) (vs : List (List ℕ)) → isGiven s ≡ true → RulesKept ac2 vs 0 vs → IsFile ac2 0 vs s
+    → (g : FileRead) × (judgeBooking s ≡ acceptance g) × (g .values ≡ vs)
+unfolding judgeBooking
+booking-complete s vs i k h =
+    let t = text-complete ac2 (λ own. own) s 0 vs k h in
+    (t .0, rw i (t .1), t .3)
 
-judged-unread : (f : File) (st : Stated) (a : List (List ℕ)) (given : Bool) (s : List ℕ) → given ≡ isGiven s
-    → sliceRight f st (bookingIn a) given ≡ true → isRead f (bookingIn a) given ≡ false → judgeFile f st a s ≡ goes notRead
-unfolding judgeFile
-judged-unread f st a given s e r q = rw (← e, r, q) refl
-
+-- a file, read or not, with n axles and these values
 pub file-complete : (f : File) (st : Stated) (a : List (List ℕ)) (given : Bool) (s : List ℕ) (n : ℕ) (vs : List (List ℕ)) → given ≡ isGiven s
-    → sliceRight f st (bookingIn (booked f a vs)) given ≡ true
-    → (isRead f (bookingIn (booked f a vs)) given ≡ true → RulesKept f (booked f a vs) n vs × IsFile f n vs s)
-    → (isRead f (bookingIn (booked f a vs)) given ≡ false → (n ≡ 0) × (vs ≡ []))
-    → (g : FileRead) × (judgeFile f st a s ≡ goes g) × (g .axles ≡ n) × (g .values ≡ vs)
-file-complete f st a given s n vs e r k u = on (isRead f (bookingIn a) given) refl
-  where
-    on : (b : Bool) → isRead f (bookingIn a) given ≡ b → (g : FileRead) × (judgeFile f st a s ≡ goes g) × (g .axles ≡ n) × (g .values ≡ vs)
-    on true q =
-        let w = k (sym (read-booked f a vs given) ∙ q) in
-        let t = text-complete f a s n vs (w .0) (w .1) in
-        (t .0, judged-read f st a given s (goes (t .0)) e (right-booked f st a vs given ∙ r) q (t .1), t .2, t .3)
-    on false q =
-        let w = u (sym (read-booked f a vs given) ∙ q) in
-        (notRead, judged-unread f st a given s e (right-booked f st a vs given ∙ r) q, sym (w .0), sym (w .1))
+    → sliceRight f st (bookingIn a) given ≡ true
+    → (isRead f (bookingIn a) given ≡ true → RulesKept f a n vs × IsFile f n vs s)
+    → (isRead f (bookingIn a) given ≡ false → (n ≡ 0) × (vs ≡ []))
+    → (g : FileRead) × (judgeFile f st a s ≡ acceptance g) × (g .axles ≡ n) × (g .values ≡ vs)
+unfolding judgeFile
+file-complete f st a given s n vs e r k u = by-test (isRead f (bookingIn a) given)
+    (λ q. let w = k q in
+    let t = text-complete f (λ own. a) s n vs (w .0) (w .1) in
+    (t .0, rw (← e, r, q) (t .1), t .2, t .3))
+    (λ q. let w = u q in (notRead, rw (← e, r, q) refl, sym (w .0), sym (w .1)))
 
--- a file that is read so goes on, where the checks pass
-pub file-goes : (f : File) (st : Stated) (a : List (List ℕ)) (s : List ℕ) (c : ℕ) (ps : List Pair) (ls : List ℕ) (vs : List (List ℕ))
+-- a file that is read so is accepted, where the checks pass
+pub file-accepted : (f : File) (st : Stated) (a : List (List ℕ)) (s : List ℕ) (c : ℕ) (ps : List Pair) (ls : List ℕ) (vs : List (List ℕ))
     → sliceRight f st (bookingIn a) (isGiven s) ≡ true → isRead f (bookingIn a) (isGiven s) ≡ true → readFile f s ≡ read c ps ls → map (valueAt s) ps ≡ vs
-    → firstFailed (fileChecks f (booked f a vs) vs (axlesOf f c)) ≡ passed → judgeFile f st a s ≡ goes (record { axles = axlesOf f c; pairs = ps; values = vs })
+    → firstFailed (fileChecks f a vs (axlesOf f c)) ≡ passed → judgeFile f st a s ≡ acceptance (record { axles = axlesOf f c; pairs = ps; values = vs })
 unfolding judgeFile judgeText
-file-goes f st a s c ps ls vs r q e v k = rw (r, q, e, v, k) refl
+file-accepted f st a s c ps ls vs r q e v k = rw (r, q, e, v, k) refl
 
 -- ---- ACC with category L, by the stem's first digit
 
 -- 01, Bookings: "With category L it is not read, even if too long": of a text of any length nothing but that it is given counts
 module _ (st : Stated) (a : List (List ℕ)) (s : List ℕ) (l : isL (bookingIn a .category) ≡ true) where
-  pub old-not-read : st .nine ≡ true → judgeFile acc st a s ≡ goes notRead
+  pub old-not-read : st .nine ≡ true → judgeFile acc st a s ≡ acceptance notRead
   unfolding judgeFile sliceRight oldBookingRight isRead
   old-not-read n = by-test (isGiven s) (λ h. rw (h, l, n) refl) (λ h. rw h refl)
 
   -- row 11: "ACC given with L and a stem whose first digit isn't 9"
-  pub old-refused : st .nine ≡ false → isGiven s ≡ true → judgeFile acc st a s ≡ stops 11 2 0
+  pub old-refused : st .nine ≡ false → isGiven s ≡ true → judgeFile acc st a s ≡ refusal 11 2 0
   unfolding judgeFile sliceRight oldBookingRight isRead
   old-refused n h = rw (h, l, n) refl

@@ -2,33 +2,40 @@
 use Prim.Native.Nat.{ℕ, _+_, _≤_, _<_}
 use native.Mathlib.Omega.{arith}
 use mathlib.Core.Path.{_≡_, refl, ap, sym, _∙_, subst}
-use mathlib.Core.Bool.{Bool, true, false, cond, _&&_}
+use mathlib.Core.Bool.{Bool, true, false, cond}
 use mathlib.Core.List.{List, []}
 use lib.Dec.{leb}
 use lib.ListN.{length, getD, drop, length-map, List·getD-map}
 use borrow.Author.Tests.{le-leb, lt-leb, leb-true}
 use Rattle.lines.proofs.Bools.{clash}
+use Rattle.refusals.specs.Answer.{Answer, refusal, acceptance, require}
 use Rattle.places.specs.Places.{Pair, startOf, lengthOf, valueAt, cleared}
 use Rattle.places.proofs.Laws.{cleared-length, cleared-drop, cleared-zero}
-use Rattle.tables.specs.File.{File, ac2, drift, suspension, gas, files, hasAxles, sections, room, firstPair, leastPlaces}
+use Rattle.tables.specs.File.{File, ac2, files, hasAxles, sections, room, firstPair, leastPlaces}
 use Rattle.tables.proofs.Axles.{entries-most}
 use Rattle.reading.specs.Fitting.{StartOf}
+use Rattle.files.specs.Files.{AxleCount}
 use Rattle.files.proofs.Pairs.{few-axles}
 use Rattle.due.specs.Booking.{bookingIn}
 use Rattle.places.proofs.Values.{value-length}
 use Rattle.rules.specs.Slices.{goodStem, statedOf, isRead}
 use Rattle.rules.specs.Answer.{isMarked}
 use Rattle.rules.specs.declared.Stated.{Stated}
-use Rattle.sets.specs.Records.{Slices, isGiven, Record, axles, Read, NotRead, Lawful, Fits}
-use Rattle.sets.specs.Judge.{Answer, acceptance, refusal, Step, stops, goes, require, FileRead, SetRead, judgeSlices, accepts, setFiles, settled, judge}
-use Rattle.sets.specs.Demand3.{IsAccepted, markOf, Placed, Returned, Exactly, Unique, IsReturned, Demands}
+use Rattle.sets.specs.Records.{Slices, isGiven, Record, Read, NotRead, Lawful, Fits}
+use Rattle.sets.specs.Judge.{acceptanceOf, FileRead, SetRead, judgeSlices, setFiles, settled, judge}
+use Rattle.sets.specs.declared.Acceptance.{Acceptance}
+use Rattle.sets.specs.Demand3.{IsAccepted, Placed, Returned, Exactly, Unique, IsReturned, Demands}
 use Rattle.sets.proofs.Steps.{require-inv}
 use Rattle.sets.proofs.Places.{pairAt, within-get, used-pair, unused-pair, places-beyond, places-length}
-use Rattle.sets.proofs.Set.{recordOf, SetPassed, slices-sound, counted, no-values, passed-lawful, passed-fits, slices-complete}
+use Rattle.sets.proofs.Set.{recordOf, not-read, no-axles, SetPassed, slices-sound, no-values, passed-lawful, passed-fits, slices-complete}
 
-no-mark : (f : File) → isMarked f [] ≡ false
+-- of a file that is not given the record has no axles and no values, and so no mark is set
+pub not-given : (st : Stated) (r : Record) → Lawful st r → (f : File) → r .given f ≡ false → (r .axles f ≡ 0) × (r .values f ≡ []) × (isMarked f (r .values f) ≡ false)
 unfolding isMarked
-no-mark f = refl
+not-given st r l f g =
+    let q : NotRead r f = not-read f (bookingIn (r .values ac2)) (r .given f) g in
+    let v : r .values f ≡ [] = l .unread f q in
+    (subst (λ (b : Bool). AxleCount b (r .axles f)) (no-axles f (bookingIn (r .values ac2)) (r .given f) q) (l .counts f), v, rw v refl)
 
 -- ---- what is returned
 
@@ -71,8 +78,7 @@ module _ (st : Stated) (s : Slices) (p : List ℕ) (enough : leastPlaces ≤ len
       let v : getD (x .file f .values) i [] ≡ valueAt (s .file f) (getD (pairsOf f) i (0, 0))
       = ap (λ (vs : List (List ℕ)). getD vs i []) (k .values) ∙ List·getD-map (valueAt (s .file f)) (pairsOf f) i (0, 0) in
       record {
-        start = subst (λ (n : ℕ). StartOf (sections f n) (s .file f) i (startOf afterwards (firstPair f + i))) (counted st s x w f q)
-            (subst (λ (n : ℕ). StartOf (sections f (x .file f .axles)) (s .file f) i n) (sym a) (k .starts i h));
+        start = subst (λ (n : ℕ). StartOf (sections f (x .file f .axles)) (s .file f) i n) (sym a) (k .starts i h);
         size = z ∙ sym (value-length (s .file f) (getD (pairsOf f) i (0, 0)) (within-get (s .file f) (pairsOf f) i (k .within) h)) ∙ ap length (sym v);
         there = ap (valueAt (s .file f)) e ∙ sym v;
       }
@@ -83,25 +89,9 @@ module _ (st : Stated) (s : Slices) (p : List ℕ) (enough : leastPlaces ≤ len
       (λ q. placed f i (omega (arith, same-many f)) q)
       (λ q. absurd (omega (arith, same-many f, no-pairs f q)))
 
-  -- of a file without values no mark is set
-  mark-is : (f : File) (b : Bool) → (b ≡ false → x .file f .values ≡ []) → isMarked f (x .file f .values) ≡ (b && isMarked f (x .file f .values))
-  mark-is f true h = refl
-  mark-is f false h = ap (isMarked f) (h refl) ∙ no-mark f
-
-  result-mark : (f : File) → (isGiven (s .file f) ≡ false → NotRead (recordOf s x) f) → isMarked f (x .file f .values) ≡ markOf (recordOf s x) f
-  result-mark f h = mark-is f (isGiven (s .file f)) (λ q. no-values st s x w f (h q))
-
-  marks : accepts x ≡ acceptance (x .file drift .axles) (x .file suspension .axles) (markOf (recordOf s x) drift) (markOf (recordOf s x) suspension) (markOf (recordOf s x) gas)
-  unfolding isRead
-  marks =
-      let d = result-mark drift (λ q. q) in
-      let u = result-mark suspension (λ q. q) in
-      let g = result-mark gas (λ q. q) in
-      cc
-
-  passed-returned : Returned (recordOf s x) s p (accepts x) afterwards
+  passed-returned : Returned (recordOf s x) s p (acceptance (acceptanceOf (λ f. x .file f .axles) (λ f. x .file f .values))) afterwards
   passed-returned = record {
-    counts-and-marks = marks;
+    carries = refl;
     used = placed-all;
     unused = λ f i h r. let e = unused-pair x fit p enough f i (omega (arith, same-many f)) r in (ap (λ (y : Pair). y .0) e, ap (λ (y : Pair). y .1) e);
     beyond = places-beyond x fit p enough;
@@ -120,18 +110,18 @@ module _ (stem : List ℕ) (s : Slices) (p : List ℕ) where
     good : goodStem stem ≡ true
     enough : leastPlaces ≤ length p
     set : SetRead
-    slices : judgeSlices (statedOf stem) s ≡ goes set
+    slices : judgeSlices (statedOf stem) s ≡ acceptance set
 
   passed : IsAccepted (judge stem s p .0) → Passed
   unfolding judge
   passed a = on (leb leastPlaces (length p)) refl (goodStem stem) refl (judgeSlices (statedOf stem) s) refl a
     where
-      on : (b : Bool) → leb leastPlaces (length p) ≡ b → (g : Bool) → goodStem stem ≡ g → (t : Step SetRead) → judgeSlices (statedOf stem) s ≡ t
+      on : (b : Bool) → leb leastPlaces (length p) ≡ b → (g : Bool) → goodStem stem ≡ g → (t : Answer SetRead) → judgeSlices (statedOf stem) s ≡ t
           → IsAccepted (cond b (settled p (require g 2 0 0 t)) (refusal 1 0 0, p) .0) → Passed
       on false e g f t k a = absurd a
       on true e false f t k a = absurd a
-      on true e true f (stops n i l) k a = absurd a
-      on true e true f (goes x) k a = record { good = f; enough = leb-true leastPlaces (length p) e; set = x; slices = k }
+      on true e true f (refusal n i l) k a = absurd a
+      on true e true f (acceptance x) k a = record { good = f; enough = leb-true leastPlaces (length p) e; set = x; slices = k }
 
   exactly-one : Exactly stem s p (judge stem s p .0)
   exactly-one = (
@@ -140,7 +130,7 @@ module _ (stem : List ℕ) (s : Slices) (p : List ℕ) where
         (v .good, v .enough, (recordOf s (v .set), passed-lawful (statedOf stem) s (v .set) w, passed-fits (statedOf stem) s (v .set) w)),
     λ h. let r = h .2 in
         let w = slices-complete (statedOf stem) s (r .0) (r .1) (r .2) in
-        subst (λ (y : Answer × List ℕ). IsAccepted (y .0)) (sym (judged stem s p (h .0) (h .1) ∙ ap (settled p) (w .1))) tt,
+        subst (λ (y : Answer Acceptance × List ℕ). IsAccepted (y .0)) (sym (judged stem s p (h .0) (h .1) ∙ ap (settled p) (w .1))) tt,
   )
 
   unique-record : Unique stem s
@@ -156,8 +146,8 @@ module _ (stem : List ℕ) (s : Slices) (p : List ℕ) where
       let w = slices-complete (statedOf stem) s r l f in
       let x : SetRead = w .0 in
       let t = slices-sound (statedOf stem) s x (w .1) in
-      subst (λ (y : Answer × List ℕ). Returned r s p (y .0) (y .1)) (sym (judged stem s p (v .good) (v .enough) ∙ ap (settled p) (w .1)))
-      (subst (λ (q : Record). Returned q s p (accepts x) (setFiles files x (cleared leastPlaces p))) (w .2) (passed-returned (statedOf stem) s p (v .enough) x t))
+      subst (λ (y : Answer Acceptance × List ℕ). Returned r s p (y .0) (y .1)) (sym (judged stem s p (v .good) (v .enough) ∙ ap (settled p) (w .1)))
+      (subst (λ (q : Record). Returned q s p (acceptance (acceptanceOf (λ f. x .file f .axles) (λ f. x .file f .values))) (setFiles files x (cleared leastPlaces p))) (w .2) (passed-returned (statedOf stem) s p (v .enough) x t))
 
 -- ---- what a judging leaves in the places
 
@@ -168,12 +158,12 @@ module _ (P : List ℕ → List ℕ → Type 0) (same : (p : List ℕ) → P p p
   unfolding judge
   of-places stem s p = on (leb leastPlaces (length p)) refl
     where
-      step : Step SetRead
+      step : Answer SetRead
       step = require (goodStem stem) 2 0 0 (judgeSlices (statedOf stem) s)
 
-      after : (t : Step SetRead) → step ≡ t → leastPlaces ≤ length p → P (settled p t .1) p
-      after (stops k f l) e h = cleared-so p h
-      after (goes x) e h =
+      after : (t : Answer SetRead) → step ≡ t → leastPlaces ≤ length p → P (settled p t .1) p
+      after (refusal k f l) e h = cleared-so p h
+      after (acceptance x) e h =
           let w = slices-sound (statedOf stem) s x (require-inv (goodStem stem) 2 0 0 (judgeSlices (statedOf stem) s) x e .1) in
           filled-so p h x (fit (statedOf stem) s p h x w)
 
@@ -190,12 +180,12 @@ module _ (stem : List ℕ) (s : Slices) (p : List ℕ) where
   unfolding judge
   zero-after n l j h = rw (le-leb leastPlaces (length p) l) (after step (rw (le-leb leastPlaces (length p) l) at n))
     where
-      step : Step SetRead
+      step : Answer SetRead
       step = require (goodStem stem) 2 0 0 (judgeSlices (statedOf stem) s)
 
-      after : (t : Step SetRead) → ¬ IsAccepted (settled p t .0) → getD (settled p t .1) j 0 ≡ 0
-      after (stops a b c) n = cleared-zero leastPlaces p j h
-      after (goes x) n = absurd (n tt)
+      after : (t : Answer SetRead) → ¬ IsAccepted (settled p t .0) → getD (settled p t .1) j 0 ≡ 0
+      after (refusal a b c) n = cleared-zero leastPlaces p j h
+      after (acceptance x) n = absurd (n tt)
 
 pub theorem : Demands
 theorem = record {

@@ -2,29 +2,26 @@
 use Prim.Native.Nat.{ℕ, _+_, _≤_, _<_}
 use mathlib.Core.Path.{_≡_}
 use mathlib.Core.Logic.{_↔_}
-use mathlib.Core.Bool.{Bool, true, _&&_}
+use mathlib.Core.Bool.{true}
 use mathlib.Core.List.{List, []}
 use lib.ListN.{length, getD, drop}
+use Rattle.refusals.specs.Answer.{Answer, refusal, acceptance}
 use Rattle.places.specs.Places.{startOf, lengthOf, valueAt}
-use Rattle.tables.specs.File.{File, drift, suspension, gas, sections, room, firstPair, leastPlaces}
+use Rattle.tables.specs.File.{File, sections, room, firstPair, leastPlaces}
 use Rattle.reading.specs.Fitting.{StartOf}
 use Rattle.rules.specs.Slices.{goodStem, statedOf}
-use Rattle.rules.specs.Answer.{isMarked}
-use Rattle.sets.specs.Records.{Slices, Record, axles, Lawful, Fits}
-use Rattle.sets.specs.Judge.{Answer, acceptance, refusal, judge}
+use Rattle.sets.specs.Records.{Slices, Record, Lawful, Fits}
+use Rattle.sets.specs.Judge.{acceptanceOf, judge}
+use Rattle.sets.specs.declared.Acceptance.{Acceptance}
 
-abbrev pub IsAccepted : Answer → Type 0
-IsAccepted (acceptance m n x y z) = Unit {0}
+abbrev pub IsAccepted : Answer Acceptance → Type 0
+IsAccepted (acceptance a) = Unit {0}
 IsAccepted (refusal k f l) = ⊥
-
--- a mark is "set exactly when it is given with CodErrore filled"
-abbrev pub markOf : Record → File → Bool
-markOf r f = r .given f && isMarked f (r .values f)
 
 -- "for each entry start and length of its value in its file": entry i of file f
 pub record Placed (r : Record) (s : Slices) (places : List ℕ) (f : File) (i : ℕ) : Type 0 where
   -- "A start is the place of the byte after `=`"
-  pub start : StartOf (sections f (axles r f)) (s .file f) i (startOf places (firstPair f + i))
+  pub start : StartOf (sections f (r .axles f)) (s .file f) i (startOf places (firstPair f + i))
   pub size : lengthOf places (firstPair f + i) ≡ length (getD (r .values f) i [])
   pub there : valueAt (s .file f) (startOf places (firstPair f + i), lengthOf places (firstPair f + i)) ≡ getD (r .values f) i []
 
@@ -33,8 +30,9 @@ abbrev pub IsZero : List ℕ → File → ℕ → Type 0
 IsZero places f i = (startOf places (firstPair f + i) ≡ 0) × (lengthOf places (firstPair f + i) ≡ 0)
 
 -- answer and places are those of the record r
-pub record Returned (r : Record) (s : Slices) (before : List ℕ) (answer : Answer) (after : List ℕ) : Type 0 where
-  pub counts-and-marks : answer ≡ acceptance (r .driftAxles) (r .suspensionAxles) (markOf r drift) (markOf r suspension) (markOf r gas)
+pub record Returned (r : Record) (s : Slices) (before : List ℕ) (answer : Answer Acceptance) (after : List ℕ) : Type 0 where
+  -- its axle counts and marks
+  pub carries : answer ≡ acceptance (acceptanceOf (r .axles) (r .values))
   pub used : (f : File) (i : ℕ) → i < length (r .values f) → Placed r s after f i
   -- "Unused pairs (of a file not read or an axle not there) are 0"
   pub unused : (f : File) (i : ℕ) → length (r .values f) ≤ i → i < room f → IsZero after f i
@@ -47,7 +45,7 @@ abbrev pub HasRecord : List ℕ → Slices → Type 0
 HasRecord stem s = (r : Record) × Lawful (statedOf stem) r × Fits r s
 
 -- (a) "given a good stem and enough places, a set is accepted exactly when some lawful record fits it"; without these it is not accepted
-abbrev pub Exactly : List ℕ → Slices → List ℕ → Answer → Type 0
+abbrev pub Exactly : List ℕ → Slices → List ℕ → Answer Acceptance → Type 0
 Exactly stem s before answer = IsAccepted answer ↔ ((goodStem stem ≡ true) × (leastPlaces ≤ length before) × HasRecord stem s)
 
 -- (b) any two lawful records that fit it are the same
@@ -55,11 +53,11 @@ abbrev pub Unique : List ℕ → Slices → Type 0
 Unique stem s = (q r : Record) → Lawful (statedOf stem) q → Fits q s → Lawful (statedOf stem) r → Fits r s → q ≡ r
 
 -- (c) on acceptance answer and places are those of the lawful record that fits
-abbrev pub IsReturned : List ℕ → Slices → List ℕ → Answer → List ℕ → Type 0
+abbrev pub IsReturned : List ℕ → Slices → List ℕ → Answer Acceptance → List ℕ → Type 0
 IsReturned stem s before answer after = IsAccepted answer → (r : Record) → Lawful (statedOf stem) r → Fits r s → Returned r s before answer after
 
 -- demand 3 of an answer and of the places before and after it
-pub record Demand3 (stem : List ℕ) (s : Slices) (before : List ℕ) (answer : Answer) (after : List ℕ) : Type 0 where
+pub record Demand3 (stem : List ℕ) (s : Slices) (before : List ℕ) (answer : Answer Acceptance) (after : List ℕ) : Type 0 where
   pub exactly : Exactly stem s before answer
   pub unique : Unique stem s
   pub returned : IsReturned stem s before answer after

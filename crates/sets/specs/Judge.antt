@@ -6,6 +6,7 @@ use lib.Dec.{leb, ltb}
 use lib.ListN.{length, getD}
 use Rattle.places.specs.Places.{Pair, valueAt, setPairs, cleared}
 use Rattle.refusals.specs.Refusals.{numberOf}
+use Rattle.refusals.specs.Answer.{Answer, refusal, acceptance, refusalOf, require, followed, givenBy}
 use Rattle.tables.specs.File.{File, ac2, acc, drift, suspension, gas, files, fileNumber, firstPair, leastPlaces}
 use Rattle.reading.specs.Reading.{Reading, refused, read}
 use Rattle.files.specs.Files.{readFile, axlesOf}
@@ -24,35 +25,27 @@ use Rattle.serial.specs.Reading.{readAnswer, addressIn, sevenIn}
 use Rattle.serial.specs.declared.AnswerRead.{AnswerRead}
 use Rattle.serial.specs.declared.AnswerRead.the-variants.{Malformed, Fields}
 use Rattle.sets.specs.Records.{Slices, isGiven}
+use Rattle.sets.specs.declared.Acceptance.{Acceptance}
 use Rattle.sets.specs.declared.SetAnswer.{SetAnswer}
 use Rattle.sets.specs.declared.SetAnswer.the-variants.{Accepted, Refused}
 
 -- ---- the answer
 
--- "The answer is acceptance, with two axle counts .. and a mark per result file .., or a refusal that carries its number, file and line"
-pub data Answer : Type 0 where
-  acceptance : (driftAxles suspensionAxles : ℕ) → (driftMark suspensionMark gasMark : Bool) → Answer
-  refusal : (number file line : ℕ) → Answer
+-- the code's acceptance is the definition's; a refusal by this paper's number
+abbrev pub answerIs : SetAnswer → Answer Acceptance
+answerIs (Accepted a) = acceptance a
+answerIs (Refused x) = refusalOf x
 
--- this paper's number and values for each case of the code's answer
-abbrev pub answerIs : SetAnswer → Answer
-answerIs (Accepted a) = acceptance (a .driftaxles) (a .suspensionaxles) (a .driftmark) (a .suspensionmark) (a .gasmark)
-answerIs (Refused x) = refusal (numberOf (x .kind)) (x .file) (x .line)
-
--- ---- steps of the judge: what a part of the set gives where it passes, or the refusal
-
-pub data Step (A : Type 0) : Type 0 where
-  stops : (number file line : ℕ) → Step A
-  goes : A → Step A
-
--- where the test fails, this refusal
-abbrev pub require : {A : Type 0} → Bool → ℕ → ℕ → ℕ → Step A → Step A
-require b number file line next = cond b next (stops number file line)
-
--- one part of the set after another
-abbrev pub followed : {A B : Type 0} → Step A → (A → Step B) → Step B
-followed (stops k f l) next = stops k f l
-followed (goes a) next = next a
+-- "acceptance, with two axle counts (0 for a file not given) and a mark per result file, set exactly when it is given with CodErrore
+-- filled": from the files' axle counts and values. Of a file that is not given no value is there, so no mark is set (`not-given`).
+abbrev pub acceptanceOf : (File → ℕ) → (File → List (List ℕ)) → Acceptance
+acceptanceOf axles values = record {
+  driftaxles = axles drift;
+  suspensionaxles = axles suspension;
+  driftmark = isMarked drift (values drift);
+  suspensionmark = isMarked suspension (values suspension);
+  gasmark = isMarked gas (values gas);
+}
 
 -- ---- the checks of a file that is read
 
@@ -80,7 +73,7 @@ firstFailed [] = passed
 firstFailed (passed ∷ cs) = firstFailed cs
 firstFailed (failed k i ∷ cs) = failed k i
 
--- ---- slices 1 to 5
+-- ---- one file
 
 -- what a file gives: of one that is not read nothing
 pub record FileRead : Type 0 where
@@ -95,78 +88,85 @@ notRead = record { axles = 0; pairs = []; values = [] }
 abbrev pub fileRead : File → List ℕ → ℕ → List Pair → FileRead
 fileRead f s c ps = record { axles = axlesOf f c; pairs = ps; values = map (valueAt s) ps }
 
--- AC2's values; while AC2 itself is judged its own
-abbrev pub booked : File → List (List ℕ) → List (List ℕ) → List (List ℕ)
-booked ac2 a own = own
-booked acc a own = a
-booked drift a own = a
-booked suspension a own = a
-booked gas a own = a
+abbrev pub checkedFile : File → FileRead → List ℕ → FileCheck → Answer FileRead
+checkedFile f g lines passed = acceptance g
+checkedFile f g lines (failed k i) = refusal k (fileNumber f) (getD lines i 0)
 
-abbrev pub checkedFile : File → FileRead → List ℕ → FileCheck → Step FileRead
-checkedFile f g lines passed = goes g
-checkedFile f g lines (failed k i) = stops k (fileNumber f) (getD lines i 0)
+-- after reading, the checks; `booking` gives AC2's values from the file's own
+abbrev pub judgeRead : File → (List (List ℕ) → List (List ℕ)) → FileRead → List ℕ → Answer FileRead
+judgeRead f booking g lines = checkedFile f g lines (firstFailed (fileChecks f (booking (g .values)) (g .values) (g .axles)))
 
--- after reading, the checks
-abbrev pub judgeRead : File → List (List ℕ) → FileRead → List ℕ → Step FileRead
-judgeRead f a g lines = checkedFile f g lines (firstFailed (fileChecks f (booked f a (g .values)) (g .values) (g .axles)))
-
-abbrev pub judgeReading : File → List (List ℕ) → List ℕ → Reading → Step FileRead
-judgeReading f a s (refused k l) = stops k (fileNumber f) l
-judgeReading f a s (read c ps ls) = judgeRead f a (fileRead f s c ps) ls
+abbrev pub judgeReading : File → (List (List ℕ) → List (List ℕ)) → List ℕ → Reading → Answer FileRead
+judgeReading f booking s (refused k l) = refusal k (fileNumber f) l
+judgeReading f booking s (read c ps ls) = judgeRead f booking (fileRead f s c ps) ls
 
 -- 3 to 9, then the checks
-unfoldable pub judgeText : File → List (List ℕ) → List ℕ → Step FileRead
-judgeText f a s = judgeReading f a s (readFile f s)
+unfoldable pub judgeText : File → (List (List ℕ) → List (List ℕ)) → List ℕ → Answer FileRead
+judgeText f booking s = judgeReading f booking s (readFile f s)
 
--- 11, then, of a file that is read, the rest; AC2's values a are asked of the other files only
-unfoldable pub judgeFile : File → Stated → List (List ℕ) → List ℕ → Step FileRead
+-- AC2: 11, then the rest, by its own values
+unfoldable pub judgeBooking : List ℕ → Answer FileRead
+judgeBooking s = require (isGiven s) 11 (fileNumber ac2) 0 (judgeText ac2 (λ own. own) s)
+
+-- a file beside AC2's values a: 11, then, where it is read, the rest
+unfoldable pub judgeFile : File → Stated → List (List ℕ) → List ℕ → Answer FileRead
 judgeFile f stated a s =
     require (sliceRight f stated (bookingIn a) (isGiven s)) 11 (fileNumber f) 0
-    (cond (isRead f (bookingIn a) (isGiven s)) (judgeText f a s) (goes notRead))
+    (cond (isRead f (bookingIn a) (isGiven s)) (judgeText f (λ own. a) s) (acceptance notRead))
 
 -- ---- slice 6
 
 -- 14, 15
-abbrev pub judgeFields : List (List ℕ) → List ℕ → AnswerRead → Step (List ℕ)
-judgeFields g s Malformed = stops 14 6 0
-judgeFields g s (Fields e) = require (sameFields (sevenIn s e) (sevenOf g)) 15 6 0 (goes (addressIn s e))
+abbrev pub judgeFields : List (List ℕ) → List ℕ → AnswerRead → Answer (List ℕ)
+judgeFields g s Malformed = refusal 14 6 0
+judgeFields g s (Fields e) = require (sameFields (sevenIn s e) (sevenOf g)) 15 6 0 (acceptance (addressIn s e))
 
 -- 11, 14, 15; what it gives is the address
-unfoldable pub judgeAnswer : Bool → List (List ℕ) → List ℕ → Step (List ℕ)
+unfoldable pub judgeAnswer : Bool → List (List ℕ) → List ℕ → Answer (List ℕ)
 judgeAnswer gasGiven g s =
     require (answerRight gasGiven g (isGiven s)) 11 6 0
-    (cond (isGiven s) (judgeFields g s (readAnswer s)) (goes []))
+    (cond (isGiven s) (judgeFields g s (readAnswer s)) (acceptance []))
 
 -- ---- the set
 
+-- what the slices of a set give
 pub record SetRead : Type 0 where
   pub file : File → FileRead
   pub address : List ℕ
 
-abbrev pub eachFile : FileRead → FileRead → FileRead → FileRead → FileRead → File → FileRead
-eachFile a o d u g ac2 = a
-eachFile a o d u g acc = o
-eachFile a o d u g drift = d
-eachFile a o d u g suspension = u
-eachFile a o d u g gas = g
+-- each slice by itself, AC2's values being a
+module _ (stated : Stated) (s : Slices) (a : List (List ℕ)) where
+  abbrev pub fileStep : File → Answer FileRead
+  fileStep f = judgeFile f stated a (s .file f)
 
--- "slices 1 to 6"
-unfoldable pub judgeSlices : Stated → Slices → Step SetRead
+  abbrev pub fileGiven : File → FileRead
+  fileGiven f = givenBy notRead (fileStep f)
+
+  abbrev pub answerStep : Answer (List ℕ)
+  answerStep = judgeAnswer (isGiven (s .file gas)) (fileGiven gas .values) (s .answer)
+
+  abbrev pub setRead : SetRead
+  setRead = record { file = fileGiven; address = givenBy [] answerStep }
+
+-- a slice after AC2
+pub data Slice : Type 0 where
+  fileSlice : File → Slice
+  answerSlice : Slice
+
+-- "slices 1 to 6": those after AC2 in their order
+abbrev pub laterSlices : List Slice
+laterSlices = fileSlice acc ∷ fileSlice drift ∷ fileSlice suspension ∷ fileSlice gas ∷ answerSlice ∷ []
+
+-- the first of these slices that is refused; where none is, x
+abbrev pub eachAccepted : {A : Type 0} → Stated → Slices → List (List ℕ) → List Slice → A → Answer A
+eachAccepted stated s a [] x = acceptance x
+eachAccepted stated s a (fileSlice f ∷ cs) x = followed (fileStep stated s a f) (λ g. eachAccepted stated s a cs x)
+eachAccepted stated s a (answerSlice ∷ cs) x = followed (answerStep stated s a) (λ v. eachAccepted stated s a cs x)
+
+-- AC2 first, then the others by its values
+unfoldable pub judgeSlices : Stated → Slices → Answer SetRead
 judgeSlices stated s =
-    followed (judgeFile ac2 stated [] (s .file ac2)) (λ a.
-    followed (judgeFile acc stated (a .values) (s .file acc)) (λ o.
-    followed (judgeFile drift stated (a .values) (s .file drift)) (λ d.
-    followed (judgeFile suspension stated (a .values) (s .file suspension)) (λ u.
-    followed (judgeFile gas stated (a .values) (s .file gas)) (λ g.
-    followed (judgeAnswer (isGiven (s .file gas)) (g .values) (s .answer)) (λ v.
-    goes (record { file = eachFile a o d u g; address = v })))))))
-
--- of a file that is not given no value is there, so no mark is set
-abbrev pub accepts : SetRead → Answer
-accepts x =
-    acceptance (x .file drift .axles) (x .file suspension .axles)
-    (isMarked drift (x .file drift .values)) (isMarked suspension (x .file suspension .values)) (isMarked gas (x .file gas .values))
+    followed (judgeBooking (s .file ac2)) (λ b. eachAccepted stated s (b .values) laterSlices (setRead stated s (b .values)))
 
 -- the pairs of these files, each from its first pair on
 abbrev pub setFiles : List File → SetRead → List ℕ → List ℕ
@@ -174,12 +174,12 @@ setFiles [] x p = p
 setFiles (f ∷ fs) x p = setFiles fs x (setPairs (firstPair f) (x .file f .pairs) p)
 
 -- "Unused pairs .. are 0; numbers past 278 stay"; after a refusal all pairs are 0
-abbrev pub settled : List ℕ → Step SetRead → Answer × List ℕ
-settled p (stops k f l) = (refusal k f l, cleared leastPlaces p)
-settled p (goes x) = (accepts x, setFiles files x (cleared leastPlaces p))
+abbrev pub settled : List ℕ → Answer SetRead → Answer Acceptance × List ℕ
+settled p (refusal k f l) = (refusal k f l, cleared leastPlaces p)
+settled p (acceptance x) = (acceptance (acceptanceOf (λ f. x .file f .axles) (λ f. x .file f .values)), setFiles files x (cleared leastPlaces p))
 
 -- "Order: 1, 2, then slices 1 to 6"; with 1 the places stay
-unfoldable pub judge : List ℕ → Slices → List ℕ → Answer × List ℕ
+unfoldable pub judge : List ℕ → Slices → List ℕ → Answer Acceptance × List ℕ
 judge stem s p =
     cond (leb leastPlaces (length p))
     (settled p (require (goodStem stem) 2 0 0 (judgeSlices (statedOf stem) s)))

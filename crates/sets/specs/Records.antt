@@ -1,11 +1,11 @@
 -- Records of a set: when one is lawful, and when it fits a set (01, Judging: "A lawful record ..").
 use Prim.Native.Nat.{ℕ, _<_}
 use mathlib.Core.Path.{_≡_}
-use mathlib.Core.Bool.{Bool, true, false}
+use mathlib.Core.Bool.{Bool, true, false, _&&_}
 use mathlib.Core.List.{List, []}
 use lib.Dec.{ltb}
 use lib.ListN.{length, getD}
-use Rattle.tables.specs.File.{File, ac2, acc, drift, suspension, gas, sections, entries}
+use Rattle.tables.specs.File.{File, ac2, acc, drift, suspension, gas, hasAxles, sections, entries}
 use Rattle.reading.specs.Fitting.{FitsText, EachKept}
 use Rattle.files.specs.Files.{AxleCount}
 use Rattle.due.specs.Booking.{bookingIn}
@@ -25,6 +25,18 @@ pub record Slices : Type 0 where
   pub file : File → List ℕ
   pub answer : List ℕ
 
+-- what there is for each file, in their order
+abbrev pub eachFile : {A : Type 0} → A → A → A → A → A → File → A
+eachFile a o d u g ac2 = a
+eachFile a o d u g acc = o
+eachFile a o d u g drift = d
+eachFile a o d u g suspension = u
+eachFile a o d u g gas = g
+
+-- "1 new booking (AC2), 2 old booking (ACC), 3 drift, 4 suspension, 5 gas, 6 the analyser's identification answer"
+abbrev pub slicesOf : List ℕ → List ℕ → List ℕ → List ℕ → List ℕ → List ℕ → Slices
+slicesOf a o d u g i = record { file = eachFile a o d u g; answer = i }
+
 -- "An empty slice means "not given""
 abbrev pub isGiven : List ℕ → Bool
 isGiven s = ltb 0 (length s)
@@ -34,18 +46,10 @@ isGiven s = ltb 0 (length s)
 pub record Record : Type 0 where
   pub given : File → Bool
   pub answerGiven : Bool
-  pub driftAxles : ℕ
-  pub suspensionAxles : ℕ
+  pub axles : File → ℕ
   -- in entry order
   pub values : File → List (List ℕ)
   pub address : List ℕ
-
-abbrev pub axles : Record → File → ℕ
-axles r ac2 = 0
-axles r acc = 0
-axles r drift = r .driftAxles
-axles r suspension = r .suspensionAxles
-axles r gas = 0
 
 -- "each file that is read (every given one, but ACC with L)"
 abbrev pub Read : Record → File → Type 0
@@ -70,14 +74,13 @@ pub record Lawful (stated : Stated) (r : Record) : Type 0 where
   -- "given slices, with row 11's clause on the stem"
   pub slices : (f : File) → sliceRight f stated (bookingIn (r .values ac2)) (r .given f) ≡ true
   pub answer : answerRight (r .given gas) (r .values gas) (r .answerGiven) ≡ true
-  -- "axle counts (1 to 9 for a file given)", "0 for a file not given"
-  pub driftCount : AxleCount (r .given drift) (r .driftAxles)
-  pub suspensionCount : AxleCount (r .given suspension) (r .suspensionAxles)
+  -- "axle counts (1 to 9 for a file given)", "0 for a file not given", and for one without axles
+  pub counts : (f : File) → AxleCount (hasAxles f && r .given f) (r .axles f)
   -- "one value for each entry", and "every rule on kinds"
-  pub kinds : (f : File) → Read r f → EachKept (entries f (axles r f)) (r .values f)
+  pub kinds : (f : File) → Read r f → EachKept (entries f (r .axles f)) (r .values f)
   pub dueEntries : (f : File) → Read r f → EachAsDue f (r .values ac2) (r .values f)
   -- "bookings, Differenza%"
-  pub rules : (f : File) → Read r f → allHold (rulesOf f (r .values ac2) (r .values f) (axles r f)) ≡ true
+  pub rules : (f : File) → Read r f → allHold (rulesOf f (r .values ac2) (r .values f) (r .axles f)) ≡ true
   -- values are those of files that are read
   pub unread : (f : File) → NotRead r f → r .values f ≡ []
   pub address : Address (r .answerGiven) (r .address)
@@ -89,6 +92,6 @@ pub record Fits (r : Record) (s : Slices) : Type 0 where
   pub given : (f : File) → r .given f ≡ isGiven (s .file f)
   pub answerGiven : r .answerGiven ≡ isGiven (s .answer)
   -- "Its lines, for each file that is read" are that file
-  pub files : (f : File) → Read r f → FitsText (sections f (axles r f)) (r .values f) (s .file f)
+  pub files : (f : File) → Read r f → FitsText (sections f (r .axles f)) (r .values f) (s .file f)
   -- "Its identification, with slice 6 only, is the answer above with that address and gas's seven values"
   pub identification : r .answerGiven ≡ true → s .answer ≡ answerOf (r .address) (sevenOf (r .values gas))

@@ -1,15 +1,15 @@
 -- `judge::judge_answer` meets its contract: 11, then, of an answer that is given, its form and its seven fields. Assumes nothing.
 use borrow.Author.Needs.{needs}
 use mathlib.Core.Path.{sym, _∙_}
-use borrow.Author.Tests.{not-true, not-false}
+use borrow.Author.Tests.{not-true, not-false, ltb-true}
 use denote.Ref.{now}
 use Rattle.serial.proofs.Exact.{read-sound}
-use Rattle.judge.proofs.Answer.{answer-wrong, answer-none, answer-form, answer-differs, answer-same}
+use Rattle.judge.proofs.Answer.{answer-wrong, answer-none, gas-given, answer-form, answer-differs, answer-same}
 use Rattle.judge.proofs.judge_answer.Statement.{statement}
 use Rattle.judge.proofs.judge_answer.Tie as tie
 
 answer-right-requires : tie.Need-answer-right-requires
-answer-right-requires c κs = search needs
+answer-right-requires c κs = c .before .before .before .pre
 
 refuse-answer-requires : tie.Need-refuse-answer-requires
 refuse-answer-requires c κs = search needs
@@ -38,8 +38,10 @@ enum-known-ends c = search needs
 
 same-fields-requires : tie.Need-same-fields-requires
 same-fields-requires c κs =
-    let x = c .before .before .before .before .before .before .before .before .before .before in
-    (read-sound (now (x .args .identification)) _ (sym (c .before .before .before .read-answer .ensures) ∙ c .before .ends .given .1) .ordered, x .pre)
+    let x = c .before .before .before .before .before .before .before .before .before .before in (
+      read-sound (now (x .args .identification)) _ (sym (c .before .before .before .read-answer .ensures) ∙ c .before .ends .given .1) .ordered,
+      x .pre (ltb-true 0 _ (gas-given (now (x .args .gas)) (now (x .args .identification)) (now (x .args .places)) (sym (c .before .before .before .before .before .before .answer-right .ensures) ∙ not-false _ (c .before .before .before .before .before .if1 .left)) (not-false _ (c .before .before .before .before .if2 .left)))),
+    )
 
 refuse-answer-requires-3 : tie.Need-refuse-answer-requires-3
 refuse-answer-requires-3 c κs = search needs

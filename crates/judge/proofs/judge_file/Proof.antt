@@ -12,7 +12,7 @@ slice-right-requires c κs = search needs
 returns : tie.Need-returns
 returns c =
     let x = c .before .before .before .before .before in
-    file-wrong (x .args .file) (x .args .stated) (now (x .args .booking)) (now (x .args .text)) (now (x .args .places)) (x .pre .0) _ (x .pre .1) _ (c .before .slice-right .ensures) (not-true _ (c .if1 .taken))
+    file-wrong (x .args .file) (x .args .stated) (x .args .b) (now (x .args .booking)) (now (x .args .text)) (now (x .args .places)) (x .pre) _ (c .before .slice-right .ensures) (not-true _ (c .if1 .taken))
 
 is-read-requires : tie.Need-is-read-requires
 is-read-requires c κs = search needs
@@ -20,7 +20,7 @@ is-read-requires c κs = search needs
 returns-2 : tie.Need-returns-2
 returns-2 c =
     let x = c .before .before .before .before .before .before .before in
-    file-unread (x .args .file) (x .args .stated) (now (x .args .booking)) (now (x .args .text)) (now (x .args .places)) (x .pre .0) _ (x .pre .1) _ (c .before .before .before .slice-right .ensures) (not-false _ (c .before .before .if1 .left)) _ (c .before .is-read .ensures) (not-true _ (c .if2 .taken))
+    file-unread (x .args .file) (x .args .stated) (x .args .b) (now (x .args .booking)) (now (x .args .text)) (now (x .args .places)) (x .pre) _ (c .before .before .before .slice-right .ensures) (not-false _ (c .before .before .if1 .left)) _ (c .before .is-read .ensures) (not-true _ (c .if2 .taken))
 
 slice-aggregate-judge-text : tie.Need-slice-aggregate-judge-text
 slice-aggregate-judge-text c = search needs
@@ -35,7 +35,7 @@ returns-3 : tie.Need-returns-3
 returns-3 c =
     let x = c .before .before .before .before .before .before .before .before .before .before .before .before .before in
     let t = c .before .before .before in
-    file-read (x .args .file) (x .args .stated) (now (x .args .booking)) (now (x .args .text)) (now (x .args .places)) (x .pre .0) _ (x .pre .1) _ (c .before .before .before .before .before .before .before .before .before .slice-right .ensures) (not-false _ (c .before .before .before .before .before .before .before .before .if1 .left)) _ (c .before .before .before .before .before .before .before .is-read .ensures) (not-false _ (c .before .before .before .before .before .before .if2 .left)) (t .judge-text .result) (t .judge-text .last .1 .1 .1 .1 .0) (t .judge-text .ensures)
+    file-read (x .args .file) (x .args .stated) (x .args .b) (now (x .args .booking)) (now (x .args .text)) (now (x .args .places)) (x .pre) _ (c .before .before .before .before .before .before .before .before .before .slice-right .ensures) (not-false _ (c .before .before .before .before .before .before .before .before .if1 .left)) _ (c .before .before .before .before .before .before .before .is-read .ensures) (not-false _ (c .before .before .before .before .before .before .if2 .left)) (t .judge-text .result) (t .judge-text .last .1 .1 .1 .1 .0) (t .judge-text .ensures)
 
 pub judge-file-spec : {M : Type 1} → statement M
 judge-file-spec =

@@ -3,8 +3,8 @@ use borrow.Author.Needs.{needs}
 use mathlib.Core.Path.{sym, _∙_}
 use borrow.Author.Tests.{not-true, not-false}
 use denote.Ref.{now}
-use Rattle.judge.specs.Judged.{slicesOf}
-use Rattle.judge.proofs.Judged.{set-short, all-zero, set-stem, set-refused, set-accepted}
+use Rattle.sets.specs.Records.{slicesOf}
+use Rattle.judge.proofs.Judged.{set-short, still-enough, set-stem, set-refused, set-accepted}
 use Rattle.judge.proofs.judge_set.Statement.{statement}
 use Rattle.judge.proofs.judge_set.Tie as tie
 
@@ -36,7 +36,7 @@ stated-of-requires c κs = search needs
 judge-slices-requires : tie.Need-judge-slices-requires
 judge-slices-requires c κs =
     let x = c .before .before .before .before .before .before .before .before .before .before .before .before .before .before .before .before .before .before in
-    all-zero (now (x .args .stem)) (slicesOf (now (x .args .ac2)) (now (x .args .acc)) (now (x .args .drift)) (now (x .args .suspension)) (now (x .args .gas)) (now (x .args .identification))) (now (x .args .places)) _ (c .before .before .before .before .before .before .before .before .before .least-places .ensures) (c .before .before .before .before .before .before .before .before .if1 .left) _ (c .before .before .before .before .before .before .clear .ensures)
+    still-enough (now (x .args .stem)) (slicesOf (now (x .args .ac2)) (now (x .args .acc)) (now (x .args .drift)) (now (x .args .suspension)) (now (x .args .gas)) (now (x .args .identification))) (now (x .args .places)) _ (c .before .before .before .before .before .before .before .before .before .least-places .ensures) (c .before .before .before .before .before .before .before .before .if1 .left) _ (c .before .before .before .before .before .before .clear .ensures)
 
 enum-known-answer : tie.Need-enum-known-answer
 enum-known-answer c = search needs

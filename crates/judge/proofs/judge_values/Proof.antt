@@ -1,72 +1,67 @@
--- `judge::judge_values` meets its contract: 10 over all entries, then 12 or 13, then the mark. Assumes nothing.
+-- `judge::judge_values` meets its contract: 10 over all entries, then 12 or 13, then what is kept. Assumes nothing.
 use borrow.Author.Needs.{needs}
 use native.Mathlib.Omega.{arith}
 use mathlib.Core.Path.{sym}
 use lib.Seq.{length-take-le}
 use denote.Ref.{now}
-use Rattle.judge.proofs.Values.{conditions-ready, rows-enough, count-is, count-fits, pairs-ready, fixed-few, axles-are, axles-few, number-held, broken-ready, due-is, values-due, values-broken, values-pass}
+use Rattle.judge.proofs.Values.{conditions-ready, rows-enough, count-is, count-fits, pairs-ready, fixed-few, axles-are, kept-ready, broken-ready, due-is, values-due, values-broken, values-pass}
 use Rattle.judge.proofs.judge_values.Statement.{statement}
 use Rattle.judge.proofs.judge_values.Tie as tie
 
-booking-for-requires : tie.Need-booking-for-requires
-booking-for-requires c κs =
-    let x = c .before .before .before .before in
-    (x .pre .0 .held, x .pre .1)
-
 conditions-of-requires : tie.Need-conditions-of-requires
 conditions-of-requires c κs =
-    let x = c .before .before .before .before .before in
-    conditions-ready (x .args .file) (x .args .sections) (now (x .args .booking)) (now (x .args .text)) (now (x .args .places)) (now (x .args .lines)) (x .pre .0)
+    let x = c .before .before .before .before in
+    conditions-ready (x .args .file) (x .args .sections) (x .args .b) (now (x .args .booking)) (now (x .args .text)) (now (x .args .places)) (now (x .args .lines)) (x .pre)
 
 rows-before-requires : tie.Need-rows-before-requires
 rows-before-requires c κs = search needs
 
 sub-count : tie.Need-sub-count
 sub-count c =
-    let x = c .before .before .before .before .before .before .before in
-    rows-enough (x .args .file) (x .args .sections) (now (x .args .booking)) (now (x .args .text)) (now (x .args .places)) (now (x .args .lines)) (x .pre .0) _ (c .rows-before .ensures)
+    let x = c .before .before .before .before .before .before in
+    rows-enough (x .args .file) (x .args .sections) (x .args .b) (now (x .args .booking)) (now (x .args .text)) (now (x .args .places)) (now (x .args .lines)) (x .pre) _ (c .rows-before .ensures)
 
 first-pair-requires : tie.Need-first-pair-requires
 first-pair-requires c κs = search needs
 
 first-not-as-due-requires : tie.Need-first-not-as-due-requires
 first-not-as-due-requires c κs =
-    let x = c .before .before .before .before .before .before .before .before in
-    pairs-ready (x .args .file) (x .args .sections) (now (x .args .booking)) (now (x .args .text)) (now (x .args .places)) (now (x .args .lines)) (x .pre .0) _ (c .before .rows-before .ensures) _ (c .first-pair .ensures)
+    let x = c .before .before .before .before .before .before .before in
+    pairs-ready (x .args .file) (x .args .sections) (x .args .b) (now (x .args .booking)) (now (x .args .text)) (now (x .args .places)) (now (x .args .lines)) (x .pre) _ (c .before .rows-before .ensures) _ (c .first-pair .ensures)
 
 slice-aggregate-line-of : tie.Need-slice-aggregate-line-of
 slice-aggregate-line-of c =
-    let x = c .before .before .before .before .before .before .before .before .before .before .before in
-    sym (length-take-le _ (now (x .args .lines)) (count-fits (x .args .file) (x .args .sections) (now (x .args .booking)) (now (x .args .text)) (now (x .args .places)) (now (x .args .lines)) (x .pre .0) _ (c .before .before .before .before .rows-before .ensures)))
+    let x = c .before .before .before .before .before .before .before .before .before .before in
+    sym (length-take-le _ (now (x .args .lines)) (count-fits (x .args .file) (x .args .sections) (x .args .b) (now (x .args .booking)) (now (x .args .text)) (now (x .args .places)) (now (x .args .lines)) (x .pre) _ (c .before .before .before .before .rows-before .ensures)))
 
 line-of-requires : tie.Need-line-of-requires
 line-of-requires c κs = search needs
 
 returns : tie.Need-returns
 returns c =
-    let x = c .before .before .before .before .before .before .before .before .before .before .before .before in
-    values-due (x .args .file) (x .args .sections) (now (x .args .booking)) (now (x .args .text)) (now (x .args .places)) (now (x .args .lines)) (x .pre .0) _ (count-is (x .args .file) (x .args .sections) (now (x .args .booking)) (now (x .args .text)) (now (x .args .places)) (now (x .args .lines)) (x .pre .0) _ (c .before .before .before .before .before .rows-before .ensures)) _ (due-is (x .args .file) (x .args .sections) (now (x .args .booking)) (now (x .args .text)) (now (x .args .places)) (now (x .args .lines)) (x .pre .0) _ (c .before .before .before .before .before .before .before .booking-for .ensures) _ (c .before .before .before .before .before .before .conditions-of .ensures) _ (c .before .before .before .before .first-pair .ensures) _ (count-is (x .args .file) (x .args .sections) (now (x .args .booking)) (now (x .args .text)) (now (x .args .places)) (now (x .args .lines)) (x .pre .0) _ (c .before .before .before .before .before .rows-before .ensures)) _ (c .before .before .before .first-not-as-due .ensures)) (c .before .before .if1 .taken) _ (c .line-of .ensures)
+    let x = c .before .before .before .before .before .before .before .before .before .before .before in
+    values-due (x .args .file) (x .args .sections) (x .args .b) (now (x .args .booking)) (now (x .args .text)) (now (x .args .places)) (now (x .args .lines)) (x .pre) _ (count-is (x .args .file) (x .args .sections) (x .args .b) (now (x .args .booking)) (now (x .args .text)) (now (x .args .places)) (now (x .args .lines)) (x .pre) _ (c .before .before .before .before .before .rows-before .ensures)) _ (due-is (x .args .file) (x .args .sections) (x .args .b) (now (x .args .booking)) (now (x .args .text)) (now (x .args .places)) (now (x .args .lines)) (x .pre) _ (c .before .before .before .before .before .before .conditions-of .ensures) _ (c .before .before .before .before .first-pair .ensures) _ (count-is (x .args .file) (x .args .sections) (x .args .b) (now (x .args .booking)) (now (x .args .text)) (now (x .args .places)) (now (x .args .lines)) (x .pre) _ (c .before .before .before .before .before .rows-before .ensures)) _ (c .before .before .before .first-not-as-due .ensures)) (c .before .before .if1 .taken) _ (c .line-of .ensures)
 
 fixed-section-count-requires : tie.Need-fixed-section-count-requires
 fixed-section-count-requires c κs = search needs
 
 sub-axles : tie.Need-sub-axles
 sub-axles c =
-    let x = c .before .before .before .before .before .before .before .before .before .before .before in
-    fixed-few (x .args .file) (x .args .sections) (now (x .args .booking)) (now (x .args .text)) (now (x .args .places)) (now (x .args .lines)) (x .pre .0) _ (c .fixed-section-count .ensures)
+    let x = c .before .before .before .before .before .before .before .before .before .before in
+    fixed-few (x .args .file) (x .args .sections) (x .args .b) (now (x .args .booking)) (now (x .args .text)) (now (x .args .places)) (now (x .args .lines)) (x .pre) _ (c .fixed-section-count .ensures)
 
 first-broken-requires : tie.Need-first-broken-requires
 first-broken-requires c κs =
-    let x = c .before .before .before .before .before .before .before .before .before .before .before in
-    broken-ready (x .args .file) (x .args .sections) (now (x .args .booking)) (now (x .args .text)) (now (x .args .places)) (now (x .args .lines)) (x .pre .0) _ (axles-are (x .args .file) (x .args .sections) (now (x .args .booking)) (now (x .args .text)) (now (x .args .places)) (now (x .args .lines)) (x .pre .0) _ (c .fixed-section-count .ensures))
+    let x = c .before .before .before .before .before .before .before .before .before .before in
+    broken-ready (x .args .file) (x .args .sections) (x .args .b) (now (x .args .booking)) (now (x .args .text)) (now (x .args .places)) (now (x .args .lines)) (x .pre) _ (axles-are (x .args .file) (x .args .sections) (x .args .b) (now (x .args .booking)) (now (x .args .text)) (now (x .args .places)) (now (x .args .lines)) (x .pre) _ (c .fixed-section-count .ensures))
 
 enum-known-x : tie.Need-enum-known-x
 enum-known-x c = search needs
 
 slice-aggregate-line-of-2 : tie.Need-slice-aggregate-line-of-2
 slice-aggregate-line-of-2 c =
-    let x = c .before .before .before .before .before .before .before .before .before .before .before .before .before .before .before .before in
-    sym (length-take-le _ (now (x .args .lines)) (count-fits (x .args .file) (x .args .sections) (now (x .args .booking)) (now (x .args .text)) (now (x .args .places)) (now (x .args .lines)) (x .pre .0) _ (c .before .before .before .before .before .before .before .before .before .rows-before .ensures)))
+    let x = c .before .before .before .before .before .before .before .before .before .before .before .before .before .before .before in
+    sym (length-take-le _ (now (x .args .lines)) (count-fits (x .args .file) (x .args .sections) (x .args .b) (now (x .args .booking)) (now (x .args .text)) (now (x .args .places)) (now (x .args .lines)) (x .pre) _ (c .before .before .before .before .before .before .before .before .before .rows-before .ensures)))
 
 line-of-requires-2 : tie.Need-line-of-requires-2
 line-of-requires-2 c κs = search needs
@@ -74,31 +69,25 @@ line-of-requires-2 c κs = search needs
 enum-told : tie.Need-enum-told
 enum-told c = search needs
 
-is-marked-requires : tie.Need-is-marked-requires
-is-marked-requires c κs =
-    let x = c .before .before .before .before .before .before .before .before .before .before .before .before .before .before in
-    number-held (x .args .file) (x .args .sections) (now (x .args .booking)) (now (x .args .text)) (now (x .args .places)) (now (x .args .lines)) (x .pre .0) _ (axles-are (x .args .file) (x .args .sections) (now (x .args .booking)) (now (x .args .text)) (now (x .args .places)) (now (x .args .lines)) (x .pre .0) _ (c .before .before .before .fixed-section-count .ensures))
-
-cast-t31 : tie.Need-cast-t31
-cast-t31 c =
-    let x = c .before .before .before .before .before .before .before .before .before .before .before .before .before .before .before in
-    omega (arith, axles-few (x .args .file) (x .args .sections) (now (x .args .booking)) (now (x .args .text)) (now (x .args .places)) (now (x .args .lines)) (x .pre .0) _ (c .before .before .before .before .fixed-section-count .ensures))
+kept-of-requires : tie.Need-kept-of-requires
+kept-of-requires c κs =
+    let x = c .before .before .before .before .before .before .before .before .before .before .before .before .before in
+    kept-ready (x .args .file) (x .args .sections) (x .args .b) (now (x .args .booking)) (now (x .args .text)) (now (x .args .places)) (now (x .args .lines)) (x .pre) _ (axles-are (x .args .file) (x .args .sections) (x .args .b) (now (x .args .booking)) (now (x .args .text)) (now (x .args .places)) (now (x .args .lines)) (x .pre) _ (c .before .before .before .fixed-section-count .ensures))
 
 returns-2 : tie.Need-returns-2
 returns-2 c =
-    let x = c .before .before .before .before .before .before .before .before .before .before .before .before .before .before .before .before .before in
-    values-broken (x .args .file) (x .args .sections) (now (x .args .booking)) (now (x .args .text)) (now (x .args .places)) (now (x .args .lines)) (x .pre .0) _ (count-is (x .args .file) (x .args .sections) (now (x .args .booking)) (now (x .args .text)) (now (x .args .places)) (now (x .args .lines)) (x .pre .0) _ (c .before .before .before .before .before .before .before .before .before .before .rows-before .ensures)) _ (due-is (x .args .file) (x .args .sections) (now (x .args .booking)) (now (x .args .text)) (now (x .args .places)) (now (x .args .lines)) (x .pre .0) _ (c .before .before .before .before .before .before .before .before .before .before .before .before .booking-for .ensures) _ (c .before .before .before .before .before .before .before .before .before .before .before .conditions-of .ensures) _ (c .before .before .before .before .before .before .before .before .before .first-pair .ensures) _ (count-is (x .args .file) (x .args .sections) (now (x .args .booking)) (now (x .args .text)) (now (x .args .places)) (now (x .args .lines)) (x .pre .0) _ (c .before .before .before .before .before .before .before .before .before .before .rows-before .ensures)) _ (c .before .before .before .before .before .before .before .before .first-not-as-due .ensures)) (c .before .before .before .before .before .before .before .if1 .left) _ (axles-are (x .args .file) (x .args .sections) (now (x .args .booking)) (now (x .args .text)) (now (x .args .places)) (now (x .args .lines)) (x .pre .0) _ (c .before .before .before .before .before .before .fixed-section-count .ensures)) (c .before .before .before .before .before .first-broken .result) (c .before .before .before .before .before .first-broken .ensures) _ (c .before .before .before .x .given .1) _ (c .line-of2 .ensures)
+    let x = c .before .before .before .before .before .before .before .before .before .before .before .before .before .before .before .before in
+    values-broken (x .args .file) (x .args .sections) (x .args .b) (now (x .args .booking)) (now (x .args .text)) (now (x .args .places)) (now (x .args .lines)) (x .pre) _ (count-is (x .args .file) (x .args .sections) (x .args .b) (now (x .args .booking)) (now (x .args .text)) (now (x .args .places)) (now (x .args .lines)) (x .pre) _ (c .before .before .before .before .before .before .before .before .before .before .rows-before .ensures)) _ (due-is (x .args .file) (x .args .sections) (x .args .b) (now (x .args .booking)) (now (x .args .text)) (now (x .args .places)) (now (x .args .lines)) (x .pre) _ (c .before .before .before .before .before .before .before .before .before .before .before .conditions-of .ensures) _ (c .before .before .before .before .before .before .before .before .before .first-pair .ensures) _ (count-is (x .args .file) (x .args .sections) (x .args .b) (now (x .args .booking)) (now (x .args .text)) (now (x .args .places)) (now (x .args .lines)) (x .pre) _ (c .before .before .before .before .before .before .before .before .before .before .rows-before .ensures)) _ (c .before .before .before .before .before .before .before .before .first-not-as-due .ensures)) (c .before .before .before .before .before .before .before .if1 .left) _ (axles-are (x .args .file) (x .args .sections) (x .args .b) (now (x .args .booking)) (now (x .args .text)) (now (x .args .places)) (now (x .args .lines)) (x .pre) _ (c .before .before .before .before .before .before .fixed-section-count .ensures)) (c .before .before .before .before .before .first-broken .result) (c .before .before .before .before .before .first-broken .ensures) _ (c .before .before .before .x .given .1) _ (c .line-of2 .ensures)
 
 returns-3 : tie.Need-returns-3
 returns-3 c =
-    let x = c .before .before .before .before .before .before .before .before .before .before .before .before .before .before .before in
-    values-pass (x .args .file) (x .args .sections) (now (x .args .booking)) (now (x .args .text)) (now (x .args .places)) (now (x .args .lines)) (x .pre .0) _ (count-is (x .args .file) (x .args .sections) (now (x .args .booking)) (now (x .args .text)) (now (x .args .places)) (now (x .args .lines)) (x .pre .0) _ (c .before .before .before .before .before .before .before .before .rows-before .ensures)) _ (due-is (x .args .file) (x .args .sections) (now (x .args .booking)) (now (x .args .text)) (now (x .args .places)) (now (x .args .lines)) (x .pre .0) _ (c .before .before .before .before .before .before .before .before .before .before .booking-for .ensures) _ (c .before .before .before .before .before .before .before .before .before .conditions-of .ensures) _ (c .before .before .before .before .before .before .before .first-pair .ensures) _ (count-is (x .args .file) (x .args .sections) (now (x .args .booking)) (now (x .args .text)) (now (x .args .places)) (now (x .args .lines)) (x .pre .0) _ (c .before .before .before .before .before .before .before .before .rows-before .ensures)) _ (c .before .before .before .before .before .before .first-not-as-due .ensures)) (c .before .before .before .before .before .if1 .left) _ (axles-are (x .args .file) (x .args .sections) (now (x .args .booking)) (now (x .args .text)) (now (x .args .places)) (now (x .args .lines)) (x .pre .0) _ (c .before .before .before .before .fixed-section-count .ensures)) (c .before .before .before .first-broken .result) (c .before .before .before .first-broken .ensures) (c .before .enum-told .given .1) _ (c .is-marked .ensures)
+    let x = c .before .before .before .before .before .before .before .before .before .before .before .before .before .before in
+    values-pass (x .args .file) (x .args .sections) (x .args .b) (now (x .args .booking)) (now (x .args .text)) (now (x .args .places)) (now (x .args .lines)) (x .pre) _ (count-is (x .args .file) (x .args .sections) (x .args .b) (now (x .args .booking)) (now (x .args .text)) (now (x .args .places)) (now (x .args .lines)) (x .pre) _ (c .before .before .before .before .before .before .before .before .rows-before .ensures)) _ (due-is (x .args .file) (x .args .sections) (x .args .b) (now (x .args .booking)) (now (x .args .text)) (now (x .args .places)) (now (x .args .lines)) (x .pre) _ (c .before .before .before .before .before .before .before .before .before .conditions-of .ensures) _ (c .before .before .before .before .before .before .before .first-pair .ensures) _ (count-is (x .args .file) (x .args .sections) (x .args .b) (now (x .args .booking)) (now (x .args .text)) (now (x .args .places)) (now (x .args .lines)) (x .pre) _ (c .before .before .before .before .before .before .before .before .rows-before .ensures)) _ (c .before .before .before .before .before .before .first-not-as-due .ensures)) (c .before .before .before .before .before .if1 .left) _ (axles-are (x .args .file) (x .args .sections) (x .args .b) (now (x .args .booking)) (now (x .args .text)) (now (x .args .places)) (now (x .args .lines)) (x .pre) _ (c .before .before .before .before .fixed-section-count .ensures)) (c .before .before .before .first-broken .result) (c .before .before .before .first-broken .ensures) (c .before .enum-told .given .1) _ (c .kept-of .ensures)
 
 pub judge-values-spec : {M : Type 1} → statement M
 judge-values-spec =
     tie.close
     (tie.spec
-    booking-for-requires
     conditions-of-requires
     rows-before-requires
     sub-count
@@ -114,7 +103,6 @@ judge-values-spec =
     slice-aggregate-line-of-2
     line-of-requires-2
     enum-told
-    is-marked-requires
-    cast-t31
+    kept-of-requires
     returns-2
     returns-3)

@@ -14,6 +14,9 @@ fill-refusal-requires c κs = search needs
 enum-known-given-2 : tie.Need-enum-known-given-2
 enum-known-given-2 c = search needs
 
+slice-aggregate-fill : tie.Need-slice-aggregate-fill
+slice-aggregate-fill c = search needs
+
 fill-requires : tie.Need-fill-requires
 fill-requires c κs = search needs
 
@@ -30,8 +33,8 @@ same-length-2 c = search needs
 
 returns-2 : tie.Need-returns-2
 returns-2 c =
-    let x = c .before .before .before .before .before .before .before .before .args in
-    column-given (now (x .answer)) _ _ (x .given) _ (c .before .before .before .before .before .given2 .given .1) (c .before .before .fill .ensures)
+    let x = c .before .before .before .before .before .before .before .before .before .args in
+    column-given (now (x .answer)) _ _ (x .given) _ (c .before .before .before .before .before .before .given2 .given .1) (c .before .before .fill .ensures)
 
 pub fill-column-spec : {M : Type 1} → statement M
 fill-column-spec =
@@ -40,6 +43,7 @@ fill-column-spec =
     enum-known-given
     fill-refusal-requires
     enum-known-given-2
+    slice-aggregate-fill
     fill-requires
     same-length
     returns

@@ -1,4 +1,4 @@
--- `mctc::fill_name` meets its contract: the refusal, or the length and the section. Assumes nothing.
+-- `mctc::fill_name` meets its contract: the refusal, or the name's length and section. Assumes nothing.
 use borrow.Author.Needs.{needs}
 use denote.Ref.{now}
 use Rattle.mctc.proofs.Answers.{name-refused, name-accepted}
@@ -13,6 +13,9 @@ fill-refusal-requires c κs = search needs
 
 enum-known-copied-2 : tie.Need-enum-known-copied-2
 enum-known-copied-2 c = search needs
+
+slice-aggregate-fill : tie.Need-slice-aggregate-fill
+slice-aggregate-fill c = search needs
 
 fill-requires : tie.Need-fill-requires
 fill-requires c κs = search needs
@@ -30,8 +33,8 @@ same-length-2 c = search needs
 
 returns-2 : tie.Need-returns-2
 returns-2 c =
-    let x = c .before .before .before .before .before .before .before .before .args in
-    name-accepted (now (x .answer)) _ _ (x .copied) _ (c .before .before .before .before .before .copied2 .given .1) (c .before .before .fill .ensures)
+    let x = c .before .before .before .before .before .before .before .before .before .args in
+    name-accepted (now (x .answer)) _ _ (x .copied) _ (c .before .before .before .before .before .before .copied2 .given .1) (c .before .before .fill .ensures)
 
 pub fill-name-spec : {M : Type 1} → statement M
 fill-name-spec =
@@ -40,6 +43,7 @@ fill-name-spec =
     enum-known-copied
     fill-refusal-requires
     enum-known-copied-2
+    slice-aggregate-fill
     fill-requires
     same-length
     returns

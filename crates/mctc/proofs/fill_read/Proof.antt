@@ -14,6 +14,9 @@ fill-refusal-requires c κs = search needs
 enum-known-read-2 : tie.Need-enum-known-read-2
 enum-known-read-2 c = search needs
 
+slice-aggregate-fill : tie.Need-slice-aggregate-fill
+slice-aggregate-fill c = search needs
+
 fill-requires : tie.Need-fill-requires
 fill-requires c κs = search needs
 
@@ -30,8 +33,8 @@ same-length-2 c = search needs
 
 returns-2 : tie.Need-returns-2
 returns-2 c =
-    let x = c .before .before .before .before .before .before .before .before .args in
-    read-accepted (now (x .answer)) _ _ (x .read) _ (c .before .before .before .before .before .read2 .given .1) (c .before .before .fill .ensures)
+    let x = c .before .before .before .before .before .before .before .before .before .args in
+    read-accepted (now (x .answer)) _ _ (x .read) _ (c .before .before .before .before .before .before .read2 .given .1) (c .before .before .fill .ensures)
 
 pub fill-read-spec : {M : Type 1} → statement M
 fill-read-spec =
@@ -40,6 +43,7 @@ fill-read-spec =
     enum-known-read
     fill-refusal-requires
     enum-known-read-2
+    slice-aggregate-fill
     fill-requires
     same-length
     returns

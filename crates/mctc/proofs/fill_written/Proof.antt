@@ -14,6 +14,9 @@ fill-refusal-requires c κs = search needs
 enum-known-written-2 : tie.Need-enum-known-written-2
 enum-known-written-2 c = search needs
 
+slice-aggregate-fill : tie.Need-slice-aggregate-fill
+slice-aggregate-fill c = search needs
+
 fill-requires : tie.Need-fill-requires
 fill-requires c κs = search needs
 
@@ -30,8 +33,8 @@ same-length-2 c = search needs
 
 returns-2 : tie.Need-returns-2
 returns-2 c =
-    let x = c .before .before .before .before .before .before .before .before .args in
-    write-accepted (now (x .answer)) _ _ (x .written) _ (c .before .before .before .before .before .written2 .given .1) (c .before .before .fill .ensures)
+    let x = c .before .before .before .before .before .before .before .before .before .args in
+    write-accepted (now (x .answer)) _ _ (x .written) _ (c .before .before .before .before .before .before .written2 .given .1) (c .before .before .fill .ensures)
 
 pub fill-written-spec : {M : Type 1} → statement M
 fill-written-spec =
@@ -40,6 +43,7 @@ fill-written-spec =
     enum-known-written
     fill-refusal-requires
     enum-known-written-2
+    slice-aggregate-fill
     fill-requires
     same-length
     returns

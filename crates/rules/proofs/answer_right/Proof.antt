@@ -12,7 +12,7 @@ unfolding answerRight
 returns c = rw (le-ltb 0 (length (c .before .before .before .args .gas .now)) (omega (arith, c .if1 .taken)))
 
 is-serial-requires : tie.Need-is-serial-requires
-is-serial-requires c κs = search needs
+is-serial-requires c κs = c .before .before .before .pre (omega (arith, c .if1 .left))
 
 is-exactly-requires : tie.Need-is-exactly-requires
 is-exactly-requires c κs = search needs
