@@ -16,17 +16,18 @@ use Rattle.tables.specs.Entries.{newBooking, oldBooking, tester, protocol, meas
 use Rattle.tables.specs.File.{File, ac2, acc, drift, suspension, gas, fixedSections, axleEntries, axlesFrom, axleSections, sections, entries, room, rooms, firstPair}
 use Rattle.tables.specs.Value.{placeOf, axlePlaceOf}
 use Rattle.due.specs.Booking.{bookingIn}
-use Rattle.rules.specs.Values.{Held, NewHeld, OldHeld, valuesOf, newValues, oldValues, gasValues}
+use Rattle.due.specs.Conditions.{isSerialLink, isSerial}
+use Rattle.due.specs.Values.{Held, valuesOf, newValues}
 use Rattle.rules.specs.Rule.{broken, firstBroken}
 use Rattle.rules.specs.Bookings.{typeOf, typeIs, parkingBrakeFits, newRules, descriptionsOf, descriptions, yearFits, fuelFits, petrolFits, petrolWord, directiveOf, periodOf, dieselFits, oldBrakeFits, parkingAxlesFit, oldRules}
 use Rattle.rules.specs.Differences.{differenceFits, differencesFrom}
 use Rattle.rules.specs.Rules.{rulesOf}
-use Rattle.rules.specs.Slices.{isSerial}
 use Rattle.rules.specs.Answer.{sevenOf, isMarked}
 use Rattle.rules.specs.declared.RuleCheck.the-variants.{Kept}
 use Rattle.refusals.specs.declared.RefusalKind.the-variants.{BookingRule, DifferenceRule}
 use Rattle.places.proofs.Values.{within-at, value-length}
-use Rattle.rules.proofs.Pairs.{value-at, drift-count, suspension-count, gas-count, first-pairs}
+use Rattle.tables.proofs.Numbers.{first-pairs}
+use Rattle.due.proofs.Pairs.{value-at, drift-count, suspension-count, gas-count}
 
 -- ---- names to pairs
 
@@ -46,7 +47,7 @@ module _ (t p : List ℕ) where
   new-broken = refl
 
   pub old-broken : (u : List ℕ)
-      → firstBroken acc (oldRules (newValues t p) (oldValues u p))
+      → firstBroken acc (oldRules (newValues t p) (valuesOf acc 0 u p))
       ≡ cond (sameBytes (valueOf u p 12) (valueOf t p 1))
       (cond (isWord (descriptions (descriptionsOf (wordIndex (words categories) (valueOf t p 2)))) (valueOf u p 13))
       (cond (yearFits (valueOf t p 4) (valueOf u p 14))
@@ -57,11 +58,11 @@ module _ (t p : List ℕ) where
   unfolding firstBroken oldRules bookingIn placeOf wordIndex sameBytes entries sections fixedSections axleSections entriesOf newBooking oldBooking pairsAt firstPair rooms room
   old-broken u = refl
 
-  pub serial-at : isSerial (gasValues t p) ≡ sameBytes (valueOf t p 110) (bytes "RS SENZA ESITO")
-  unfolding isSerial placeOf wordIndex sameBytes entries sections fixedSections axleSections axlesFrom axleEntries entriesOf newBooking oldBooking sixteen tester protocol measurement driftAxle suspensionAxle analysis analyser counter speedTest allKeyDates allKeyBodies fuelAnalysis pairsAt firstPair rooms room
+  pub serial-at : isSerial gas (valuesOf gas 0 t p) ≡ isSerialLink (valueOf t p 110)
+  unfolding placeOf wordIndex sameBytes entries sections fixedSections axleSections axlesFrom axleEntries entriesOf newBooking oldBooking sixteen tester protocol measurement driftAxle suspensionAxle analysis analyser counter speedTest allKeyDates allKeyBodies fuelAnalysis pairsAt firstPair rooms room
   serial-at = refl
 
-  pub seven-at : sevenOf (gasValues t p)
+  pub seven-at : sevenOf (valuesOf gas 0 t p)
       ≡ valueOf t p 86 ∷ valueOf t p 87 ∷ valueOf t p 88 ∷ valueOf t p 89 ∷ valueOf t p 91 ∷ valueOf t p 90 ∷ valueOf t p 108 ∷ []
   unfolding sevenOf placeOf wordIndex sameBytes entries sections fixedSections axleSections axlesFrom axleEntries entriesOf newBooking oldBooking sixteen tester protocol measurement driftAxle suspensionAxle analysis analyser counter speedTest allKeyDates allKeyBodies fuelAnalysis pairsAt firstPair rooms room
   seven-at = refl
@@ -108,7 +109,7 @@ module _ (t p : List ℕ) (a : List (List ℕ)) (n : ℕ) where
   unfolding rulesOf entries sections fixedSections axleSections entriesOf
   new-rules = refl
 
-  pub old-rules : firstBroken acc (rulesOf acc a (valuesOf acc n t p) n) ≡ firstBroken acc (oldRules a (oldValues t p))
+  pub old-rules : firstBroken acc (rulesOf acc a (valuesOf acc n t p) n) ≡ firstBroken acc (oldRules a (valuesOf acc 0 t p))
   unfolding rulesOf entries sections fixedSections axleSections entriesOf
   old-rules = refl
 
@@ -124,11 +125,11 @@ module _ (t p : List ℕ) (a : List (List ℕ)) (n : ℕ) where
   unfolding rulesOf firstBroken
   gas-rules = refl
 
-  pub new-any : Held ac2 n t p → NewHeld t p
+  pub new-any : Held ac2 n t p → Held ac2 0 t p
   unfolding entries sections fixedSections axleSections entriesOf
   new-any h = h
 
-  pub old-any : Held acc n t p → OldHeld t p
+  pub old-any : Held acc n t p → Held acc 0 t p
   unfolding entries sections fixedSections axleSections entriesOf
   old-any h = h
 

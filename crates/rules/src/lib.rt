@@ -11,19 +11,19 @@ ghost use Rattle.kinds.specs.Kind.{words, categories};
 ghost use Rattle.kinds.specs.Value.{wordIndex, isWord};
 ghost use Rattle.kinds.specs.Meaning.{numberRead};
 ghost use Rattle.serial.specs.Reading.{Ordered, sevenIn};
-ghost use Rattle.tables.specs.File.{ac2, acc, suspension, ofNumber};
-ghost use Rattle.due.specs.Booking.{isL};
+ghost use Rattle.tables.specs.File.{ac2, acc, suspension, gas, ofNumber};
 ghost use Rattle.places.specs.Places.{valueOf};
-ghost use Rattle.rules.specs.Values.{valuesOf, newValues, oldValues, gasValues, Held, NewHeld, OldHeld, GasHeld, NumberHeld, PairHeld};
+ghost use Rattle.due.specs.Values.{valuesOf, newValues, Held, NumberHeld, PairHeld};
 ghost use Rattle.rules.specs.Rule.{broken, firstBroken};
 ghost use Rattle.rules.specs.Bookings.{typeOf, typeIs, parkingBrakeFits, descriptionsOf, descriptions, yearFits, directiveOf, periodAt, periodOf, petrolWord, petrolFits, dieselFits, fuelFits, oldBrakeFits, numberIs, countOf, specialWords, parkingAxlesFit, newRules, oldRules};
 ghost use Rattle.rules.specs.Differences.{difference, differenceFits, differencesFrom};
 ghost use Rattle.rules.specs.Rules.{firstBrokenAt};
-ghost use Rattle.rules.specs.Slices.{isCapital, goodStem, statedOf, exactly, oldBookingRight, sliceRight, isRead, isSerial, answerRight};
+ghost use Rattle.rules.specs.Slices.{isCapital, goodStem, statedOf, exactly, oldBookingRight, sliceRight, isRead, answerRight};
 ghost use Rattle.rules.specs.Answer.{sevenOf, sameFields, isMarked};
 ghost use Rattle.rules.specs.declared.Directive.{Directive};
 ghost use Rattle.rules.specs.declared.RuleCheck.{RuleCheck};
 ghost use Rattle.refusals.specs.declared.RefusalKind.{RefusalKind};
+use tables::pairs;
 
 // The word that TipoVeicolo must be.
 pub enum VehicleType {
@@ -182,18 +182,6 @@ fn descriptions_of(category: usize) -> Descriptions
     Descriptions::OfNone
 }
 
-// L1e to L7e
-fn is_l(category: usize) -> bool
-    ensures { λ r. ⌜ r ≡ isL category ⌝ }
-{
-    match vehicle_type(category) {
-        VehicleType::Leggero => false,
-        VehicleType::Pesante => false,
-        VehicleType::Motoveicolo => true,
-        VehicleType::NoType => false,
-    }
-}
-
 // AC2's category by its place in 01's list.
 fn category_in(booking: &[u8], places: &[u32]) -> usize
     requires { ⌜ PairHeld (now booking) (now places) 2 ⌝ }
@@ -220,14 +208,14 @@ fn parking_brake_fits(category: usize, booking: &[u8], places: &[u32]) -> bool
     requires { ⌜ PairHeld (now booking) (now places) 10 ⌝ }
     ensures { λ r. ⌜ r ≡ parkingBrakeFits category (valueOf (now (booking .entry)) (now (places .entry)) 10) ⌝ }
 {
-    if is_l(category) {
+    if due::is_l(category) {
         return true;
     }
     !value_is(booking, places, 10, b"NON PRESENTE")
 }
 
 fn check_new_booking(booking: &[u8], places: &[u32]) -> RuleCheck
-    requires { ⌜ NewHeld (now booking) (now places) ⌝ }
+    requires { ⌜ Held ac2 0 (now booking) (now places) ⌝ }
     ensures { λ r. ⌜ r ≡ firstBroken ac2 (newRules (newValues (now (booking .entry)) (now (places .entry)))) ⌝ }
 {
     let category = category_in(booking, places);
@@ -418,7 +406,7 @@ fn diesel_fits(booking: &[u8], text: &[u8], places: &[u32]) -> bool
 }
 
 fn fuel_fits(booking: &[u8], text: &[u8], places: &[u32]) -> bool
-    requires { ⌜ NewHeld (now booking) (now places) × PairHeld (now text) (now places) 15 ⌝ }
+    requires { ⌜ Held ac2 0 (now booking) (now places) × PairHeld (now text) (now places) 15 ⌝ }
     ensures { λ r. ⌜ r ≡ fuelFits (newValues (now (booking .entry)) (now (places .entry))) (valueOf (now (text .entry)) (now (places .entry)) 15) ⌝ }
 {
     if value_is(booking, places, 5, b"BENZINA") {
@@ -485,8 +473,8 @@ fn broken_booking(entry: usize) -> RuleCheck
 }
 
 fn check_old_booking(booking: &[u8], text: &[u8], places: &[u32]) -> RuleCheck
-    requires { ⌜ NewHeld (now booking) (now places) × OldHeld (now text) (now places) ⌝ }
-    ensures { λ r. ⌜ r ≡ firstBroken acc (oldRules (newValues (now (booking .entry)) (now (places .entry))) (oldValues (now (text .entry)) (now (places .entry)))) ⌝ }
+    requires { ⌜ Held ac2 0 (now booking) (now places) × Held acc 0 (now text) (now places) ⌝ }
+    ensures { λ r. ⌜ r ≡ firstBroken acc (oldRules (newValues (now (booking .entry)) (now (places .entry))) (valuesOf acc 0 (now (text .entry)) (now (places .entry)))) ⌝ }
 {
     if !same_values(text, 12, booking, 1, places) {
         return broken_booking(0);
@@ -561,7 +549,7 @@ pub fn first_broken(
     text: &[u8],
     places: &[u32],
 ) -> RuleCheck
-    requires { ⌜ (axles ≤ 9) × NewHeld (now booking) (now places) × NumberHeld file axles (now text) (now places) ⌝ }
+    requires { ⌜ (axles ≤ 9) × Held ac2 0 (now booking) (now places) × NumberHeld file axles (now text) (now places) ⌝ }
     ensures { λ r. ⌜ r ≡ ofNumber RuleCheck.Kept (λ f. firstBrokenAt f axles (now (booking .entry)) (now (text .entry)) (now (places .entry))) file ⌝ }
 {
     match file {
@@ -622,7 +610,7 @@ fn old_booking_right(stated: Stated, category: usize, given: bool) -> bool
     if !given {
         return true;
     }
-    if !is_l(category) {
+    if !due::is_l(category) {
         return true;
     }
     stated.nine
@@ -652,7 +640,7 @@ pub fn is_read(file: u32, booking: due::Booking, given: bool) -> bool
             if !given {
                 return false;
             }
-            !is_l(booking.category)
+            !due::is_l(booking.category)
         }
         _ => given,
     }
@@ -660,57 +648,52 @@ pub fn is_read(file: u32, booking: due::Booking, given: bool) -> bool
 
 // ---- gas and the identification answer
 
-// Whether gas has RS SENZA ESITO.
-pub fn is_serial(gas: &[u8], places: &[u32]) -> bool
-    requires { ⌜ GasHeld (now gas) (now places) ⌝ }
-    ensures { λ r. ⌜ r ≡ isSerial (gasValues (now (gas .entry)) (now (places .entry))) ⌝ }
-{
-    value_is(gas, places, 110, b"RS SENZA ESITO")
-}
-
 // 11 of slice 6.
-pub fn answer_right(gas: &[u8], places: &[u32], given: bool) -> bool
-    requires { ⌜ GasHeld (now gas) (now places) ⌝ }
-    ensures { λ r. ⌜ r ≡ answerRight (ltb 0 (length (now (gas .entry)))) (gasValues (now (gas .entry)) (now (places .entry))) given ⌝ }
+pub fn answer_right(text: &[u8], places: &[u32], given: bool) -> bool
+    requires { ⌜ Held gas 0 (now text) (now places) ⌝ }
+    ensures { λ r. ⌜ r ≡ answerRight (ltb 0 (length (now (text .entry)))) (valuesOf gas 0 (now (text .entry)) (now (places .entry))) given ⌝ }
 {
-    if gas.len() == 0 {
+    if text.len() == 0 {
         return !given;
     }
-    is_exactly(is_serial(gas, places), given)
+    is_exactly(
+        due::is_serial(places::value_of(text, places, pairs::GAS_TIPO_COLLEGAMENTO)),
+        given,
+    )
 }
 
 // Whether the field between two ends is the value of pair k.
-fn same_field(answer: &[u8], last: usize, end: usize, gas: &[u8], places: &[u32], k: usize) -> bool
-    requires { ⌜ ((last < end) × (end ≤ length (now answer))) × PairHeld (now gas) (now places) k ⌝ }
-    ensures { λ r. ⌜ r ≡ sameBytes (part (now (answer .entry)) (last + 1) end) (valueOf (now (gas .entry)) (now (places .entry)) k) ⌝ }
+fn same_field(answer: &[u8], last: usize, end: usize, text: &[u8], places: &[u32], k: usize) -> bool
+    requires { ⌜ ((last < end) × (end ≤ length (now answer))) × PairHeld (now text) (now places) k ⌝ }
+    ensures { λ r. ⌜ r ≡ sameBytes (part (now (answer .entry)) (last + 1) end) (valueOf (now (text .entry)) (now (places .entry)) k) ⌝ }
 {
-    lines::equal(&answer[last + 1..end], places::value_of(gas, places, k))
+    lines::equal(&answer[last + 1..end], places::value_of(text, places, k))
 }
 
 // 15: whether the seven fields of the answer are gas's seven values.
-pub fn same_fields(answer: &[u8], ends: serial::FieldEnds, gas: &[u8], places: &[u32]) -> bool
-    requires { ⌜ Ordered (length (now answer)) ends × GasHeld (now gas) (now places) ⌝ }
-    ensures { λ r. ⌜ r ≡ sameFields (sevenIn (now (answer .entry)) ends) (sevenOf (gasValues (now (gas .entry)) (now (places .entry)))) ⌝ }
+pub fn same_fields(answer: &[u8], ends: serial::FieldEnds, text: &[u8], places: &[u32]) -> bool
+    requires { ⌜ Ordered (length (now answer)) ends × Held gas 0 (now text) (now places) ⌝ }
+    ensures { λ r. ⌜ r ≡ sameFields (sevenIn (now (answer .entry)) ends) (sevenOf (valuesOf gas 0 (now (text .entry)) (now (places .entry)))) ⌝ }
 {
-    if !same_field(answer, ends.id, ends.mar, gas, places, 86) {
+    if !same_field(answer, ends.id, ends.mar, text, places, 86) {
         return false;
     }
-    if !same_field(answer, ends.mar, ends.model, gas, places, 87) {
+    if !same_field(answer, ends.mar, ends.model, text, places, 87) {
         return false;
     }
-    if !same_field(answer, ends.model, ends.numom, gas, places, 88) {
+    if !same_field(answer, ends.model, ends.numom, text, places, 88) {
         return false;
     }
-    if !same_field(answer, ends.numom, ends.numser, gas, places, 89) {
+    if !same_field(answer, ends.numom, ends.numser, text, places, 89) {
         return false;
     }
-    if !same_field(answer, ends.numser, ends.datasca, gas, places, 91) {
+    if !same_field(answer, ends.numser, ends.datasca, text, places, 91) {
         return false;
     }
-    if !same_field(answer, ends.datasca, ends.numver, gas, places, 90) {
+    if !same_field(answer, ends.datasca, ends.numver, text, places, 90) {
         return false;
     }
-    same_field(answer, ends.numver, ends.vermctcnet, gas, places, 108)
+    same_field(answer, ends.numver, ends.vermctcnet, text, places, 108)
 }
 
 // Whether CodErrore is filled.

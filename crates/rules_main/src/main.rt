@@ -12,9 +12,9 @@ ghost use mathlib.Core.Bool.{true};
 ghost use Prim.Native.Nat.{_+_, _*_, _<_, _≤_, min};
 ghost use lib.ListN.{length};
 ghost use Rattle.places.specs.Places.{placeSize, pairsAt, Within};
-ghost use Rattle.tables.specs.File.{entries, firstPair, leastPlaces, ofNumber};
+ghost use Rattle.tables.specs.File.{ac2, gas as gasFile, entries, firstPair, leastPlaces, ofNumber};
 ghost use Rattle.serial.specs.Reading.{Ordered};
-ghost use Rattle.rules.specs.Values.{NewHeld, GasHeld, NumberHeld};
+ghost use Rattle.due.specs.Values.{Held, NumberHeld};
 use due::Booking;
 use due::Conditions;
 use due::Due;
@@ -260,7 +260,7 @@ fn show_mark(marked: bool) {
 }
 
 fn show_due(file: u32, axles: usize, booking: &[u8], text: &[u8], places: &[u32], lines: &[u32])
-    requires { ⌜ (axles ≤ 9) × NewHeld (now booking) (now places) × NumberHeld file axles (now text) (now places) ⌝ }
+    requires { ⌜ (axles ≤ 9) × Held ac2 0 (now booking) (now places) × NumberHeld file axles (now text) (now places) ⌝ }
 {
     let c = due::conditions_of(file, due::booking_of(booking, places), text, places);
     let first = tables::first_pair(file);
@@ -274,7 +274,7 @@ fn show_due(file: u32, axles: usize, booking: &[u8], text: &[u8], places: &[u32]
 // ---- bookings and Differenza%
 
 fn show_rules(file: u32, axles: usize, booking: &[u8], text: &[u8], places: &[u32], lines: &[u32])
-    requires { ⌜ (axles ≤ 9) × NewHeld (now booking) (now places) × NumberHeld file axles (now text) (now places) ⌝ }
+    requires { ⌜ (axles ≤ 9) × Held ac2 0 (now booking) (now places) × NumberHeld file axles (now text) (now places) ⌝ }
 {
     match rules::first_broken(file, axles, booking, text, places) {
         RuleCheck::Kept => {
@@ -404,7 +404,7 @@ fn show_fields(answer: &[u8], e: FieldEnds)
 }
 
 fn show_equal(answer: &[u8], e: FieldEnds, gas: &[u8], places: &[u32])
-    requires { ⌜ Ordered (length (now answer)) e × GasHeld (now gas) (now places) ⌝ }
+    requires { ⌜ Ordered (length (now answer)) e × Held gasFile 0 (now gas) (now places) ⌝ }
 {
     if rules::same_fields(answer, e, gas, places) {
         io::write_all(1, b"equal\n");
@@ -414,7 +414,7 @@ fn show_equal(answer: &[u8], e: FieldEnds, gas: &[u8], places: &[u32])
 }
 
 fn show_read(answer: &[u8], gas: &[u8], places: &[u32])
-    requires { ⌜ GasHeld (now gas) (now places) ⌝ }
+    requires { ⌜ Held gasFile 0 (now gas) (now places) ⌝ }
 {
     match serial::read_answer(answer) {
         AnswerRead::Malformed => {
@@ -428,7 +428,7 @@ fn show_read(answer: &[u8], gas: &[u8], places: &[u32])
 }
 
 fn show_judged(answer: &[u8], gas: &[u8], places: &[u32])
-    requires { ⌜ GasHeld (now gas) (now places) ⌝ }
+    requires { ⌜ Held gasFile 0 (now gas) (now places) ⌝ }
 {
     let given = 0 < answer.len();
     if !rules::answer_right(gas, places, given) {

@@ -5,11 +5,11 @@ use Prim.Native.Nat.{_+_, _-_, _*_, _≤_, _<_}
 use native.Mathlib.Omega.{arith}
 use native.Mathlib.Nat.{sub-zero}
 use Rattle.tables.specs.File.{suspension}
-use Rattle.rules.specs.Values.{valuesOf}
+use Rattle.due.specs.Values.{valuesOf}
 use Rattle.rules.specs.Rule.{firstBroken}
 use Rattle.rules.specs.Differences.{differencesFrom}
 use Rattle.serial.proofs.Tests.{passed, failed}
-use Rattle.rules.proofs.Pairs.{axle-held}
+use Rattle.due.proofs.Pairs.{axle-held}
 use Rattle.rules.proofs.Rules.{difference-step, difference-end}
 use Rattle.rules.proofs.check_differences.Statement.{statement}
 use Rattle.rules.proofs.check_differences.Tie as tie

@@ -2,7 +2,7 @@
 use borrow.Author.Needs.{needs}
 use lib.Dec.{lit<}
 use Rattle.serial.proofs.Tests.{passed, failed}
-use Rattle.rules.proofs.Pairs.{new-held, old-held}
+use Rattle.due.proofs.Pairs.{new-held, old-held}
 use Rattle.rules.proofs.Rules.{old-broken}
 use Rattle.rules.proofs.check_old_booking.Statement.{statement}
 use Rattle.rules.proofs.check_old_booking.Tie as tie

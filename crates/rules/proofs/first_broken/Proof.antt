@@ -4,7 +4,7 @@ use Rattle.tables.specs.File.{File, ac2, acc, suspension}
 use mathlib.Core.List.{[]}
 use Rattle.rules.specs.Rules.{firstBrokenAt}
 use Rattle.rules.specs.declared.RuleCheck.the-variants.{Kept}
-use Rattle.rules.proofs.Pairs.{of-number, of-others, number-held}
+use Rattle.due.proofs.Pairs.{of-number, of-others, number-held}
 use Rattle.rules.proofs.Rules.{new-rules, old-rules, axle-rules, drift-rules, gas-rules, new-any, old-any}
 use Rattle.rules.proofs.first_broken.Statement.{statement}
 use Rattle.rules.proofs.first_broken.Tie as tie

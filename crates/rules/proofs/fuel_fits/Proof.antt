@@ -2,7 +2,7 @@
 use borrow.Author.Needs.{needs}
 use mathlib.Core.Path.{sym, _∙_}
 use lib.Dec.{lit<}
-use Rattle.rules.proofs.Pairs.{new-held}
+use Rattle.due.proofs.Pairs.{new-held}
 use Rattle.rules.proofs.Rules.{fuel-at}
 use Rattle.rules.proofs.fuel_fits.Statement.{statement}
 use Rattle.rules.proofs.fuel_fits.Tie as tie

@@ -3,21 +3,22 @@ use mathlib.Core.Path.{sym}
 use mathlib.Core.Bool.{false}
 use native.Mathlib.Omega.{arith}
 use Rattle.tables.specs.File.{File, drift, suspension, gas}
-use Rattle.rules.specs.Values.{valuesOf}
+use Rattle.due.specs.Values.{valuesOf}
 use Rattle.rules.specs.Answer.{isMarked}
-use Rattle.rules.proofs.Pairs.{least-places, of-number, of-others, number-held}
+use Rattle.tables.proofs.Numbers.{first-pairs}
+use Rattle.due.proofs.Pairs.{of-number, of-others, number-held}
 use Rattle.rules.proofs.Rules.{drift-marked, suspension-marked, gas-marked, new-marked, old-marked}
 use Rattle.rules.proofs.is_marked.Statement.{statement}
 use Rattle.rules.proofs.is_marked.Tie as tie
 
 length-of-requires : tie.Need-length-of-requires
-length-of-requires c κs = omega (arith, least-places, c .before .before .before .pre .0)
+length-of-requires c κs = omega (arith, first-pairs .5, c .before .before .before .pre .0)
 
 length-of-requires-2 : tie.Need-length-of-requires-2
-length-of-requires-2 c κs = omega (arith, least-places, c .before .before .before .pre .0)
+length-of-requires-2 c κs = omega (arith, first-pairs .5, c .before .before .before .pre .0)
 
 length-of-requires-3 : tie.Need-length-of-requires-3
-length-of-requires-3 c κs = omega (arith, least-places, c .before .before .before .pre .0)
+length-of-requires-3 c κs = omega (arith, first-pairs .5, c .before .before .before .pre .0)
 
 returns : tie.Need-returns
 returns c =

@@ -4,7 +4,7 @@ use lib.Dec.{lit<}
 use Rattle.serial.proofs.Tests.{passed, failed, and-true}
 use mathlib.Core.Path.{sym, _∙_}
 use Rattle.rules.specs.Answer.{sameFields}
-use Rattle.rules.proofs.Pairs.{gas-held}
+use Rattle.due.proofs.Pairs.{gas-held}
 use Rattle.rules.proofs.Rules.{seven-at}
 use Rattle.rules.proofs.same_fields.Statement.{statement}
 use Rattle.rules.proofs.same_fields.Tie as tie
