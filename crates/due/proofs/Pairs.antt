@@ -16,7 +16,7 @@ use Rattle.tables.specs.Value.{placeOf, axlePlaceOf}
 use Rattle.tables.proofs.Numbers.{first-pairs, room-in}
 use Rattle.tables.proofs.Axles.{entries-length, entries-most}
 use Rattle.tables.proofs.Files.{of-file, of-any, of-map}
-use Rattle.due.specs.Values.{pairOf, Held, NumberHeld, PairHeld}
+use Rattle.due.specs.Values.{valuesOf, pairOf, Held, NumberHeld, PairHeld}
 
 -- ---- the numbers of `tables::pairs`, by the names of their entries
 
@@ -52,6 +52,10 @@ pub gas-pairs : map (pairOf gas) (
 unfolding placeOf wordIndex sameBytes entries sections fixedSections axleSections axlesFrom axleEntries entriesOf newBooking oldBooking sixteen tester protocol measurement driftAxle suspensionAxle analysis analyser counter speedTest allKeyDates allKeyBodies fuelAnalysis firstPair rooms room
 gas-pairs = refl
 
+-- the last of gas's
+pub gas-code : pairOf gas "CodErrore" ≡ 127
+gas-code = ap (λ (l : List ℕ). getD l 11 0) gas-pairs
+
 -- ---- how many entries a file has
 
 pub new-count : (n : ℕ) → length (entries ac2 n) ≡ 12
@@ -76,13 +80,17 @@ suspension-count n = omega (arith, entries-length suspension n)
 
 -- ---- a pair of a file that is held
 
-pub value-at : (t p : List ℕ) (a n k : ℕ) → k < n → getD (map (valueAt t) (pairsAt p a n)) k [] ≡ valueOf t p (a + k)
+value-at : (t p : List ℕ) (a n k : ℕ) → k < n → getD (map (valueAt t) (pairsAt p a n)) k [] ≡ valueOf t p (a + k)
 unfolding pairsAt
 value-at t p a zero k l = absurd (omega arith)
 value-at t p a (suc n) zero l = rw (add-zero a)
 value-at t p a (suc n) (suc k) l =
     let z : a + suc k ≡ a + 1 + k = omega arith in
     rw z (value-at t p (a + 1) n k (omega arith))
+
+-- the value at place k of a file stands at its pair m
+pub value-held : (f : File) (n : ℕ) (t p : List ℕ) (k m : ℕ) → k < length (entries f n) → firstPair f + k ≡ m → getD (valuesOf f n t p) k [] ≡ valueOf t p m
+value-held f n t p k m l e = value-at t p (firstPair f) (length (entries f n)) k l ∙ ap (valueOf t p) e
 
 pub pair-held : (f : File) (n : ℕ) (t p : List ℕ) (k m : ℕ) → n ≤ 9 → Held f n t p → k < length (entries f n) → firstPair f + k ≡ m → PairHeld t p m
 unfolding leastPlaces

@@ -454,7 +454,7 @@ pub fn first_not_as_due(
 // The numbers of two lists of words in kinds.
 const CATEGORIES: u8 = 1;
 
-const PETROL_DIRECTIVES: u8 = 3;
+pub const PETROL_DIRECTIVES: u8 = 3;
 
 pub fn fuel_of(value: &[u8]) -> Fuel
     ensures { λ r. ⌜ r ≡ fuelIn (now (value .entry)) ⌝ }

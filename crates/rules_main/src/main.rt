@@ -276,7 +276,8 @@ fn show_due(file: u32, axles: usize, booking: &[u8], text: &[u8], places: &[u32]
 fn show_rules(file: u32, axles: usize, booking: &[u8], text: &[u8], places: &[u32], lines: &[u32])
     requires { ⌜ (axles ≤ 9) × Held ac2 0 (now booking) (now places) × NumberHeld file axles (now text) (now places) ⌝ }
 {
-    match rules::first_broken(file, axles, booking, text, places) {
+    let b = due::booking_of(booking, places);
+    match rules::first_broken(file, axles, b, booking, text, places) {
         RuleCheck::Kept => {
             io::write_all(1, b"kept\n");
         }
