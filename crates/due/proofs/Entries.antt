@@ -1,4 +1,4 @@
--- What entries hang on, by place and by file number; and that each name stands in its file's table. Assumes nothing.
+-- What entries hang on, by place and by file number; and that each name that is not simply due stands in its file's table. Assumes nothing.
 use Prim.Native.Nat.{ℕ, zero, suc, _+_, _≤_, _<_}
 use native.Mathlib.Omega.{arith}
 use mathlib.Core.Path.{_≡_, refl, ap, sym, _∙_}
@@ -27,7 +27,6 @@ use Rattle.tables.specs.Entries.{
 use Rattle.tables.specs.File.{File, ac2, acc, drift, suspension, gas, fileNumber, ofNumber, entries, sections, fixedSections, axleSections, axlesFrom}
 use Rattle.kinds.specs.Value.{wordIndex}
 use Rattle.tables.specs.Row.{names, indexOf}
-use Rattle.tables.specs.Value.{placeOf, isEntry}
 use Rattle.tables.proofs.Files.{of-file}
 use Rattle.due.specs.Booking.{bookingIn}
 use Rattle.due.specs.Values.{valuesOf}
@@ -52,21 +51,6 @@ exceptions-stand acc = refl
 exceptions-stand drift = refl
 exceptions-stand suspension = refl
 exceptions-stand gas = refl
-
--- and so does each name that conditions are made from
-pub condition-names :
-    (isEntry ac2 "CategoriaInternazionale" ≡ true)
-    × (isEntry ac2 "TargaNominale" ≡ true)
-    × (isEntry ac2 "Alimentazione_1" ≡ true)
-    × (isEntry ac2 "DirettivaEmissioniGasBenzinaAuto" ≡ true)
-    × (isEntry ac2 "DirettivaEmissioniGasMotociclo" ≡ true)
-    × (isEntry gas "TipoCollegamento" ≡ true)
-    × (isEntry gas "TipoCollegamentoContagiri" ≡ true)
-    × (isEntry gas "NumVersioneProtocollo" ≡ true)
-    × (isEntry gas "NumVersioneProtocolloContagiri" ≡ true)
-    × (isEntry gas "NumVersioneProtocolloProvaVelocita" ≡ true)
-unfolding placeOf wordIndex sameBytes entries entriesOf sections fixedSections axleSections newBooking protocol measurement analysis analyser counter speedTest allKeyDates allKeyBodies fuelAnalysis
-condition-names = (refl, refl, refl, refl, refl, refl, refl, refl, refl, refl)
 
 -- ---- places
 

@@ -139,6 +139,9 @@ of-others d g (suc (suc (suc (suc (suc (suc m)))))) h1 h2 h3 h4 h5 = refl
 pub number-held : (f : File) (m n : ℕ) (t p : List ℕ) → m ≡ fileNumber f → NumberHeld m n t p → Held f n t p
 number-held f m n t p e h = (h .0, rw (of-number 0 firstPair f m e, of-number 0 (λ (f : File). length (entries f n)) f m e) at (h .1))
 
+pub held-number : (f : File) (m n : ℕ) (t p : List ℕ) → m ≡ fileNumber f → Held f n t p → NumberHeld m n t p
+held-number f m n t p e h = (h .0, rw (of-number 0 firstPair f m e, of-number 0 (λ (f : File). length (entries f n)) f m e) (h .1))
+
 fewer : (m n : ℕ) → ofNumber 0 (λ (f : File). length (entries f 0)) m ≤ ofNumber 0 (λ (f : File). length (entries f n)) m
 fewer m n =
     let g : File → ℕ × ℕ = (λ (f : File). (length (entries f 0), length (entries f n))) in

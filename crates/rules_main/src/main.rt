@@ -27,6 +27,9 @@ use serial::FieldEnds;
 
 // ---- reading a file
 
+// 01, Judging: "at least 278 numbers".
+const LEAST_PLACES: usize = 278;
+
 // An axle count that no file has: the file was refused.
 const NOT_READ: usize = 10;
 
@@ -317,7 +320,7 @@ fn show_held(
 
 // Due entries, or else the other rules, of a file beside AC2.
 fn show_file(all_rules: bool, file: u32, booking: &[u8], text: &[u8]) {
-    let mut places = [0u32; 278];
+    let mut places = [0u32; LEAST_PLACES];
     let mut lines = [0u32; 64];
     let axles = read_both(file, booking, text, &mut places, &mut lines);
     if axles < NOT_READ {
@@ -374,7 +377,7 @@ fn show_booking(booking: &[u8], stem: &[u8], places: &[u32])
 }
 
 fn show_given(booking: &[u8], stem: &[u8]) {
-    let mut places = [0u32; 278];
+    let mut places = [0u32; LEAST_PLACES];
     if read_booking(booking, &mut places) == 0 {
         show_booking(booking, stem, &places);
     }
@@ -449,7 +452,7 @@ fn show_answered(answer: &[u8], gas: &[u8], places: &[u32])
 }
 
 fn show_answer(gas: &[u8], answer: &[u8]) {
-    let mut places = [0u32; 278];
+    let mut places = [0u32; LEAST_PLACES];
     let mut lines = [0u32; 64];
     if gas.len() == 0 {
         show_answered(answer, gas, &places);
