@@ -18,7 +18,7 @@ pub const FILE_TYPES: [FileType; 6] = [
     file_type(3, "DER", "drift"),
     file_type(4, "SOS", "suspension"),
     file_type(5, "GAS", "gas"),
-    file_type(6, "ID", "serial answer"),
+    file_type(6, "ID", "identification"),
 ];
 
 const fn file_type(number: u32, ending: &'static str, title: &'static str) -> FileType {

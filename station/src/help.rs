@@ -21,7 +21,7 @@ A set is the files of a folder that have one stem, such as AB123456:
   AB123456.DER   3  drift
   AB123456.SOS   4  suspension
   AB123456.GAS   5  gas
-  AB123456.ID    6  the analyser's serial answer
+  AB123456.ID    6  the analyser's identification answer
 
 Endings stand in capitals or small letters. A file that is absent or empty is
 not given.

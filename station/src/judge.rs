@@ -121,7 +121,7 @@ impl Judged {
                 Some(on_disk) if on_disk.text.is_empty() => counts_as_not_given(&on_disk.name),
                 Some(on_disk) => format!("{}{}", on_disk.name, self.about(file, acceptance)),
             };
-            lines += &format!("  {:13}  {what}\n", file.title);
+            lines += &format!("  {:14}  {what}\n", file.title);
         }
         lines
     }

@@ -16,8 +16,8 @@ pub fn meaning(number: u32) -> &'static str {
         11 => "the file is missing but due, or given but not due",
         12 => "the value breaks a rule of the bookings",
         13 => "Differenza% is not the larger grip less the smaller",
-        14 => "the serial answer does not have the right form",
-        15 => "the serial answer differs from the gas file",
+        14 => "the identification answer does not have the right form",
+        15 => "the identification answer differs from the gas file",
         16 => "there is no such file: files 1 to 5 have entries",
         17 => "a value lies outside the text",
         18 => "the output is too short",
@@ -56,7 +56,7 @@ pub fn when_given(file: u32) -> &'static str {
         1 => "every set has a new booking",
         2 => "with category L an old booking is given only where the stem's first digit is 9",
         5 => "gas is given exactly when the new booking has Alimentazione_1=BENZINA",
-        6 => "the serial answer is given exactly when gas has TipoCollegamento=RS SENZA ESITO",
+        6 => "the identification answer is given exactly when gas has TipoCollegamento=RS SENZA ESITO",
         _ => "drift and suspension are optional",
     }
 }

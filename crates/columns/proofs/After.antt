@@ -9,9 +9,8 @@ use lib.ListN.{length}
 use borrow.Author.Tests.{leb-true, leb-false, le-leb}
 use Rattle.refusals.specs.Refusals.{numberOf}
 use Rattle.refusals.specs.declared.Refusal.{Refusal}
-use Rattle.places.specs.Places.{Pair, setPairs, pairsAt, valueAt, valuesAt, Within}
-use Rattle.tables.specs.File.{File, ac2, entries, room, firstPair, leastPlaces, ofNumber}
-use Rattle.tables.proofs.Numbers.{first-pairs}
+use Rattle.places.specs.Places.{Pair, setPairs, pairsAt, valueAt, Within}
+use Rattle.tables.specs.File.{File, ac2, firstPair, leastPlaces, ofNumber}
 use Rattle.reading.specs.Reading.{Reading}
 use Rattle.files.specs.Alone as F
 use Rattle.files.specs.Alone.{readAlone, ReadsAlone}
@@ -20,7 +19,8 @@ use Rattle.files.specs.declared.FileAnswer.the-variants as FileAnswer
 use Rattle.files.proofs.Pairs.{same-file, AloneRead, refused-inv, short-inv, alone-length, alone-pairs, alone-cleared}
 use Rattle.due.specs.Booking.{bookingIn}
 use Rattle.due.specs.declared.Booking.{Booking}
-use Rattle.rules.proofs.Pairs.{new-room}
+use Rattle.due.specs.Values.{pairsOf, newValues, Held}
+use Rattle.due.proofs.Pairs.{new-count}
 use Rattle.columns.specs.Column.{Outcome, refuses, gives, givesBeside, givesAfter, fitting, dueColumn, Answer, refusal, placesOf, Gives}
 use Rattle.columns.specs.declared.ColumnAnswer.{ColumnAnswer}
 use Rattle.columns.specs.declared.ColumnAnswer.the-variants.{Refused}
@@ -28,18 +28,18 @@ use Rattle.columns.specs.declared.ColumnAnswer.the-variants.{Refused}
 module _ (s p q : List ℕ) (n : ℕ) (x : AloneRead 1 s p q n) where
   -- ---- what is asked
 
-  new-pairs : pairsAt q (firstPair ac2) (room ac2) ≡ x .pairs
+  new-pairs : pairsOf ac2 0 q ≡ x .pairs
   new-pairs =
-      ap (λ (m : ℕ). pairsAt q (firstPair ac2) m) (new-room n)
-      ∙ ap (λ (g : File). pairsAt q (firstPair g) (length (entries g n))) (same-file ac2 (x .file) 1 refl (x .number-is)) ∙ alone-pairs x
+      ap (λ (m : ℕ). pairsAt q (firstPair ac2) m) (new-count 0 ∙ sym (new-count n))
+      ∙ ap (λ (g : File). pairsOf g n q) (same-file ac2 (x .file) 1 refl (x .number-is)) ∙ alone-pairs x
 
-  pub booking-ready : (278 ≤ length q) × Within s (pairsAt q (firstPair ac2) (room ac2))
-  booking-ready = (omega (arith, alone-length x, x .enough, first-pairs .5), subst (Within s) (sym new-pairs) (x .is .within))
+  pub booking-ready : Held ac2 0 s q
+  booking-ready = (omega (arith, alone-length x, x .enough), subst (Within s) (sym new-pairs) (x .is .within))
 
   pub still-enough : leastPlaces ≤ length q
   still-enough = omega (arith, alone-length x, x .enough)
 
-  pub booking-is : (b : Booking) → b ≡ bookingIn (valuesAt s q (firstPair ac2) (room ac2)) → b ≡ bookingIn (map (valueAt s) (x .pairs))
+  pub booking-is : (b : Booking) → b ≡ bookingIn (newValues s q) → b ≡ bookingIn (map (valueAt s) (x .pairs))
   booking-is b e = e ∙ ap (λ (ps : List Pair). bookingIn (map (valueAt s) ps)) new-pairs
 
   -- ---- AC2 was read

@@ -9,7 +9,7 @@ use borrow.Author.Tests.{le-leb, lt-leb}
 use Rattle.refusals.specs.Refusals.{numberOf}
 use Rattle.refusals.specs.declared.Refusal.{Refusal}
 use Rattle.refusals.specs.declared.RefusalKind.the-variants.{OutputTooShort}
-use Rattle.places.specs.Places.{setPairs, pairsAt, valueAt, valuesAt, cleared, Within}
+use Rattle.places.specs.Places.{Pair, setPairs, pairsAt, valueAt, valuesAt, cleared, Within}
 use Rattle.tables.specs.Section.{Section, entriesOf}
 use Rattle.tables.specs.Row.{rowsBefore}
 use Rattle.tables.specs.File.{File, ac2, acc, drift, suspension, gas, ofNumber, fixedSections, allSections, entries, room, firstPair, leastPlaces, tableOf}
@@ -24,25 +24,18 @@ use Rattle.files.specs.declared.FileAnswer.{FileAnswer}
 use Rattle.files.specs.declared.FileAnswer.the-variants as FileAnswer
 use Rattle.files.proofs.Pairs.{same-file, AloneRead, rooms-fit, refused-inv, by-alone, alone-few, alone-sections, alone-length, alone-pairs, alone-cleared}
 use Rattle.due.specs.Booking.{bookingIn}
-use Rattle.due.specs.Conditions.{linksIn, withLinks, conditionsOf, gasValues, gasValuesIn}
+use Rattle.due.specs.Values.{NumberHeld}
+use Rattle.due.specs.Conditions.{linksNumbered, withLinks, conditionsOf}
 use Rattle.due.specs.Due.{dueOf, dueIn}
 use Rattle.due.specs.declared.Booking.{Booking}
 use Rattle.due.specs.declared.Conditions.{Conditions}
-use Rattle.due.proofs.Entries.{due-file, gas-values-file}
+use Rattle.due.proofs.Entries.{due-file, conditions-file}
 use Rattle.rules.specs.Slices.{isRead}
-use Rattle.rules.proofs.Pairs.{gas-room}
+use Rattle.due.proofs.Pairs.{held-number, fixed-held}
 use Rattle.columns.specs.Column.{numbersFrom, columnOf, Outcome, refuses, gives, givesFile, givesRead, givesBeside, fitting, refusal, column, Gives}
 use Rattle.columns.specs.declared.ColumnAnswer.{ColumnAnswer}
 use Rattle.columns.specs.declared.ColumnAnswer.the-variants.{Column, Refused}
 use Rattle.columns.proofs.Numbers.{numbers-length, numbers-same}
-
--- values that are gas's alone
-gas-same : (f : File) (v w : List (List ℕ)) → (f ≡ gas → v ≡ w) → gasValues f v ≡ gasValues f w
-gas-same ac2 v w h = refl
-gas-same acc v w h = refl
-gas-same drift v w h = refl
-gas-same suspension v w h = refl
-gas-same gas v w h = h refl
 
 module _ (file : ℕ) (t p q : List ℕ) (n : ℕ) (x : AloneRead file t p q n) where
   abbrev f : File
@@ -81,38 +74,28 @@ module _ (file : ℕ) (t p q : List ℕ) (n : ℕ) (x : AloneRead file t p q n) 
       pub count-few : r - (n + k) ≤ 139
       count-few = omega (arith, count-is, entries-most f n (alone-few x), rooms-fit f, first-pairs .5)
 
-  gas-pairs : f ≡ gas → pairsAt q (firstPair gas) (room gas) ≡ x .pairs
-  gas-pairs e =
-      ap (λ (m : ℕ). pairsAt q (firstPair gas) m) (gas-room n)
-      ∙ ap (λ (g : File). pairsAt q (firstPair g) (length (entries g n))) (sym e) ∙ alone-pairs x
-
-  pub conditions-ready : (278 ≤ length q) × (file ≡ 5 → Within t (pairsAt q (firstPair gas) (room gas)))
-  conditions-ready = (
-    omega (arith, alone-length x, x .enough, first-pairs .5),
-    λ e. subst (Within t) (sym (gas-pairs (same-file f gas file (x .number-is) e))) (x .is .within),
-  )
+  pub conditions-ready : NumberHeld file 0 t q
+  conditions-ready =
+      fixed-held file n t q (held-number f file n t q (x .number-is) (omega (arith, alone-length x, x .enough), subst (Within t) (sym (alone-pairs x)) (x .is .within)))
 
   -- ---- the column
 
-  module _ (a : List (List ℕ)) (b : Booking) (eb : b ≡ bookingIn a) (c : Conditions) (ec : c ≡ withLinks b (linksIn (gasValuesIn file (valuesAt t q (firstPair gas) (room gas))))) where
-    conditions-are : c ≡ conditionsOf a (gasValues f own)
-    unfolding conditionsOf
+  module _ (a : List (List ℕ)) (b : Booking) (eb : b ≡ bookingIn a) (c : Conditions) (ec : c ≡ withLinks b (linksNumbered file t q)) where
+    conditions-are : c ≡ conditionsOf f a own
     conditions-are =
-        let v = valuesAt t q (firstPair gas) (room gas) in
-        let g : gasValuesIn file v ≡ gasValues f own
-        = ap (λ (m : ℕ). gasValuesIn m v) (x .number-is) ∙ gas-values-file f v ∙ gas-same f v own (λ e. ap (map (valueAt t)) (gas-pairs e)) in
-        ec ∙ ap₂ (λ (y : Booking) (z : List (List ℕ)). withLinks y (linksIn z)) eb g
+        ec ∙ ap₂ (λ (y : Booking) (m : ℕ). withLinks y (linksNumbered m t q)) eb (x .number-is)
+        ∙ conditions-file f n a t q ∙ ap (λ (ps : List Pair). conditionsOf f a (map (valueAt t) ps)) (alone-pairs x)
 
     pub column-is : (m : ℕ) → m ≡ size → numbersFrom (λ i. dueIn file i c) 0 m ≡ columnOf f (axlesOf f (x .count)) a own
     unfolding columnOf
     column-is m em =
-        numbers-same (λ i. dueIn file i c) (λ i. dueOf f i (conditionsOf a (gasValues f own))) (λ i. ap₂ (λ (j : ℕ) (y : Conditions). dueIn j i y) (x .number-is) conditions-are ∙ due-file f i (conditionsOf a (gasValues f own))) 0 m
-        ∙ ap (numbersFrom (λ i. dueOf f i (conditionsOf a (gasValues f own))) 0) (em ∙ ap (λ (j : ℕ). length (entries f j)) (x .axles-are))
+        numbers-same (λ i. dueIn file i c) (λ i. dueOf f i (conditionsOf f a own)) (λ i. ap₂ (λ (j : ℕ) (y : Conditions). dueIn j i y) (x .number-is) conditions-are ∙ due-file f i (conditionsOf f a own)) 0 m
+        ∙ ap (numbersFrom (λ i. dueOf f i (conditionsOf f a own)) 0) (em ∙ ap (λ (j : ℕ). length (entries f j)) (x .axles-are))
 
   column-size : (a : List (List ℕ)) → length (columnOf f (axlesOf f (x .count)) a own) ≡ size
   unfolding columnOf
   column-size a =
-      numbers-length (λ i. dueOf f i (conditionsOf a (gasValues f own))) 0 (length (entries f (axlesOf f (x .count))))
+      numbers-length (λ i. dueOf f i (conditionsOf f a own)) 0 (length (entries f (axlesOf f (x .count))))
       ∙ ap (λ (j : ℕ). length (entries f j)) (sym (x .axles-are))
 
   outcome-is : (a : List (List ℕ)) → givesRead file a t (readAlone file t) ≡ givesFile f a t (x .count) (x .pairs)

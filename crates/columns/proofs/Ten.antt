@@ -8,7 +8,7 @@ use lib.ListN.{length, length-map}
 use Rattle.places.specs.Places.{valueAt}
 use Rattle.tables.specs.File.{File, entries}
 use Rattle.files.proofs.Pairs.{AloneRead, alone-many}
-use Rattle.due.specs.Conditions.{conditionsOf, gasValues}
+use Rattle.due.specs.Conditions.{conditionsOf}
 use Rattle.due.specs.Due.{dueOf, filled, asDue, firstNotAsDueFrom, firstNotAsDue}
 use Rattle.due.specs.declared.Due.{Due}
 use Rattle.due.specs.declared.Due.the-variants.{IsDue, NotDue, IsFree}
@@ -28,11 +28,11 @@ from-numbered d i (suc n) (x ∷ xs) e = rw (as-numbered (d i) x, from-numbered 
 
 -- f with n axles and one value for each entry, beside AC2's values a
 pub ten : (f : File) (n : ℕ) (a own : List (List ℕ)) → length own ≡ length (entries f n)
-    → firstNotAsDue f (conditionsOf a (gasValues f own)) own ≡ firstNotAsNumbered 0 (columnOf f n a own) (map filled own)
+    → firstNotAsDue f (conditionsOf f a own) own ≡ firstNotAsNumbered 0 (columnOf f n a own) (map filled own)
 unfolding firstNotAsDue columnOf
-ten f n a own e = from-numbered (λ i. dueOf f i (conditionsOf a (gasValues f own))) 0 (length (entries f n)) (map filled own) (sym (length-map own filled ∙ e))
+ten f n a own e = from-numbered (λ i. dueOf f i (conditionsOf f a own)) 0 (length (entries f n)) (map filled own) (sym (length-map own filled ∙ e))
 
 -- a file that was read alone
 pub ten-alone : {file : ℕ} {t p q : List ℕ} {n : ℕ} (x : AloneRead file t p q n) (a : List (List ℕ))
-    → let own = map (valueAt t) (x .pairs) in firstNotAsDue (x .file) (conditionsOf a (gasValues (x .file) own)) own ≡ firstNotAsNumbered 0 (columnOf (x .file) n a own) (map filled own)
+    → let own = map (valueAt t) (x .pairs) in firstNotAsDue (x .file) (conditionsOf (x .file) a own) own ≡ firstNotAsNumbered 0 (columnOf (x .file) n a own) (map filled own)
 ten-alone {t = t} {n = n} x a = ten (x .file) n a (map (valueAt t) (x .pairs)) (length-map (x .pairs) (valueAt t) ∙ alone-many x)

@@ -12,7 +12,7 @@ use Rattle.reading.specs.Reading.{Reading, refused, read}
 use Rattle.files.specs.Files.{axlesOf}
 use Rattle.files.specs.Alone.{readAlone}
 use Rattle.due.specs.Booking.{bookingIn}
-use Rattle.due.specs.Conditions.{conditionsOf, gasValues}
+use Rattle.due.specs.Conditions.{conditionsOf}
 use Rattle.due.specs.Due.{dueOf}
 use Rattle.due.specs.declared.Booking.{Booking}
 use Rattle.due.specs.declared.Due.{Due}
@@ -36,7 +36,7 @@ numbersFrom d i (suc n) = dueNumber (d i) ∷ numbersFrom d (i + 1) n
 
 -- every entry of a file with n axles, in entry order: a for AC2's values, own for the file's
 unfoldable pub columnOf : File → ℕ → List (List ℕ) → List (List ℕ) → List ℕ
-columnOf f n a own = numbersFrom (λ i. dueOf f i (conditionsOf a (gasValues f own))) 0 (length (entries f n))
+columnOf f n a own = numbersFrom (λ i. dueOf f i (conditionsOf f a own)) 0 (length (entries f n))
 
 -- ---- number 10
 

@@ -10,7 +10,7 @@ use lib.ListN.{getD, List·getD-eq-default}
 use Rattle.lines.specs.Bytes.{sameBytes}
 use Rattle.kinds.specs.Kind.{words, categories}
 use Rattle.kinds.specs.Value.{wordIndex, isWord}
-use Rattle.due.specs.Booking.{isM, isN, isO}
+use Rattle.due.specs.Booking.{isM, isN, isO, isL}
 use Rattle.due.specs.Due.{isMoped, isMotorcycle, isMorN}
 
 abbrev pub mopedNumber : ℕ → Bool
@@ -21,6 +21,9 @@ motorcycleNumber k = (leb 12 k && leb k 14) || eqb k 16
 
 abbrev pub oNumber : ℕ → Bool
 oNumber k = leb 6 k && leb k 9
+
+abbrev pub lNumber : ℕ → Bool
+lNumber k = leb 10 k && leb k 16
 
 abbrev pub mOrNNumber : ℕ → Bool
 mOrNNumber k = ltb k 6
@@ -51,6 +54,10 @@ motorcycle-number k = same-test 17 isMotorcycle motorcycleNumber refl (λ j h. r
 pub o-number : (k : ℕ) → isO k ≡ oNumber k
 unfolding isO words
 o-number k = same-test 17 isO oNumber refl (λ j h. rw (no-category j h, le-leb 6 j (omega arith), lt-leb j 9 (omega arith)) refl) k
+
+pub l-number : (k : ℕ) → isL k ≡ lNumber k
+unfolding isL words
+l-number k = same-test 17 isL lNumber refl (λ j h. rw (no-category j h, le-leb 10 j (omega arith), lt-leb j 16 (omega arith)) refl) k
 
 pub m-or-n-number : (k : ℕ) → isMorN k ≡ mOrNNumber k
 unfolding isMorN isM isN words

@@ -1,4 +1,4 @@
--- What entries hang on, by place and by file number; and that each name stands in its file's table. Assumes nothing.
+-- What entries hang on, by place and by file number; and that each name that is not simply due stands in its file's table. Assumes nothing.
 use Prim.Native.Nat.{ℕ, zero, suc, _+_, _≤_, _<_}
 use native.Mathlib.Omega.{arith}
 use mathlib.Core.Path.{_≡_, refl, ap, sym, _∙_}
@@ -27,9 +27,10 @@ use Rattle.tables.specs.Entries.{
 use Rattle.tables.specs.File.{File, ac2, acc, drift, suspension, gas, fileNumber, ofNumber, entries, sections, fixedSections, axleSections, axlesFrom}
 use Rattle.kinds.specs.Value.{wordIndex}
 use Rattle.tables.specs.Row.{names, indexOf}
-use Rattle.tables.specs.Value.{placeOf, isEntry}
+use Rattle.tables.proofs.Files.{of-file}
 use Rattle.due.specs.Booking.{bookingIn}
-use Rattle.due.specs.Conditions.{linksIn, withLinks, conditionsOf, gasValues, gasValuesIn}
+use Rattle.due.specs.Values.{valuesOf}
+use Rattle.due.specs.Conditions.{noLinks, linksOf, linksNumbered, withLinks, conditionsOf}
 use Rattle.due.specs.Due.{NamedCondition, exceptions, conditionOf, fixedConditions, conditionAt, conditionIn, dueOf, dueIn}
 use Rattle.due.specs.Table.{conditionTable, firstCondition, fixedCount}
 use Rattle.due.specs.declared.Conditions.{Conditions}
@@ -50,21 +51,6 @@ exceptions-stand acc = refl
 exceptions-stand drift = refl
 exceptions-stand suspension = refl
 exceptions-stand gas = refl
-
--- and so does each name that conditions are made from
-pub condition-names :
-    (isEntry ac2 "CategoriaInternazionale" ≡ true)
-    × (isEntry ac2 "TargaNominale" ≡ true)
-    × (isEntry ac2 "Alimentazione_1" ≡ true)
-    × (isEntry ac2 "DirettivaEmissioniGasBenzinaAuto" ≡ true)
-    × (isEntry ac2 "DirettivaEmissioniGasMotociclo" ≡ true)
-    × (isEntry gas "TipoCollegamento" ≡ true)
-    × (isEntry gas "TipoCollegamentoContagiri" ≡ true)
-    × (isEntry gas "NumVersioneProtocollo" ≡ true)
-    × (isEntry gas "NumVersioneProtocolloContagiri" ≡ true)
-    × (isEntry gas "NumVersioneProtocolloProvaVelocita" ≡ true)
-unfolding placeOf wordIndex sameBytes entries entriesOf sections fixedSections axleSections newBooking protocol measurement analysis analyser counter speedTest allKeyDates allKeyBodies fuelAnalysis
-condition-names = (refl, refl, refl, refl, refl, refl, refl, refl, refl, refl)
 
 -- ---- places
 
@@ -93,28 +79,6 @@ condition-is f i h =
     ∙ ap (λ (cs : List Condition). getD cs i Always) (part-is f)
 
 -- ---- file numbers
-
--- what no file's number has
-pub no-file : {A : Type 0} (d : A) (g : File → A) (n : ℕ) → (n ≡ 1 → ⊥) → (n ≡ 2 → ⊥) → (n ≡ 3 → ⊥) → (n ≡ 4 → ⊥) → (n ≡ 5 → ⊥) → ofNumber d g n ≡ d
-unfolding ofNumber
-no-file d g zero h1 h2 h3 h4 h5 = refl
-no-file d g (suc zero) h1 h2 h3 h4 h5 = absurd (h1 refl)
-no-file d g (suc (suc zero)) h1 h2 h3 h4 h5 = absurd (h2 refl)
-no-file d g (suc (suc (suc zero))) h1 h2 h3 h4 h5 = absurd (h3 refl)
-no-file d g (suc (suc (suc (suc zero)))) h1 h2 h3 h4 h5 = absurd (h4 refl)
-no-file d g (suc (suc (suc (suc (suc zero))))) h1 h2 h3 h4 h5 = absurd (h5 refl)
-no-file d g (suc (suc (suc (suc (suc (suc n)))))) h1 h2 h3 h4 h5 = refl
-
--- AC2's conditions are the first
-pub first-else : (n : ℕ) → (n ≡ 2 → ⊥) → (n ≡ 3 → ⊥) → (n ≡ 4 → ⊥) → (n ≡ 5 → ⊥) → ofNumber 0 firstCondition n ≡ 0
-unfolding ofNumber firstCondition
-first-else zero h2 h3 h4 h5 = refl
-first-else (suc zero) h2 h3 h4 h5 = refl
-first-else (suc (suc zero)) h2 h3 h4 h5 = absurd (h2 refl)
-first-else (suc (suc (suc zero))) h2 h3 h4 h5 = absurd (h3 refl)
-first-else (suc (suc (suc (suc zero)))) h2 h3 h4 h5 = absurd (h4 refl)
-first-else (suc (suc (suc (suc (suc zero))))) h2 h3 h4 h5 = absurd (h5 refl)
-first-else (suc (suc (suc (suc (suc (suc n)))))) h2 h3 h4 h5 = refl
 
 -- the condition of an entry of the fixed sections stands in the table
 condition-in : (n i : ℕ) → i < fixedCount n → getD conditionTable (ofNumber 0 firstCondition n + i) Always ≡ conditionIn n i
@@ -152,17 +116,6 @@ table-in (suc (suc (suc (suc zero)))) = omega arith
 table-in (suc (suc (suc (suc (suc zero))))) = omega arith
 table-in (suc (suc (suc (suc (suc (suc n)))))) = omega arith
 
--- a number that is not gas's leaves gas's values out
-pub not-gas : (n : ℕ) (own : List (List ℕ)) → (n ≡ 5 → ⊥) → gasValuesIn n own ≡ []
-unfolding gasValuesIn ofNumber
-not-gas zero own h = refl
-not-gas (suc zero) own h = refl
-not-gas (suc (suc zero)) own h = refl
-not-gas (suc (suc (suc zero))) own h = refl
-not-gas (suc (suc (suc (suc zero)))) own h = refl
-not-gas (suc (suc (suc (suc (suc zero))))) own h = absurd (h refl)
-not-gas (suc (suc (suc (suc (suc (suc n)))))) own h = refl
-
 -- by a file's number is by the file
 pub condition-file : (f : File) (i : ℕ) → conditionIn (fileNumber f) i ≡ conditionAt f i
 unfolding conditionIn ofNumber
@@ -176,15 +129,16 @@ pub due-file : (f : File) (i : ℕ) (c : Conditions) → dueIn (fileNumber f) i 
 unfolding dueIn dueOf
 due-file f i c = rw (condition-file f i)
 
-pub gas-values-file : (f : File) (own : List (List ℕ)) → gasValuesIn (fileNumber f) own ≡ gasValues f own
-unfolding gasValuesIn ofNumber
-gas-values-file ac2 own = refl
-gas-values-file acc own = refl
-gas-values-file drift own = refl
-gas-values-file suspension own = refl
-gas-values-file gas own = refl
+-- gas, the file with links, has no axles
+links-any : (f : File) (n : ℕ) (t p : List ℕ) → linksOf f (valuesOf f 0 t p) ≡ linksOf f (valuesOf f n t p)
+unfolding entries sections axleSections
+links-any ac2 n t p = refl
+links-any acc n t p = refl
+links-any drift n t p = refl
+links-any suspension n t p = refl
+links-any gas n t p = refl
 
--- what `conditions_of` answers for a file, over values
-pub conditions-file : (f : File) (a own : List (List ℕ)) → withLinks (bookingIn a) (linksIn (gasValuesIn (fileNumber f) own)) ≡ conditionsOf a (gasValues f own)
-unfolding conditionsOf
-conditions-file f a own = rw (gas-values-file f own)
+-- what `conditions_of` answers for a file, over its values
+pub conditions-file : (f : File) (n : ℕ) (a : List (List ℕ)) (t p : List ℕ) → withLinks (bookingIn a) (linksNumbered (fileNumber f) t p) ≡ conditionsOf f a (valuesOf f n t p)
+unfolding conditionsOf linksNumbered
+conditions-file f n a t p = ap (withLinks (bookingIn a)) (of-file noLinks (λ (f : File). linksOf f (valuesOf f 0 t p)) f ∙ links-any f n t p)

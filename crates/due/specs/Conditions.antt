@@ -1,17 +1,22 @@
 -- What due entries hang on, made from values (01, Due entries).
 use Prim.Native.Nat.{ℕ}
 use mathlib.Core.Bool.{Bool, true, false, cond}
-use mathlib.Core.List.{List, []}
+use mathlib.Core.List.{List}
 use Rattle.lines.specs.Bytes.{sameBytes}
 use Rattle.lines.specs.Text.{bytes}
 use Rattle.tables.specs.File.{File, ac2, acc, drift, suspension, gas, ofNumber}
+use Rattle.places.specs.Places.{valueOf}
 use Rattle.tables.specs.Value.{of}
+use Rattle.due.specs.Values.{valuesOf}
 use Rattle.due.specs.Booking.{bookingIn}
 use Rattle.due.specs.declared.Version.{Version}
 use Rattle.due.specs.declared.Version.the-variants.{V200, V210, OtherVersion}
 use Rattle.due.specs.declared.Booking.{Booking}
 use Rattle.due.specs.declared.Links.{Links}
+use Rattle.due.specs.declared.LinkPairs.{LinkPairs}
 use Rattle.due.specs.declared.Conditions.{Conditions}
+
+-- ---- what a file's own values say
 
 abbrev pub is200 : Version → Bool
 is200 V200 = true
@@ -26,17 +31,41 @@ is210 OtherVersion = false
 unfoldable pub versionIn : List ℕ → Version
 versionIn v = cond (sameBytes v (bytes "200")) V200 (cond (sameBytes v (bytes "210")) V210 OtherVersion)
 
--- gas's values, reduced; of no values, each link is false and each version another
-unfoldable pub linksIn : List (List ℕ) → Links
-linksIn g = record {
-  serial = sameBytes (of gas g "TipoCollegamento") (bytes "RS SENZA ESITO");
-  external = sameBytes (of gas g "TipoCollegamentoContagiri") (bytes "ESTERNO");
-  analyser = versionIn (of gas g "NumVersioneProtocollo");
-  counter = versionIn (of gas g "NumVersioneProtocolloContagiri");
-  speedtest = versionIn (of gas g "NumVersioneProtocolloProvaVelocita");
+-- a value of TipoCollegamento
+unfoldable pub isSerialLink : List ℕ → Bool
+isSerialLink v = sameBytes v (bytes "RS SENZA ESITO")
+
+-- the file has RS SENZA ESITO
+abbrev pub isSerial : File → List (List ℕ) → Bool
+isSerial f own = isSerialLink (of f own "TipoCollegamento")
+
+-- the entries have these names in each file that has links; of an entry that it has not, the value is empty
+unfoldable pub linksIn : File → List (List ℕ) → Links
+linksIn f own = record {
+  serial = isSerial f own;
+  external = sameBytes (of f own "TipoCollegamentoContagiri") (bytes "ESTERNO");
+  analyser = versionIn (of f own "NumVersioneProtocollo");
+  counter = versionIn (of f own "NumVersioneProtocolloContagiri");
+  speedtest = versionIn (of f own "NumVersioneProtocolloProvaVelocita");
 }
 
--- what AC2 says, and what gas says
+-- the files with entries that hang on links
+abbrev pub hasLinks : File → Bool
+hasLinks ac2 = false
+hasLinks acc = false
+hasLinks drift = false
+hasLinks suspension = false
+hasLinks gas = true
+
+abbrev pub noLinks : Links
+noLinks = record { serial = false; external = false; analyser = OtherVersion; counter = OtherVersion; speedtest = OtherVersion }
+
+abbrev pub linksOf : File → List (List ℕ) → Links
+linksOf f own = cond (hasLinks f) (linksIn f own) noLinks
+
+-- ---- conditions
+
+-- what AC2 says, and what the file's own links say
 abbrev pub withLinks : Booking → Links → Conditions
 withLinks b l = record {
   category = b .category;
@@ -51,18 +80,22 @@ withLinks b l = record {
   speedtest = l .speedtest;
 }
 
--- from AC2's values and gas's: no values where the file judged is not gas
-unfoldable pub conditionsOf : List (List ℕ) → List (List ℕ) → Conditions
-conditionsOf a g = withLinks (bookingIn a) (linksIn g)
+-- the conditions of file f, from AC2's values and its own
+unfoldable pub conditionsOf : File → List (List ℕ) → List (List ℕ) → Conditions
+conditionsOf f a own = withLinks (bookingIn a) (linksOf f own)
 
--- the own values of the file judged where it is gas, and none where it is another
-abbrev pub gasValues : File → List (List ℕ) → List (List ℕ)
-gasValues ac2 own = []
-gasValues acc own = []
-gasValues drift own = []
-gasValues suspension own = []
-gasValues gas own = own
+-- ---- for the contracts of the code
 
--- the same by the file's number
-unfoldable pub gasValuesIn : ℕ → List (List ℕ) → List (List ℕ)
-gasValuesIn n own = ofNumber [] (λ f. gasValues f own) n
+-- the links at these pairs, with this version of the bench
+abbrev pub linksAt : LinkPairs → Version → List ℕ → List ℕ → Links
+linksAt k v t p = record {
+  serial = isSerialLink (valueOf t p (k .link));
+  external = sameBytes (valueOf t p (k .counterlink)) (bytes "ESTERNO");
+  analyser = versionIn (valueOf t p (k .version));
+  counter = versionIn (valueOf t p (k .counterversion));
+  speedtest = v;
+}
+
+-- the links of the file of number m, from the values of its fixed sections
+unfoldable pub linksNumbered : ℕ → List ℕ → List ℕ → Links
+linksNumbered m t p = ofNumber noLinks (λ f. linksOf f (valuesOf f 0 t p)) m

@@ -1,3 +1,4 @@
+pub mod Values
 pub mod Booking
 pub mod Conditions
 pub mod Due

@@ -4,12 +4,14 @@ ghost use mathlib.Core.Bool.{_&&_};
 ghost use Prim.Native.Nat.{_+_, _*_, _<_, _≤_};
 ghost use lib.Dec.{ltb};
 ghost use lib.ListN.{length};
-ghost use Rattle.places.specs.Places.{placeSize, startOf, lengthOf, pairsAt, valueAt, valuesAt, Within};
-ghost use Rattle.tables.specs.File.{ac2, gas, ofNumber, firstPair, room};
-ghost use Rattle.due.specs.Booking.{fuelIn, isLate, isPetrol, isDiesel, isO, bookingIn};
-ghost use Rattle.due.specs.Conditions.{is200, is210, versionIn, linksIn, withLinks, gasValuesIn};
+ghost use Rattle.places.specs.Places.{placeSize, lengthOf, pairsAt};
+ghost use Rattle.tables.specs.File.{ac2, ofNumber};
+ghost use Rattle.due.specs.Values.{newValues, Held, NumberHeld, PairHeld};
+ghost use Rattle.due.specs.Booking.{fuelIn, isLate, isPetrol, isDiesel, isO, isL, bookingIn};
+ghost use Rattle.due.specs.Conditions.{is200, is210, versionIn, isSerialLink, linksAt, linksNumbered, withLinks};
 ghost use Rattle.due.specs.Due.{conditionIn, isMoped, isMotorcycle, isMorN, conditionP, when, holdsIn, dueIn, filledPairs, asDue, firstNotAsDueFrom};
 ghost use Rattle.due.specs.Table.{firstCondition, fixedCount};
+use tables::pairs;
 
 pub enum Fuel {
     Petrol,
@@ -34,8 +36,8 @@ pub enum Version {
     OtherVersion,
 }
 
-// What due entries ask of gas: whether TipoCollegamento is RS SENZA ESITO, whether TipoCollegamentoContagiri is ESTERNO,
-// and the protocol version of each device.
+// What due entries ask of a file with device links: whether TipoCollegamento is RS SENZA ESITO, whether
+// TipoCollegamentoContagiri is ESTERNO, and the protocol version of each device.
 pub struct Links {
     pub serial: bool,
     pub external: bool,
@@ -44,7 +46,31 @@ pub struct Links {
     pub speedtest: Version,
 }
 
-// All that due entries depend on: a booking's five and gas's five.
+// The pairs of four values that links are made from.
+struct LinkPairs {
+    link: usize,
+    version: usize,
+    counterlink: usize,
+    counterversion: usize,
+}
+
+const GAS_LINKS: LinkPairs = LinkPairs {
+    link: pairs::GAS_TIPO_COLLEGAMENTO,
+    version: pairs::GAS_NUM_VERSIONE_PROTOCOLLO,
+    counterlink: pairs::GAS_TIPO_COLLEGAMENTO_CONTAGIRI,
+    counterversion: pairs::GAS_NUM_VERSIONE_PROTOCOLLO_CONTAGIRI,
+};
+
+// Of a file without links.
+const NO_LINKS: Links = Links {
+    serial: false,
+    external: false,
+    analyser: Version::OtherVersion,
+    counter: Version::OtherVersion,
+    speedtest: Version::OtherVersion,
+};
+
+// All that due entries depend on: a booking's five and the links' five.
 pub struct Conditions {
     pub category: usize,
     pub six: bool,
@@ -236,6 +262,16 @@ pub fn is_motorcycle(category: usize) -> bool
     }
 }
 
+// L1e to L7e
+pub fn is_l(category: usize) -> bool
+    ensures { λ r. ⌜ r ≡ isL category ⌝ }
+{
+    match category {
+        10..=16 => true,
+        _ => false,
+    }
+}
+
 pub fn is_o(category: usize) -> bool
     ensures { λ r. ⌜ r ≡ isO category ⌝ }
 {
@@ -418,7 +454,7 @@ pub fn first_not_as_due(
 // The numbers of two lists of words in kinds.
 const CATEGORIES: u8 = 1;
 
-const PETROL_DIRECTIVES: u8 = 3;
+pub const PETROL_DIRECTIVES: u8 = 3;
 
 pub fn fuel_of(value: &[u8]) -> Fuel
     ensures { λ r. ⌜ r ≡ fuelIn (now (value .entry)) ⌝ }
@@ -454,77 +490,71 @@ pub fn is_late(value: &[u8]) -> bool
     }
 }
 
-// The pairs of the values that conditions are made from, in AC2 and in gas.
-const TARGA_NOMINALE: usize = 0;
-
-const CATEGORIA_INTERNAZIONALE: usize = 2;
-
-const ALIMENTAZIONE_1: usize = 5;
-
-const DIRETTIVA_BENZINA_AUTO: usize = 8;
-
-const DIRETTIVA_MOTOCICLO: usize = 9;
-
-const TIPO_COLLEGAMENTO_CONTAGIRI: usize = 98;
-
-const NUM_VERSIONE_PROTOCOLLO_CONTAGIRI: usize = 99;
-
-const NUM_VERSIONE_PROTOCOLLO_PROVA_VELOCITA: usize = 105;
-
-const NUM_VERSIONE_PROTOCOLLO: usize = 108;
-
-const TIPO_COLLEGAMENTO: usize = 110;
-
 // What AC2 says. Its pairs lie within its text, as reading it has made sure.
 pub fn booking_of(text: &[u8], places: &[u32]) -> Booking
-    requires { ⌜ (278 ≤ length (now places)) × Within (now text) (pairsAt (now places) (firstPair ac2) (room ac2)) ⌝ }
-    ensures { λ r. ⌜ r ≡ bookingIn (valuesAt (now (text .entry)) (now (places .entry)) (firstPair ac2) (room ac2)) ⌝ }
+    requires { ⌜ Held ac2 0 (now text) (now places) ⌝ }
+    ensures { λ r. ⌜ r ≡ bookingIn (newValues (now (text .entry)) (now (places .entry))) ⌝ }
 {
     let category = kinds::word_index(
         CATEGORIES,
-        places::value_of(text, places, CATEGORIA_INTERNAZIONALE),
+        places::value_of(text, places, pairs::AC2_CATEGORIA_INTERNAZIONALE),
     );
-    let fuel = fuel_of(places::value_of(text, places, ALIMENTAZIONE_1));
-    let late = is_late(places::value_of(text, places, DIRETTIVA_BENZINA_AUTO));
+    let fuel = fuel_of(places::value_of(text, places, pairs::AC2_ALIMENTAZIONE_1));
+    let late = is_late(places::value_of(text, places, pairs::AC2_DIRETTIVA_BENZINA_AUTO));
     let nessuna = lines::equal(
-        places::value_of(text, places, DIRETTIVA_MOTOCICLO),
+        places::value_of(text, places, pairs::AC2_DIRETTIVA_MOTOCICLO),
         b"NESSUNA",
     );
     Booking {
         category,
-        six: places::length_of(places, TARGA_NOMINALE) == 6,
+        six: places::length_of(places, pairs::AC2_TARGA_NOMINALE) == 6,
         fuel,
         late,
         nessuna,
     }
 }
 
-// What gas says. Its pairs lie within its text, as reading it has made sure.
-pub fn links_of(text: &[u8], places: &[u32]) -> Links
-    requires { ⌜ (278 ≤ length (now places)) × Within (now text) (pairsAt (now places) (firstPair gas) (room gas)) ⌝ }
-    ensures { λ r. ⌜ r ≡ linksIn (valuesAt (now (text .entry)) (now (places .entry)) (firstPair gas) (room gas)) ⌝ }
+// Whether a value of TipoCollegamento is RS SENZA ESITO.
+pub fn is_serial(link: &[u8]) -> bool
+    ensures { λ r. ⌜ r ≡ isSerialLink (now (link .entry)) ⌝ }
 {
-    let external = lines::equal(
-        places::value_of(text, places, TIPO_COLLEGAMENTO_CONTAGIRI),
-        b"ESTERNO",
-    );
-    let counter = version_of(places::value_of(text, places, NUM_VERSIONE_PROTOCOLLO_CONTAGIRI));
-    let speedtest = version_of(places::value_of(
-        text,
-        places,
-        NUM_VERSIONE_PROTOCOLLO_PROVA_VELOCITA,
-    ));
-    let analyser = version_of(places::value_of(text, places, NUM_VERSIONE_PROTOCOLLO));
-    let serial = lines::equal(
-        places::value_of(text, places, TIPO_COLLEGAMENTO),
-        b"RS SENZA ESITO",
-    );
+    lines::equal(link, b"RS SENZA ESITO")
+}
+
+// The links at these pairs, with this version of the bench.
+fn links_at(k: LinkPairs, speedtest: Version, text: &[u8], places: &[u32]) -> Links
+    requires { ⌜ PairHeld (now text) (now places) (k .link) × PairHeld (now text) (now places) (k .version) × PairHeld (now text) (now places) (k .counterlink) × PairHeld (now text) (now places) (k .counterversion) ⌝ }
+    ensures { λ r. ⌜ r ≡ linksAt k speedtest (now (text .entry)) (now (places .entry)) ⌝ }
+{
+    let serial = is_serial(places::value_of(text, places, k.link));
+    let analyser = version_of(places::value_of(text, places, k.version));
+    let external = lines::equal(places::value_of(text, places, k.counterlink), b"ESTERNO");
+    let counter = version_of(places::value_of(text, places, k.counterversion));
     Links {
         serial,
         external,
         analyser,
         counter,
         speedtest,
+    }
+}
+
+// What the file of this number says of its links: its pairs lie within its text, as reading it has made sure. A file
+// without links is not looked at.
+pub fn links_of(file: u32, text: &[u8], places: &[u32]) -> Links
+    requires { ⌜ NumberHeld file 0 (now text) (now places) ⌝ }
+    ensures { λ r. ⌜ r ≡ linksNumbered file (now (text .entry)) (now (places .entry)) ⌝ }
+{
+    match file {
+        5 => {
+            let speedtest = version_of(places::value_of(
+                text,
+                places,
+                pairs::GAS_NUM_VERSIONE_PROTOCOLLO_PROVA_VELOCITA,
+            ));
+            links_at(GAS_LINKS, speedtest, text, places)
+        }
+        _ => NO_LINKS,
     }
 }
 
@@ -549,21 +579,10 @@ fn with_links(booking: Booking, links: Links) -> Conditions
     }
 }
 
-// The conditions for judging a file, from what AC2 says and the file's own text: gas's counts, another's is not looked at.
-// Gas's pairs lie within its text, as reading it has made sure.
+// The conditions of the file of this number, from what AC2 says and the file's own text.
 pub fn conditions_of(file: u32, booking: Booking, own: &[u8], places: &[u32]) -> Conditions
-    requires { ⌜ (278 ≤ length (now places)) × (file ≡ 5 → Within (now own) (pairsAt (now places) (firstPair gas) (room gas))) ⌝ }
-    ensures { λ r. ⌜ r ≡ withLinks booking (linksIn (gasValuesIn file (valuesAt (now (own .entry)) (now (places .entry)) (firstPair gas) (room gas)))) ⌝ }
+    requires { ⌜ NumberHeld file 0 (now own) (now places) ⌝ }
+    ensures { λ r. ⌜ r ≡ withLinks booking (linksNumbered file (now (own .entry)) (now (places .entry))) ⌝ }
 {
-    if file == 5 {
-        return with_links(booking, links_of(own, places));
-    }
-    let none = Links {
-        serial: false,
-        external: false,
-        analyser: Version::OtherVersion,
-        counter: Version::OtherVersion,
-        speedtest: Version::OtherVersion,
-    };
-    with_links(booking, none)
+    with_links(booking, links_of(file, own, places))
 }

@@ -6,7 +6,8 @@ use Rattle.kinds.proofs.Laws.{by-test}
 use mathlib.Core.List.{List, []}
 use Rattle.refusals.specs.Answer.{Answer, acceptance, require}
 use Rattle.refusals.specs.declared.RefusalKind.the-variants.{SliceNotAsDue, AnswerForm, AnswerDiffers}
-use Rattle.rules.specs.Values.{gasValues}
+use Rattle.tables.specs.File.{gas}
+use Rattle.due.specs.Values.{valuesOf}
 use Rattle.rules.specs.Slices.{answerRight}
 use Rattle.rules.specs.Answer.{sevenOf, sameFields}
 use Rattle.serial.specs.Reading.{readAnswer, addressIn, sevenIn}
@@ -20,17 +21,17 @@ use Rattle.judge.specs.declared.Step.the-variants.{Go}
 
 module _ (g i p : List ℕ) where
   abbrev chain : Bool → Bool → AnswerRead → Answer (List ℕ)
-  chain x y r = require x 11 6 0 (cond y (judgeFields (gasValues g p) i r) (acceptance []))
+  chain x y r = require x 11 6 0 (cond y (judgeFields (valuesOf gas 0 g p) i r) (acceptance []))
 
-  chained : answerJudged g i p ≡ chain (answerRight (isGiven g) (gasValues g p) (isGiven i)) (isGiven i) (readAnswer i)
+  chained : answerJudged g i p ≡ chain (answerRight (isGiven g) (valuesOf gas 0 g p) (isGiven i)) (isGiven i) (readAnswer i)
   unfolding judgeAnswer
   chained = refl
 
   -- 11
-  pub answer-wrong : answerRight (isGiven g) (gasValues g p) (isGiven i) ≡ false → JudgesAnswer (answerJudged g i p) (answerRefused SliceNotAsDue)
+  pub answer-wrong : answerRight (isGiven g) (valuesOf gas 0 g p) (isGiven i) ≡ false → JudgesAnswer (answerJudged g i p) (answerRefused SliceNotAsDue)
   answer-wrong h = chained ∙ ap (λ (x : Bool). chain x (isGiven i) (readAnswer i)) h
 
-  module _ (h : answerRight (isGiven g) (gasValues g p) (isGiven i) ≡ true) where
+  module _ (h : answerRight (isGiven g) (valuesOf gas 0 g p) (isGiven i) ≡ true) where
     pub answer-none : isGiven i ≡ false → JudgesAnswer (answerJudged g i p) (Go nothingKept)
     answer-none k = ([], chained ∙ ap₂ (λ (x y : Bool). chain x y (readAnswer i)) h k)
 
@@ -40,7 +41,7 @@ module _ (g i p : List ℕ) where
     gas-given k = by-test (isGiven g) (λ e. e) (λ e. absurd (true≢false (sym (rw (e, k) at h))))
 
     module _ (k : isGiven i ≡ true) where
-      read-as : (r : AnswerRead) → readAnswer i ≡ r → answerJudged g i p ≡ judgeFields (gasValues g p) i r
+      read-as : (r : AnswerRead) → readAnswer i ≡ r → answerJudged g i p ≡ judgeFields (valuesOf gas 0 g p) i r
       read-as r e = chained ∙ ap₂ (λ (x y : Bool). chain x y (readAnswer i)) h k ∙ ap (chain true true) e
 
       -- 14
@@ -49,8 +50,8 @@ module _ (g i p : List ℕ) where
 
       module _ (x : FieldEnds) (e : readAnswer i ≡ Fields x) where
         -- 15
-        pub answer-differs : sameFields (sevenIn i x) (sevenOf (gasValues g p)) ≡ false → JudgesAnswer (answerJudged g i p) (answerRefused AnswerDiffers)
+        pub answer-differs : sameFields (sevenIn i x) (sevenOf (valuesOf gas 0 g p)) ≡ false → JudgesAnswer (answerJudged g i p) (answerRefused AnswerDiffers)
         answer-differs q = read-as (Fields x) e ∙ ap (λ (b : Bool). require b 15 6 0 (acceptance (addressIn i x))) q
 
-        pub answer-same : sameFields (sevenIn i x) (sevenOf (gasValues g p)) ≡ true → JudgesAnswer (answerJudged g i p) (Go nothingKept)
+        pub answer-same : sameFields (sevenIn i x) (sevenOf (valuesOf gas 0 g p)) ≡ true → JudgesAnswer (answerJudged g i p) (Go nothingKept)
         answer-same q = (addressIn i x, read-as (Fields x) e ∙ ap (λ (b : Bool). require b 15 6 0 (acceptance (addressIn i x))) q)

@@ -9,7 +9,7 @@ use Rattle.places.specs.Places.{setPairs}
 use Rattle.tables.specs.File.{File, fileNumber, ofNumber}
 use Rattle.due.specs.Booking.{bookingIn}
 use Rattle.due.specs.declared.Booking.{Booking}
-use Rattle.rules.specs.Values.{newValues}
+use Rattle.due.specs.Values.{newValues}
 use Rattle.rules.specs.Slices.{sliceRight, isRead}
 use Rattle.rules.specs.Answer.{isMarked}
 use Rattle.rules.specs.declared.Stated.{Stated}

@@ -16,10 +16,10 @@ use Rattle.tables.proofs.Axles.{entries-most}
 use Rattle.files.proofs.Pairs.{few-axles, rooms-fit, own-pairs}
 use Rattle.due.specs.Booking.{bookingIn}
 use Rattle.due.specs.declared.Booking.{Booking}
-use Rattle.rules.specs.Values.{pairsOf, newValues, NewHeld, GasHeld, gasValues}
+use Rattle.due.specs.Values.{pairsOf, valuesOf, newValues, Held}
 use Rattle.rules.specs.Slices.{sliceRight, isRead, answerRight}
 use Rattle.rules.specs.declared.Stated.{Stated}
-use Rattle.rules.proofs.Pairs.{gas-count}
+use Rattle.due.proofs.Pairs.{gas-count}
 use Rattle.serial.specs.Reading.{readAnswer}
 use Rattle.sets.specs.Records.{Slices, isGiven}
 use Rattle.sets.specs.Judge.{FileRead, SetRead, notRead, judgeBooking, judgeFields, judgeFile, judgeAnswer, fileGiven, answerStep, setRead, Slice, fileSlice, answerSlice, laterSlices, eachAccepted, judgeSlices, setFiles}
@@ -76,7 +76,7 @@ module _ (stated : Stated) (S : Slices) (p : List ℕ) where
 
   -- the slices before cs were accepted: what is left to judge, the places, and what is known of what was kept
   pub record Going (K : Type 0) (cs : List Slice) (w q : List ℕ) : Type 0 where
-    pub held : NewHeld text q
+    pub held : Held ac2 0 text q
     pub book : newValues text q ≡ a
     pub rest : whole ≡ eachAccepted stated S a cs x
     pub places : q ≡ w
@@ -101,7 +101,7 @@ module _ (stated : Stated) (S : Slices) (p : List ℕ) where
   abbrev pub filled : File → List ℕ → List ℕ
   filled f w = setPairs (firstPair f) (fileGiven stated S a f .pairs) w
 
-  pub at-first : NewHeld text p → Going (Unit {0}) laterSlices p p
+  pub at-first : Held ac2 0 text p → Going (Unit {0}) laterSlices p p
   at-first h = record { held = h; book = refl; rest = refl; places = refl; size = refl; kept = tt }
 
   module _ (f : File) (l : 2 ≤ fileNumber f) (K : Type 0) (cs : List Slice) (w q : List ℕ) where
@@ -171,7 +171,7 @@ module _ (stated : Stated) (S : Slices) (p : List ℕ) where
       is : g ≡ fileGiven stated S a gas
       is = sym (ap (givenBy notRead) s)
 
-      given : isGiven (S .file gas) ≡ true → GasHeld (S .file gas) v × (answerJudged (S .file gas) (S .answer) v ≡ answerStep stated S a)
+      given : isGiven (S .file gas) ≡ true → Held gas 0 (S .file gas) v × (answerJudged (S .file gas) (S .answer) v ≡ answerStep stated S a)
       given e =
           let k : Passed gas a (S .file gas) g = file-sound gas stated a (S .file gas) g s .read e in
           let fit : placeSize * (firstPair gas + length (g .pairs)) ≤ leastPlaces = omega (arith, read-few gas a (S .file gas) g k, rooms-fit gas) in
@@ -183,7 +183,7 @@ module _ (stated : Stated) (S : Slices) (p : List ℕ) where
           )
 
       none : isGiven (S .file gas) ≡ false → answerJudged (S .file gas) (S .answer) v ≡ answerStep stated S a
-      none e = rw e (no-values (gasValues (S .file gas) v) (fileGiven stated S a gas .values) (S .answer))
+      none e = rw e (no-values (valuesOf gas 0 (S .file gas) v) (fileGiven stated S a gas .values) (S .answer))
 
   pub answer-known : (K : Type 0) (cs : List Slice) (before : Step) (w q : List ℕ) → After K (fileSlice gas ∷ cs) before w q → (r : Step) (v : List ℕ)
       → Next before r q v (JudgesNext gas r q v) → Asked r (AnswerKnown v)
@@ -258,7 +258,7 @@ module _ (stated : Stated) (S : Slices) (p q : List ℕ) (l : leastPlaces ≤ le
     values : newValues (S .file ac2) q ≡ b .values
     values = ap (map (valueAt (S .file ac2))) own ∙ sym (w .values)
 
-    pub booked-ready : NewHeld (S .file ac2) q × IsBooking (y .booking) (S .file ac2) q
+    pub booked-ready : Held ac2 0 (S .file ac2) q × IsBooking (y .booking) (S .file ac2) q
     booked-ready = (
       (omega (arith, ap length (h .4), set-length (firstPair ac2) (b .pairs) p, l), subst (Within (S .file ac2)) (sym own) (w .within)),
       h .3 ∙ ap bookingIn (sym values),

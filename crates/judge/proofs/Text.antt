@@ -25,8 +25,8 @@ use Rattle.files.proofs.Theorem as T
 use Rattle.files.proofs.Pairs.{few-axles, pairs-fit, own-pairs}
 use Rattle.due.specs.Booking.{bookingIn}
 use Rattle.due.specs.declared.Booking.{Booking}
-use Rattle.rules.specs.Values.{pairsOf, newValues, NewHeld}
-use Rattle.rules.proofs.Pairs.{new-count}
+use Rattle.due.specs.Values.{pairsOf, newValues, Held}
+use Rattle.due.proofs.Pairs.{new-count}
 use Rattle.sets.specs.Judge.{fileRead, fileChecks, firstFailed, checkedFile, judgeReading, judgeText}
 use Rattle.judge.specs.Steps.{fileNumbered, IsNumber, keptOf, IsBooking, Ready, ValuesReady, valuesStep, JudgesValues, JudgesFile, textJudged, JudgesBooking}
 use Rattle.judge.specs.declared.Kept.{Kept}
@@ -97,7 +97,7 @@ module _ (file : ℕ) (number : IsNumber file) (t p q ls : List ℕ) (r : TextAn
     still = omega (arith, ap length set, set-length (firstPair f) ps p, enough)
 
     -- s for AC2's text
-    pub text-ready : (b : Booking) (s : List ℕ) → NewHeld s q → IsBooking b s q → 64 ≤ length ls → ValuesReady file c b s t q ls
+    pub text-ready : (b : Booking) (s : List ℕ) → Held ac2 0 s q → IsBooking b s q → 64 ≤ length ls → ValuesReady file c b s t q ls
     text-ready b s h eb l =
         let i = sound (allSections f) (leastSections f) t (tables-distinct f) c ps _ (T.by-inv (allSections f) (leastSections f) t c ps _ was-read .1) .is in
         record {
@@ -160,7 +160,7 @@ module _ (t p q ls : List ℕ) (r : TextAnswer) (w : ReadsText 1 t r p q ls) whe
     now-own : pairsOf ac2 0 q ≡ pairs
     now-own = sym (new-pairs (axlesOf ac2 c) q) ∙ subst (λ (f : File). pairsOf f (axlesOf f c) q ≡ pairs) new-number (own 1 number t p q ls r w enough c e)
 
-    pub booking-held : NewHeld t q
+    pub booking-held : Held ac2 0 t q
     booking-held = (still 1 number t p q ls r w enough c e, subst (Within t) (sym now-own) (x 1 number t p q ls r w enough c e .within))
 
     pub values-ready : (b : Booking) → IsBooking b t q → 64 ≤ length ls → ValuesReady 1 c b t t q ls

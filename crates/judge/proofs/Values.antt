@@ -10,7 +10,7 @@ use borrow.Author.Tests.{lt-ltb, le-ltb}
 use Rattle.refusals.specs.Refusals.{numberOf}
 use Rattle.refusals.specs.Answer.{refusal}
 use Rattle.refusals.specs.declared.RefusalKind.the-variants.{NotAsDue}
-use Rattle.places.specs.Places.{Pair, pairsAt, valuesAt, Within}
+use Rattle.places.specs.Places.{Pair, placeSize, pairsAt}
 use Rattle.places.proofs.Laws.{values-length}
 use Rattle.tables.specs.Section.{Section, entriesOf}
 use Rattle.tables.specs.Row.{rowsBefore}
@@ -20,31 +20,24 @@ use Rattle.reading.proofs.Sections.{rows-entries}
 use Rattle.files.specs.Files.{axlesOf}
 use Rattle.files.proofs.Pairs.{rooms-fit}
 use Rattle.due.specs.Booking.{bookingIn}
-use Rattle.due.specs.Conditions.{linksIn, withLinks, conditionsOf, gasValues, gasValuesIn}
+use Rattle.due.specs.Conditions.{linksNumbered, withLinks, conditionsOf}
 use Rattle.due.specs.Due.{dueIn, filledPairs, firstNotAsDueFrom, firstNotAsDue}
 use Rattle.due.specs.declared.Booking.{Booking}
 use Rattle.due.specs.declared.Conditions.{Conditions}
-use Rattle.due.proofs.Entries.{gas-values-file}
+use Rattle.due.proofs.Entries.{conditions-file}
 use Rattle.due.proofs.FirstNotAsDue.{first-at-values}
 use Rattle.rules.specs.Rule.{firstBroken}
 use Rattle.rules.specs.Rules.{rulesOf, firstBrokenAt}
-use Rattle.rules.specs.Values.{pairsOf, valuesOf, newValues, NewHeld, NumberHeld}
+use Rattle.due.specs.Values.{pairsOf, valuesOf, newValues, Held, NumberHeld}
 use Rattle.rules.specs.declared.BrokenRule.{BrokenRule}
 use Rattle.rules.specs.declared.RuleCheck.{RuleCheck}
 use Rattle.rules.specs.declared.RuleCheck.the-variants.{Kept, Broken}
-use Rattle.rules.proofs.Pairs.{gas-room}
+use Rattle.due.proofs.Pairs.{held-number, fixed-held}
 use Rattle.sets.specs.Judge.{checkRule, checkedFile, firstFailed}
 use Rattle.judge.specs.Steps.{fileNumbered, IsNumber, keptFrom, ValuesReady, readAt, valuesStep, JudgesValues}
 use Rattle.judge.specs.declared.Kept as K
 use Rattle.judge.specs.declared.Step.the-variants.{Stop, Go}
-use Rattle.judge.proofs.Numbers.{by-file, table, few-entries, booking-ready}
-
-gas-own : (f : File) (n : ℕ) (t p : List ℕ) → gasValuesIn (fileNumber f) (valuesAt t p (firstPair gas) (room gas)) ≡ gasValues f (valuesOf f n t p)
-gas-own ac2 n t p = gas-values-file ac2 (valuesAt t p (firstPair gas) (room gas))
-gas-own acc n t p = gas-values-file acc (valuesAt t p (firstPair gas) (room gas))
-gas-own drift n t p = gas-values-file drift (valuesAt t p (firstPair gas) (room gas))
-gas-own suspension n t p = gas-values-file suspension (valuesAt t p (firstPair gas) (room gas))
-gas-own gas n t p = gas-values-file gas (valuesAt t p (firstPair gas) (room gas)) ∙ ap (λ (k : ℕ). valuesAt t p (firstPair gas) k) (gas-room n)
+use Rattle.judge.proofs.Numbers.{by-file, table, few-entries}
 
 module _ (file c : ℕ) (b : Booking) (s t p ls : List ℕ) (w : ValuesReady file c b s t p ls) where
   abbrev f : File
@@ -60,17 +53,12 @@ module _ (file c : ℕ) (b : Booking) (s t p ls : List ℕ) (w : ValuesReady fil
   vs = valuesOf f n t p
 
   abbrev conditions : Conditions
-  conditions = conditionsOf (newValues s p) (gasValues f vs)
+  conditions = conditionsOf f (newValues s p) vs
 
   -- ---- what is asked
 
-  pub conditions-ready : (278 ≤ length p) × (file ≡ 5 → Within t (pairsAt p (firstPair gas) (room gas)))
-  unfolding ofNumber
-  conditions-ready = (
-    booking-ready s p (w .held) .0,
-    λ e. subst (λ (k : ℕ). Within t (pairsAt p (firstPair gas) k)) (sym (gas-room n))
-        (subst (λ (g : File). Within t (pairsAt p (firstPair g) (length (entries g n)))) (ap fileNumbered e) (w .own .1)),
-  )
+  pub conditions-ready : NumberHeld file 0 t p
+  conditions-ready = fixed-held file n t p (held-number f file n t p (sym (w .number)) (w .own))
 
   rows-are : (r : ℕ) → r ≡ rowsBefore (tableOf file) c → r ≡ c + size
   unfolding entries
@@ -91,7 +79,7 @@ module _ (file c : ℕ) (b : Booking) (s t p ls : List ℕ) (w : ValuesReady fil
   pub count-fits : (r : ℕ) → r ≡ rowsBefore (tableOf file) c → r - c ≤ length ls
   count-fits r e = omega (arith, count-is r e, count-most, few-entries f, w .lines)
 
-  pub pairs-ready : (r : ℕ) → r ≡ rowsBefore (tableOf file) c → (first : ℕ) → first ≡ ofNumber 0 firstPair file → 2 * (first + (r - c)) ≤ length p
+  pub pairs-ready : (r : ℕ) → r ≡ rowsBefore (tableOf file) c → (first : ℕ) → first ≡ ofNumber 0 firstPair file → placeSize * (first + (r - c)) ≤ length p
   pairs-ready r e first d = omega (arith, count-is r e, count-most, rooms-fit f, d ∙ by-file file (w .number) 0 firstPair, w .held .0)
 
   pub fixed-few : (k : ℕ) → k ≡ ofNumber 0 (λ f. length (fixedSections f)) file → k ≤ c
@@ -107,19 +95,16 @@ module _ (file c : ℕ) (b : Booking) (s t p ls : List ℕ) (w : ValuesReady fil
   pub kept-ready : (m : ℕ) → m ≡ n → IsNumber file × (m ≤ 9) × NumberHeld file m t p
   kept-ready m e = (w .number, omega (arith, e, w .few), number-held m e)
 
-  pub broken-ready : (m : ℕ) → m ≡ n → (m ≤ 9) × NewHeld s p × NumberHeld file m t p
-  broken-ready m e = (omega (arith, e, w .few), w .held, number-held m e)
+  pub broken-ready : (m : ℕ) → m ≡ n → (m ≤ 9) × Held ac2 0 s p × (b ≡ bookingIn (newValues s p)) × NumberHeld file m t p
+  broken-ready m e = (omega (arith, e, w .few), w .held, w .booking, number-held m e)
 
   -- ---- 10
 
-  pub due-is : (k : Conditions) → k ≡ withLinks b (linksIn (gasValuesIn file (valuesAt t p (firstPair gas) (room gas))))
+  pub due-is : (k : Conditions) → k ≡ withLinks b (linksNumbered file t p)
       → (first : ℕ) → first ≡ ofNumber 0 firstPair file → (count : ℕ) → count ≡ size
       → (e : ℕ) → e ≡ firstNotAsDueFrom (λ i. dueIn file i k) 0 (filledPairs (pairsAt p first count)) → e ≡ firstNotAsDue f conditions vs
-  unfolding conditionsOf
   due-is k ek first ef count ec e h =
-      let g : gasValuesIn file (valuesAt t p (firstPair gas) (room gas)) ≡ gasValues f vs
-      = ap (λ (m : ℕ). gasValuesIn m (valuesAt t p (firstPair gas) (room gas))) (sym (w .number)) ∙ gas-own f n t p in
-      let q : k ≡ conditions = ek ∙ ap₂ (λ (x : Booking) (y : List (List ℕ)). withLinks x (linksIn y)) (w .booking) g in
+      let q : k ≡ conditions = ek ∙ ap₂ (λ (x : Booking) (m : ℕ). withLinks x (linksNumbered m t p)) (w .booking) (sym (w .number)) ∙ conditions-file f n (newValues s p) t p in
       h
       ∙ ap₂ (λ (m : ℕ) (ps : List Pair). firstNotAsDueFrom (λ i. dueIn m i k) 0 (filledPairs ps)) (sym (w .number)) (ap₂ (λ (x y : ℕ). pairsAt p x y) (ef ∙ by-file file (w .number) 0 firstPair) ec)
       ∙ first-at-values f k t (pairsOf f n p) (w .own .1)

@@ -12,7 +12,7 @@ use Rattle.tables.specs.File.{File, ac2, acc, drift, suspension, gas, files, fi
 use Rattle.files.specs.Files.{axlesOf}
 use Rattle.due.specs.Booking.{bookingIn}
 use Rattle.due.specs.declared.Booking.{Booking}
-use Rattle.rules.specs.Values.{pairsOf, valuesOf, newValues, gasValues, Held, NewHeld, GasHeld}
+use Rattle.due.specs.Values.{pairsOf, valuesOf, newValues, Held}
 use Rattle.rules.specs.Answer.{isMarked}
 use Rattle.rules.specs.declared.Stated.{Stated}
 use Rattle.sets.specs.Records.{Slices, isGiven}
@@ -70,7 +70,7 @@ IsBooking b s p = b ≡ bookingIn (newValues s p)
 pub record Ready (file : ℕ) (b : Booking) (s p : List ℕ) : Type 0 where
   pub number : IsNumber file
   pub later : 2 ≤ file
-  pub held : NewHeld s p
+  pub held : Held ac2 0 s p
   pub booking : IsBooking b s p
 
 -- what judging the values of a file of c sections asks: its text t, its pairs within it, and ls has room for the line of each entry
@@ -80,7 +80,7 @@ pub record ValuesReady (file c : ℕ) (b : Booking) (s t p ls : List ℕ) : Type
   pub most : c ≤ length (allSections (fileNumbered file))
   pub sections-are : take c (allSections (fileNumbered file)) ≡ sections (fileNumbered file) (axlesOf (fileNumbered file) c)
   pub few : axlesOf (fileNumbered file) c ≤ 9
-  pub held : NewHeld s p
+  pub held : Held ac2 0 s p
   pub own : Held (fileNumbered file) (axlesOf (fileNumbered file) c) t p
   pub lines : 64 ≤ length ls
   pub booking : IsBooking b s p
@@ -131,7 +131,7 @@ Next (Go y) r p q P = P
 
 -- slice 6: what it gives is the address, which a step has no room for
 abbrev pub answerJudged : List ℕ → List ℕ → List ℕ → Answer (List ℕ)
-answerJudged g i p = judgeAnswer (isGiven g) (gasValues g p) i
+answerJudged g i p = judgeAnswer (isGiven g) (valuesOf gas 0 g p) i
 
 abbrev pub JudgesAnswer : Answer (List ℕ) → Step → Type 0
 JudgesAnswer a (Stop x) = a ≡ refusalOf x
@@ -139,7 +139,7 @@ JudgesAnswer a (Go y) = (v : List ℕ) × (a ≡ acceptance v)
 
 -- gas, where it is given, has its pairs within its text g
 abbrev pub AnswerReady : List ℕ → List ℕ → Type 0
-AnswerReady g p = 0 < length g → GasHeld g p
+AnswerReady g p = 0 < length g → Held gas 0 g p
 
 -- a refusal of slice 6
 abbrev pub answerRefused : RefusalKind → Step

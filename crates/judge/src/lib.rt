@@ -2,8 +2,8 @@
 ghost use mathlib.Core.Path.{_≡_};
 ghost use Prim.Native.Nat.{_≤_};
 ghost use lib.ListN.{length, getD};
-ghost use Rattle.tables.specs.File.{ac2, files, leastPlaces};
-ghost use Rattle.rules.specs.Values.{valuesOf, newValues, NewHeld, NumberHeld};
+ghost use Rattle.tables.specs.File.{ac2 as bookingFile, files, leastPlaces};
+ghost use Rattle.due.specs.Values.{valuesOf, newValues, Held, NumberHeld};
 ghost use Rattle.sets.specs.Records.{slicesOf};
 ghost use Rattle.sets.specs.Judge.{judgeText, judgeBooking, judgeSlices, setRead, laterSlices, eachAccepted};
 ghost use Rattle.judge.specs.Steps.{fileNumbered, IsNumber, keptFrom, keptIn, acceptanceWith, IsBooking, Ready, ValuesReady, JudgesValues, JudgesFile, textJudged, fileJudged, JudgesBooking, Asked, Next, answerJudged, JudgesAnswer, AnswerReady, answerRefused, laterFiles, JudgesSlices};
@@ -88,7 +88,7 @@ fn judge_values(
         });
     }
     let axles = sections - tables::fixed_section_count(file);
-    match rules::first_broken(file, axles, booking, text, places) {
+    match rules::first_broken(file, axles, b, booking, text, places) {
         RuleCheck::Broken(x) => {
             let kind = x.kind;
             let broken = x.entry;
@@ -105,7 +105,7 @@ fn judge_values(
 // AC2's text: 3 to 9, then the values, by what they say themselves.
 fn judge_booking_text(text: &[u8], places: &mut [u32], lines: &mut [u32]) -> BookingStep
     requires { ⌜ (leastPlaces ≤ length (now places)) × (64 ≤ length (now lines)) ⌝ }
-    ensures { λ r. ⌜ JudgesBooking (judgeText ac2 (λ own. own) (now (text .entry))) r (now (places .entry)) (now (places .exit)) ⌝ }
+    ensures { λ r. ⌜ JudgesBooking (judgeText bookingFile (λ own. own) (now (text .entry))) r (now (places .entry)) (now (places .exit)) ⌝ }
 {
     match files::read_text(AC2, text, places, lines) {
         TextAnswer::Faulty(x) => {
@@ -318,7 +318,7 @@ fn judge_later(
     identification: &[u8],
     places: &mut [u32],
 ) -> SetAnswer
-    requires { ⌜ NewHeld (now ac2) (now places) × IsBooking b (now ac2) (now places) ⌝ }
+    requires { ⌜ Held bookingFile 0 (now ac2) (now places) × IsBooking b (now ac2) (now places) ⌝ }
     ensures { λ r. ⌜ JudgesSlices laterFiles (eachAccepted stated (slicesOf (now (ac2 .entry)) (now (acc .entry)) (now (drift .entry)) (now (suspension .entry)) (now (gas .entry)) (now (identification .entry))) (newValues (now (ac2 .entry)) (now (places .entry))) laterSlices (setRead stated (slicesOf (now (ac2 .entry)) (now (acc .entry)) (now (drift .entry)) (now (suspension .entry)) (now (gas .entry)) (now (identification .entry))) (newValues (now (ac2 .entry)) (now (places .entry))))) r (now (places .entry)) (now (places .exit)) ⌝ }
 {
     let o = judge_file(2, stated, b, ac2, acc, places);

@@ -1,16 +1,14 @@
 -- What the rules ask of a category, as tables over 01's list of categories. Assumes nothing.
 use Prim.Native.Nat.{ℕ, _<_, _≤_}
-use mathlib.Core.Path.{_≡_, sym, _∙_}
-use mathlib.Core.Bool.{Bool, true, false, cond, _||_}
+use mathlib.Core.Path.{_≡_, sym}
+use mathlib.Core.Bool.{cond, _||_}
 use mathlib.Core.List.{List, [], _∷_}
-use lib.Dec.{eqb, ltb}
-use borrow.Author.Tests.{ltb-true, ltb-false}
+use lib.Dec.{eqb}
 use lib.ListN.{getD}
 use Rattle.lines.specs.Bytes.{sameBytes}
 use Rattle.lines.specs.Text.{bytes}
 use Rattle.kinds.specs.Kind.{words, categories}
 use Rattle.kinds.specs.Value.{isWord, wordIndex}
-use Rattle.kinds.proofs.Laws.{by-test}
 use Rattle.due.specs.Booking.{isM, isN, isO, isL}
 use Rattle.rules.specs.Bookings.{typeOf, descriptionsOf}
 use Rattle.rules.specs.declared.VehicleType.{VehicleType}
@@ -32,12 +30,6 @@ descriptionsFor w =
     (cond (eqb (getD w 0 0) 78) OfN
     (cond (eqb (getD w 0 0) 79) OfO OfNone)))
 
-abbrev pub isCycle : VehicleType → Bool
-isCycle Leggero = false
-isCycle Pesante = false
-isCycle Motoveicolo = true
-isCycle NoType = false
-
 module _ (k : ℕ) where
   pub type-in : k < 17
       → getD (Leggero ∷ Pesante ∷ Pesante ∷ Leggero ∷ Pesante ∷ Pesante ∷ Leggero ∷ Leggero ∷ Pesante ∷ Pesante ∷ Motoveicolo ∷ Motoveicolo ∷ Motoveicolo ∷ Motoveicolo ∷ Motoveicolo ∷ Motoveicolo ∷ Motoveicolo ∷ []) k Leggero
@@ -58,19 +50,3 @@ module _ (k : ℕ) where
   pub descriptions-past : 17 ≤ k → OfNone ≡ descriptionsOf k
   unfolding descriptionsOf isM isN isO isWord wordIndex sameBytes words
   descriptions-past h = sym (table-past descriptionsFor (words categories) k h)
-
-  cycle-in : k < 17 → isL k ≡ isCycle (typeOf k)
-  unfolding typeOf isM isN isO isL isWord wordIndex sameBytes words
-  cycle-in h =
-      sym (table-in (λ (w : List ℕ). eqb (getD w 0 0) 76) false (words categories) k h)
-      ∙ table-in (λ (w : List ℕ). isCycle (typeFor w)) false (words categories) k h
-
-  cycle-past : 17 ≤ k → isL k ≡ isCycle (typeOf k)
-  unfolding typeOf isM isN isO isL isWord wordIndex sameBytes words
-  cycle-past h =
-      table-past (λ (w : List ℕ). eqb (getD w 0 0) 76) (words categories) k h
-      ∙ sym (table-past (λ (w : List ℕ). isCycle (typeFor w)) (words categories) k h)
-
-  -- the categories with MOTOVEICOLO are those of L
-  pub cycle-type : isL k ≡ isCycle (typeOf k)
-  cycle-type = by-test (ltb k 17) (λ h. cycle-in (ltb-true k 17 h)) (λ h. cycle-past (ltb-false k 17 h))

@@ -3,7 +3,7 @@ use Prim.Native.Nat.{ℕ, _≤_}
 use native.Mathlib.Omega.{arith}
 use mathlib.Core.Path.{_≡_, refl, ap, ap₂, sym, _∙_}
 use mathlib.Core.Bool.{Bool, true, false, cond, false≢true, _&&_, _||_}
-use mathlib.Core.List.{List, [], _∷_}
+use mathlib.Core.List.{List, [], _∷_, _++_}
 use lib.Dec.{eqb, ltb}
 use lib.ListN.{drop}
 use lib.Seq.{take-all}
@@ -11,9 +11,9 @@ use Rattle.lines.specs.Bytes.{sameBytes}
 use Rattle.lines.specs.Text.{bytes}
 use Rattle.lines.proofs.Bools.{and-left, and-right}
 use Rattle.lines.proofs.Bytes.{same-is, same-refl}
-use Rattle.kinds.specs.Kind.{N, DataPrimaImm, AnnoPrimaImm}
+use Rattle.kinds.specs.Kind.{N, DataPrimaImm, AnnoPrimaImm, words}
 use Rattle.kinds.specs.Digits.{number}
-use Rattle.kinds.specs.Value.{isNumber, isFirstDay, isWord, areDigits, yearOf, kindOk}
+use Rattle.kinds.specs.Value.{isNumber, isFirstDay, wordIndex, isWord, areDigits, yearOf, kindOk}
 use Rattle.kinds.specs.Meaning.{dayNumber}
 use Rattle.kinds.proofs.Laws.{and-true, by-test, digits-length, digits-drop, same-number}
 use Rattle.kinds.proofs.Readings.{number-reads, first-day-reads}
@@ -58,6 +58,28 @@ module _ (f : File) where
   unfolding firstBroken allHold
   all-kept [] e = refl
   all-kept (r ∷ rs) e = rw (and-left (r .holds) (allHold rs) e) (all-kept rs (and-right (r .holds) (allHold rs) e))
+
+  -- rules after others: the first broken of the others, or else theirs
+  pub first-kept : (rs qs : List Rule) → firstBroken f rs ≡ Kept → firstBroken f (rs ++ qs) ≡ firstBroken f qs
+  unfolding firstBroken allHold
+  first-kept rs qs e = after rs (kept-all rs e)
+    where
+      after : (rs : List Rule) → allHold rs ≡ true → firstBroken f (rs ++ qs) ≡ firstBroken f qs
+      after [] h = refl
+      after (r ∷ rs) h = rw (and-left (r .holds) (allHold rs) h) (after rs (and-right (r .holds) (allHold rs) h))
+
+  pub first-broken : (rs qs : List Rule) (b : BrokenRule) → firstBroken f rs ≡ Broken b → firstBroken f (rs ++ qs) ≡ Broken b
+  unfolding firstBroken
+  first-broken [] qs b e = let z : _≡_ {A = ℕ} 0 1 = cc in absurd (omega arith)
+  first-broken (r ∷ rs) qs b e =
+      by-test (r .holds)
+      (λ h. rw h (first-broken rs qs b (rw h at e)))
+      (λ h. rw h (rw h at e))
+
+pub hold-both : (rs qs : List Rule) → allHold (rs ++ qs) ≡ (allHold rs && allHold qs)
+unfolding allHold
+hold-both [] qs = refl
+hold-both (r ∷ rs) qs = by-test (r .holds) (λ h. rw h (hold-both rs qs)) (λ h. rw h refl)
 
 -- ---- fields
 
@@ -127,7 +149,7 @@ pub petrol-words : (date old : List ℕ) → kindOk DataPrimaImm date ≡ true
     × (petrolFits (petrolWord (directiveOf (bytes "RT1902")) (periodOf date)) old
     ≡ cond (ltb (dayNumber date) 19861001) (sameBytes old (bytes "BENZINA<86")) (ltb (dayNumber date) 20020701 && sameBytes old (bytes "BENZINA NO CAT")))
     × (petrolFits (petrolWord (directiveOf (bytes "NESSUNA")) (periodOf date)) old ≡ (ltb (dayNumber date) 19861001 && sameBytes old (bytes "BENZINA<86")))
-unfolding directiveOf sameBytes periodAt
+unfolding directiveOf wordIndex words sameBytes periodAt
 petrol-words date old d =
     rw (period-is date d)
     (by-test (ltb (dayNumber date) 19861001)
@@ -145,7 +167,7 @@ diesel-words corrector old = (refl, refl, refl)
 -- "Else the same bytes": of a fuel that is neither
 pub other-fuel : (a : List (List ℕ)) (old : List ℕ) → (of ac2 a "Alimentazione_1" ≡ bytes "BENZINA" → ⊥) → (of ac2 a "Alimentazione_1" ≡ bytes "DIESEL" → ⊥)
     → fuelFits a old ≡ sameBytes old (of ac2 a "Alimentazione_1")
-unfolding fuelFits
+unfolding fuelFits bookingIn fuelIn
 other-fuel a old p d = rw (not-same (of ac2 a "Alimentazione_1") (bytes "BENZINA") p, not-same (of ac2 a "Alimentazione_1") (bytes "DIESEL") d) refl
 
 -- "MANO or PEDALE for ELETTRICO, else the same bytes"

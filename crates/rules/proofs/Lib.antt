@@ -1,4 +1,3 @@
-pub mod Pairs
 pub mod Tests
 pub mod Categories
 pub mod Rules

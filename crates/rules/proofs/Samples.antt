@@ -36,24 +36,24 @@ fits directive date old = petrolFits (petrolWord (directiveOf directive) (period
 -- RT1902 with 30091986 BENZINA<86, 01101986 BENZINA NO CAT, 01072002 none
 module _ (old : List ℕ) where
   pub before-1986 : fits (bytes "RT1902") (bytes "30091986") old ≡ sameBytes old (bytes "BENZINA<86")
-  unfolding directiveOf periodOf periodAt sameBytes isFirstDay areDigits allDigits isFirstDate isYear isGregorian daysIn isLeap dayNumber numberFrom
+  unfolding directiveOf wordIndex words periodOf periodAt sameBytes isFirstDay areDigits allDigits isFirstDate isYear isGregorian daysIn isLeap dayNumber numberFrom
   before-1986 = refl
 
   pub from-1986 : fits (bytes "RT1902") (bytes "01101986") old ≡ sameBytes old (bytes "BENZINA NO CAT")
-  unfolding directiveOf periodOf periodAt sameBytes isFirstDay areDigits allDigits isFirstDate isYear isGregorian daysIn isLeap dayNumber numberFrom
+  unfolding directiveOf wordIndex words periodOf periodAt sameBytes isFirstDay areDigits allDigits isFirstDate isYear isGregorian daysIn isLeap dayNumber numberFrom
   from-1986 = refl
 
   pub from-2002 : fits (bytes "RT1902") (bytes "01072002") old ≡ false
-  unfolding directiveOf periodOf periodAt sameBytes isFirstDay areDigits allDigits isFirstDate isYear isGregorian daysIn isLeap dayNumber numberFrom
+  unfolding directiveOf wordIndex words periodOf periodAt sameBytes isFirstDay areDigits allDigits isFirstDate isYear isGregorian daysIn isLeap dayNumber numberFrom
   from-2002 = refl
 
   -- zeros included: day 00 of October 1986 is before 01/10/1986; and NESSUNA from then has no word
   pub unknown-day : fits (bytes "NESSUNA") (bytes "00101986") old ≡ sameBytes old (bytes "BENZINA<86")
-  unfolding directiveOf periodOf periodAt sameBytes isFirstDay areDigits allDigits isFirstDate isYear isGregorian daysIn isLeap dayNumber numberFrom
+  unfolding directiveOf wordIndex words periodOf periodAt sameBytes isFirstDay areDigits allDigits isFirstDate isYear isGregorian daysIn isLeap dayNumber numberFrom
   unknown-day = refl
 
   pub nessuna-later : fits (bytes "NESSUNA") (bytes "01101986") old ≡ false
-  unfolding directiveOf periodOf periodAt sameBytes isFirstDay areDigits allDigits isFirstDate isYear isGregorian daysIn isLeap dayNumber numberFrom
+  unfolding directiveOf wordIndex words periodOf periodAt sameBytes isFirstDay areDigits allDigits isFirstDate isYear isGregorian daysIn isLeap dayNumber numberFrom
   nessuna-later = refl
 
 -- 01, Established samples: "Together, as a single statement"

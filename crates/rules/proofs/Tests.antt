@@ -11,12 +11,13 @@ use native.Mathlib.Numerals.{add-one}
 use borrow.Author.Tests.{ltb-true, ltb-false, lt-ltb, le-ltb}
 use Rattle.lines.specs.Bytes.{sameBytes}
 use Rattle.kinds.specs.Digits.{number}
-use Rattle.kinds.specs.Value.{isNumber, isFirstDay, wordIndex, isWord}
+use Rattle.kinds.specs.Value.{isNumber, isFirstDay, wordIndex, isWord, wordsOf, numberedLists}
 use Rattle.kinds.specs.Meaning.{numberRead, dayRead, dayNumber}
 use Rattle.kinds.proofs.Laws.{by-test}
 use Rattle.kinds.specs.declared.NumberRead.{NumberRead}
 use Rattle.kinds.specs.declared.NumberRead.the-variants as NumberRead
-use Rattle.rules.specs.Bookings.{countOf, periodOf, periodAt}
+use Rattle.rules.specs.Bookings.{directiveOf, countOf, periodOf, periodAt}
+use Rattle.rules.specs.declared.Directive.the-variants.{Nessuna, Rt1902, Catalyst, NoDirective}
 use Rattle.rules.specs.declared.Period.the-variants.{Later}
 
 -- what a function says of the word at place k stands at place k of its answers; past the words it is what it says of no word
@@ -97,3 +98,17 @@ count-step s i h = rw (drop-cons s i 0 h, add-one) (one (eqb (getD s i 0) 83) (c
 pub count-end : (s : List ℕ) (i : ℕ) → length s ≤ i → countOf 83 (drop i s) ≡ 0
 unfolding countOf
 count-end s i h = rw (drop-of-length-le s h)
+
+-- ---- directives
+
+-- list 3 of kinds is that of the petrol directives
+pub directive-is : (v : List ℕ) → directiveOf v ≡ getD (Nessuna ∷ Rt1902 ∷ Catalyst ∷ Catalyst ∷ []) (wordIndex (wordsOf 3) v) NoDirective
+unfolding directiveOf wordsOf numberedLists
+directive-is v = refl
+
+pub no-directive : (k : ℕ) → (((Unit {0} × (k ≡ 0 → ⊥)) × (k ≡ 1 → ⊥)) × (k ≡ 2 → ⊥)) × (k ≡ 3 → ⊥) → getD (Nessuna ∷ Rt1902 ∷ Catalyst ∷ Catalyst ∷ []) k NoDirective ≡ NoDirective
+no-directive zero h = absurd (h .0 .0 .0 .1 refl)
+no-directive (suc zero) h = absurd (h .0 .0 .1 refl)
+no-directive (suc (suc zero)) h = absurd (h .0 .1 refl)
+no-directive (suc (suc (suc zero))) h = absurd (h .1 refl)
+no-directive (suc (suc (suc (suc k)))) h = refl

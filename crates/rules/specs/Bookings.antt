@@ -4,16 +4,19 @@ use Prim.Native.String.{String}
 use mathlib.Core.Bool.{Bool, false, cond, not, _&&_, _||_}
 use mathlib.Core.List.{List, [], _∷_}
 use lib.Dec.{eqb, ltb}
-use lib.ListN.{drop}
+use lib.ListN.{getD, drop}
 use Rattle.lines.specs.Bytes.{sameBytes}
 use Rattle.lines.specs.Text.{bytes}
 use Rattle.kinds.specs.Digits.{number}
-use Rattle.kinds.specs.Value.{isWord, isNumber, isFirstDay}
+use Rattle.kinds.specs.Kind.{words, petrolDirectives}
+use Rattle.kinds.specs.Value.{wordIndex, isWord, isNumber, isFirstDay}
 use Rattle.kinds.specs.Meaning.{dayNumber}
 use Rattle.refusals.specs.declared.RefusalKind.the-variants.{BookingRule}
 use Rattle.tables.specs.File.{ac2, acc}
 use Rattle.tables.specs.Value.{of}
 use Rattle.due.specs.Booking.{isOneOf, isM, isN, isO, isL, bookingIn}
+use Rattle.due.specs.declared.Fuel.{Fuel}
+use Rattle.due.specs.declared.Fuel.the-variants.{Petrol, Diesel, OtherFuel}
 use Rattle.rules.specs.Rule.{Rule, fixedEntry}
 use Rattle.rules.specs.declared.VehicleType.{VehicleType}
 use Rattle.rules.specs.declared.VehicleType.the-variants.{Leggero, Pesante, Motoveicolo, NoType}
@@ -81,12 +84,9 @@ descriptions OfNone = []
 unfoldable pub yearFits : List ℕ → List ℕ → Bool
 yearFits date year = sameBytes year (drop 4 date)
 
+-- by the place in 01's list: NESSUNA, RT1902, 91/441/CEE, 98/69/CE
 unfoldable pub directiveOf : List ℕ → Directive
-directiveOf v =
-    cond (sameBytes v (bytes "NESSUNA")) Nessuna
-    (cond (sameBytes v (bytes "RT1902")) Rt1902
-    (cond (sameBytes v (bytes "91/441/CEE")) Catalyst
-    (cond (sameBytes v (bytes "98/69/CE")) Catalyst NoDirective)))
+directiveOf v = getD (Nessuna ∷ Rt1902 ∷ Catalyst ∷ Catalyst ∷ []) (wordIndex (words petrolDirectives) v) NoDirective
 
 -- The comparison with the two fuel dates, 01/10/1986 and 01/07/2002: "as the number yyyymmdd, zeros included".
 unfoldable pub periodAt : ℕ → Period
@@ -121,14 +121,14 @@ dieselFits turbo corrector old =
     (cond (sameBytes corrector (bytes "N")) (sameBytes old (bytes "DIESEL ASPIRATO SENZA CORRETTORE"))
     (sameBytes old (bytes "DIESEL ASPIRATO CON CORRETTORE")))
 
--- Alimentazione_1: by AC2's BENZINA, DIESEL, "Else the same bytes"
+-- Alimentazione_1, by AC2's: BENZINA, DIESEL, "Else the same bytes"
+abbrev pub fuelFitsBy : Fuel → List (List ℕ) → List ℕ → Bool
+fuelFitsBy Petrol a old = petrolFits (petrolWord (directiveOf (of ac2 a "DirettivaEmissioniGasBenzinaAuto")) (periodOf (of ac2 a "DataPrimaImm"))) old
+fuelFitsBy Diesel a old = dieselFits (of ac2 a "Turbo") (of ac2 a "CorrettorePressione") old
+fuelFitsBy OtherFuel a old = sameBytes old (of ac2 a "Alimentazione_1")
+
 unfoldable pub fuelFits : List (List ℕ) → List ℕ → Bool
-fuelFits a old =
-    cond (sameBytes (of ac2 a "Alimentazione_1") (bytes "BENZINA"))
-    (petrolFits (petrolWord (directiveOf (of ac2 a "DirettivaEmissioniGasBenzinaAuto")) (periodOf (of ac2 a "DataPrimaImm"))) old)
-    (cond (sameBytes (of ac2 a "Alimentazione_1") (bytes "DIESEL"))
-    (dieselFits (of ac2 a "Turbo") (of ac2 a "CorrettorePressione") old)
-    (sameBytes old (of ac2 a "Alimentazione_1")))
+fuelFits a old = fuelFitsBy (bookingIn a .fuel) a old
 
 -- "FrenoStazionamento: MANO or PEDALE for ELETTRICO, else the same bytes"
 unfoldable pub oldBrakeFits : List ℕ → List ℕ → Bool

@@ -1,4 +1,3 @@
-pub mod Values
 pub mod Rule
 pub mod Bookings
 pub mod Differences

@@ -3,14 +3,14 @@ use Prim.Native.Nat.{ℕ}
 use mathlib.Core.List.{List, []}
 use Rattle.tables.specs.File.{File, ac2, acc, drift, suspension, gas}
 use Rattle.rules.specs.Rule.{Rule, firstBroken}
-use Rattle.rules.specs.Values.{newValues, valuesOf}
+use Rattle.due.specs.Values.{newValues, valuesOf}
 use Rattle.rules.specs.declared.RuleCheck.{RuleCheck}
 use Rattle.rules.specs.Bookings.{newRules, oldRules}
 use Rattle.rules.specs.Differences.{differencesFrom}
 
--- a: AC2's values; own: the file's values; n: its axles
+-- a: AC2's values; own: the file's values, for AC2 the same; n: its axles
 unfoldable pub rulesOf : File → List (List ℕ) → List (List ℕ) → ℕ → List Rule
-rulesOf ac2 a own n = newRules own
+rulesOf ac2 a own n = newRules a
 rulesOf acc a own n = oldRules a own
 rulesOf drift a own n = []
 rulesOf suspension a own n = differencesFrom own 0 n

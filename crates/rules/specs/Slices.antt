@@ -4,12 +4,10 @@ use mathlib.Core.Bool.{Bool, true, cond, not, _&&_, _||_}
 use mathlib.Core.List.{List}
 use lib.Dec.{leb, eqb}
 use lib.ListN.{length, getD, drop}
-use Rattle.lines.specs.Bytes.{sameBytes}
-use Rattle.lines.specs.Text.{bytes}
 use Rattle.kinds.specs.Digits.{allDigits}
 use Rattle.tables.specs.File.{File, ac2, acc, drift, suspension, gas}
-use Rattle.tables.specs.Value.{of}
 use Rattle.due.specs.Booking.{isL, isPetrol}
+use Rattle.due.specs.Conditions.{isSerial}
 use Rattle.due.specs.declared.Booking.{Booking}
 use Rattle.rules.specs.declared.Stated.{Stated}
 
@@ -48,10 +46,6 @@ isRead drift b given = given
 isRead suspension b given = given
 isRead gas b given = given
 
--- gas has RS SENZA ESITO
-unfoldable pub isSerial : List (List ℕ) → Bool
-isSerial g = sameBytes (of gas g "TipoCollegamento") (bytes "RS SENZA ESITO")
-
 -- "slice 6 exactly when gas has RS SENZA ESITO": when gas is given and has it
 unfoldable pub answerRight : Bool → List (List ℕ) → Bool → Bool
-answerRight gasGiven g given = exactly (gasGiven && isSerial g) given
+answerRight gasGiven g given = exactly (gasGiven && isSerial gas g) given

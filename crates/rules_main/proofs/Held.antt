@@ -9,9 +9,9 @@ use lib.Dec.{leb}
 use borrow.Author.Tests.{leb-true}
 use lib.ListN.{length}
 use Rattle.places.specs.Places.{startOf, lengthOf, pairsAt, Within}
-use Rattle.tables.specs.File.{File, ac2, gas, entries, firstPair, room, fileNumber, ofNumber}
-use Rattle.rules.specs.Values.{NewHeld, GasHeld, NumberHeld}
-use Rattle.rules.proofs.Pairs.{new-room, gas-room, of-number, of-others, number-held}
+use Rattle.tables.specs.File.{File, ac2, gas, entries, firstPair, fileNumber, ofNumber}
+use Rattle.due.specs.Values.{Held, NumberHeld}
+use Rattle.due.proofs.Pairs.{of-number, of-others, number-held}
 
 -- ---- pairs one after the other
 
@@ -52,17 +52,8 @@ no-counts m n h1 h2 h3 h4 h5 =
 -- ---- AC2 and gas by their numbers
 
 module _ (t p : List ℕ) where
-  pub new-numbered : NumberHeld 1 0 t p → NewHeld t p
+  pub new-numbered : NumberHeld 1 0 t p → Held ac2 0 t p
   new-numbered h = number-held ac2 1 0 t p refl h
 
-  pub gas-numbered : NumberHeld 5 0 t p → GasHeld t p
+  pub gas-numbered : NumberHeld 5 0 t p → Held gas 0 t p
   gas-numbered h = number-held gas 5 0 t p refl h
-
-  pub new-within : NewHeld t p → Within t (pairsAt p (firstPair ac2) (room ac2))
-  new-within h = rw (new-room 0) (h .1)
-
-  -- gas has no axles, however many are asked for
-  pub gas-within : (m n : ℕ) → m ≡ 5 → NumberHeld m n t p → Within t (pairsAt p (firstPair gas) (room gas))
-  gas-within m n e h =
-      let g = number-held gas m n t p e h .1 in
-      rw (gas-room n) g

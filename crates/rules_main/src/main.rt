@@ -12,9 +12,9 @@ ghost use mathlib.Core.Bool.{true};
 ghost use Prim.Native.Nat.{_+_, _*_, _<_, _≤_, min};
 ghost use lib.ListN.{length};
 ghost use Rattle.places.specs.Places.{placeSize, pairsAt, Within};
-ghost use Rattle.tables.specs.File.{entries, firstPair, leastPlaces, ofNumber};
+ghost use Rattle.tables.specs.File.{ac2, gas as gasFile, entries, firstPair, leastPlaces, ofNumber};
 ghost use Rattle.serial.specs.Reading.{Ordered};
-ghost use Rattle.rules.specs.Values.{NewHeld, GasHeld, NumberHeld};
+ghost use Rattle.due.specs.Values.{Held, NumberHeld};
 use due::Booking;
 use due::Conditions;
 use due::Due;
@@ -26,6 +26,9 @@ use serial::AnswerRead;
 use serial::FieldEnds;
 
 // ---- reading a file
+
+// 01, Judging: "at least 278 numbers".
+const LEAST_PLACES: usize = 278;
 
 // An axle count that no file has: the file was refused.
 const NOT_READ: usize = 10;
@@ -260,7 +263,7 @@ fn show_mark(marked: bool) {
 }
 
 fn show_due(file: u32, axles: usize, booking: &[u8], text: &[u8], places: &[u32], lines: &[u32])
-    requires { ⌜ (axles ≤ 9) × NewHeld (now booking) (now places) × NumberHeld file axles (now text) (now places) ⌝ }
+    requires { ⌜ (axles ≤ 9) × Held ac2 0 (now booking) (now places) × NumberHeld file axles (now text) (now places) ⌝ }
 {
     let c = due::conditions_of(file, due::booking_of(booking, places), text, places);
     let first = tables::first_pair(file);
@@ -274,9 +277,10 @@ fn show_due(file: u32, axles: usize, booking: &[u8], text: &[u8], places: &[u32]
 // ---- bookings and Differenza%
 
 fn show_rules(file: u32, axles: usize, booking: &[u8], text: &[u8], places: &[u32], lines: &[u32])
-    requires { ⌜ (axles ≤ 9) × NewHeld (now booking) (now places) × NumberHeld file axles (now text) (now places) ⌝ }
+    requires { ⌜ (axles ≤ 9) × Held ac2 0 (now booking) (now places) × NumberHeld file axles (now text) (now places) ⌝ }
 {
-    match rules::first_broken(file, axles, booking, text, places) {
+    let b = due::booking_of(booking, places);
+    match rules::first_broken(file, axles, b, booking, text, places) {
         RuleCheck::Kept => {
             io::write_all(1, b"kept\n");
         }
@@ -316,7 +320,7 @@ fn show_held(
 
 // Due entries, or else the other rules, of a file beside AC2.
 fn show_file(all_rules: bool, file: u32, booking: &[u8], text: &[u8]) {
-    let mut places = [0u32; 278];
+    let mut places = [0u32; LEAST_PLACES];
     let mut lines = [0u32; 64];
     let axles = read_both(file, booking, text, &mut places, &mut lines);
     if axles < NOT_READ {
@@ -373,7 +377,7 @@ fn show_booking(booking: &[u8], stem: &[u8], places: &[u32])
 }
 
 fn show_given(booking: &[u8], stem: &[u8]) {
-    let mut places = [0u32; 278];
+    let mut places = [0u32; LEAST_PLACES];
     if read_booking(booking, &mut places) == 0 {
         show_booking(booking, stem, &places);
     }
@@ -404,7 +408,7 @@ fn show_fields(answer: &[u8], e: FieldEnds)
 }
 
 fn show_equal(answer: &[u8], e: FieldEnds, gas: &[u8], places: &[u32])
-    requires { ⌜ Ordered (length (now answer)) e × GasHeld (now gas) (now places) ⌝ }
+    requires { ⌜ Ordered (length (now answer)) e × Held gasFile 0 (now gas) (now places) ⌝ }
 {
     if rules::same_fields(answer, e, gas, places) {
         io::write_all(1, b"equal\n");
@@ -414,7 +418,7 @@ fn show_equal(answer: &[u8], e: FieldEnds, gas: &[u8], places: &[u32])
 }
 
 fn show_read(answer: &[u8], gas: &[u8], places: &[u32])
-    requires { ⌜ GasHeld (now gas) (now places) ⌝ }
+    requires { ⌜ Held gasFile 0 (now gas) (now places) ⌝ }
 {
     match serial::read_answer(answer) {
         AnswerRead::Malformed => {
@@ -428,7 +432,7 @@ fn show_read(answer: &[u8], gas: &[u8], places: &[u32])
 }
 
 fn show_judged(answer: &[u8], gas: &[u8], places: &[u32])
-    requires { ⌜ GasHeld (now gas) (now places) ⌝ }
+    requires { ⌜ Held gasFile 0 (now gas) (now places) ⌝ }
 {
     let given = 0 < answer.len();
     if !rules::answer_right(gas, places, given) {
@@ -448,7 +452,7 @@ fn show_answered(answer: &[u8], gas: &[u8], places: &[u32])
 }
 
 fn show_answer(gas: &[u8], answer: &[u8]) {
-    let mut places = [0u32; 278];
+    let mut places = [0u32; LEAST_PLACES];
     let mut lines = [0u32; 64];
     if gas.len() == 0 {
         show_answered(answer, gas, &places);

@@ -87,7 +87,7 @@ module _ (a vs : List (List ℕ)) (kinds : EachKept (entries gas 0) vs) (dues : 
       let q : kindKept (getD (entries gas 0) i noEntry .kind) (getD vs i []) ≡ true = kept-at (entries gas 0) vs kinds i h in
       let d = dues i (omega (arith, kept-length (entries gas 0) vs kinds)) in
       field-of k (getD vs i []) (w .3)
-      (sym (always-filled gas (conditionsOf a vs) i (getD vs i []) (w .2)) ∙ d)
+      (sym (always-filled gas (conditionsOf gas a vs) i (getD vs i []) (w .2)) ∙ d)
       (ap (λ (k : Kind). kindKept k (getD vs i [])) (sym (w .1)) ∙ q)
 
   pub seven-fields : sevenOk (sevenOf vs) ≡ true

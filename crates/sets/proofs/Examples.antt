@@ -28,13 +28,13 @@ use Rattle.tables.specs.Row.{rowCount, rowAt}
 use Rattle.tables.specs.Value.{placeOf, axlePlaceOf}
 use Rattle.reading.specs.Reading.{Reading, read, refused, readScan, readText, emptySlots, scan, firstWrong, firstAbsent, ownerRow}
 use Rattle.due.specs.Booking.{isM, isN, isO, isL, fuelIn, isLate, bookingIn}
-use Rattle.due.specs.Conditions.{versionIn, linksIn, conditionsOf}
+use Rattle.due.specs.Conditions.{versionIn, isSerialLink, linksIn, conditionsOf}
 use Rattle.due.specs.Due.{exceptions, conditionOf, conditionAt, isMoped, isMotorcycle, isMorN, conditionP, holdsIn, dueOf, firstNotAsDueFrom, firstNotAsDue}
 use Rattle.rules.specs.Rule.{firstBroken}
 use Rattle.rules.specs.Rules.{rulesOf}
 use Rattle.rules.specs.Bookings.{typeOf, parkingBrakeFits, newRules, descriptionsOf, yearFits, directiveOf, periodAt, periodOf, dieselFits, fuelFits, oldBrakeFits, numberIs, countOf, parkingAxlesFit, oldRules}
 use Rattle.rules.specs.Differences.{differenceFits, differencesFrom}
-use Rattle.rules.specs.Slices.{statedOf, oldBookingRight, sliceRight, isRead, isSerial, answerRight}
+use Rattle.rules.specs.Slices.{statedOf, oldBookingRight, sliceRight, isRead, answerRight}
 use Rattle.rules.specs.Answer.{sevenOf}
 use Rattle.serial.specs.Answer.{separated, sum, hexDigit, checksum, answerOf, addressOk, fieldOk, allFieldsOk, sevenOk}
 use Rattle.sets.specs.Records.{Slices, eachFile, slicesOf, isGiven, Record, Lawful, Fits}
@@ -354,7 +354,7 @@ computed :
     × (addressOk (bytes "12") ≡ true)
     × (carAnswer ≡ answerOf (bytes "12") (sevenOf carGasValues))
     × (sevenOk (sevenOf carGasValues) ≡ true)
-unfolding sameBytes allPrintable without textOf wellFormed allWellFormed layoutOf words allDigits numberFrom dayNumber isString isExact isNumber isFixed isLeap daysIn isYear isGregorian areDigits isDay isTime wordIndex isWord startsWith isDrift isRevs isFirstDate isFirstDay allSorN isPositions kindOk kindKept entriesOf newBooking oldBooking tester protocol measurement sixteen driftAxle suspensionAxle analyser counter speedTest allKeyDates allKeyBodies analysis fuelAnalysis fixedSections axleEntries axlesFrom axleSections sections leastSections entries rowCount rowAt placeOf axlePlaceOf scan firstWrong firstAbsent ownerRow isM isN isO isL fuelIn isLate bookingIn versionIn linksIn conditionsOf exceptions conditionOf conditionAt isMoped isMotorcycle isMorN conditionP holdsIn dueOf firstNotAsDueFrom firstNotAsDue firstBroken rulesOf typeOf parkingBrakeFits newRules descriptionsOf yearFits directiveOf periodAt periodOf dieselFits fuelFits oldBrakeFits numberIs countOf parkingAxlesFit oldRules differenceFits differencesFrom statedOf oldBookingRight sliceRight isRead isSerial answerRight sevenOf separated sum hexDigit checksum answerOf addressOk fieldOk allFieldsOk sevenOk judgeFile judgeAnswer
+unfolding sameBytes allPrintable without textOf wellFormed allWellFormed layoutOf words allDigits numberFrom dayNumber isString isExact isNumber isFixed isLeap daysIn isYear isGregorian areDigits isDay isTime wordIndex isWord startsWith isDrift isRevs isFirstDate isFirstDay allSorN isPositions kindOk kindKept entriesOf newBooking oldBooking tester protocol measurement sixteen driftAxle suspensionAxle analyser counter speedTest allKeyDates allKeyBodies analysis fuelAnalysis fixedSections axleEntries axlesFrom axleSections sections leastSections entries rowCount rowAt placeOf axlePlaceOf scan firstWrong firstAbsent ownerRow isM isN isO isL fuelIn isLate bookingIn versionIn linksIn conditionsOf exceptions conditionOf conditionAt isMoped isMotorcycle isMorN conditionP holdsIn dueOf firstNotAsDueFrom firstNotAsDue firstBroken rulesOf typeOf parkingBrakeFits newRules descriptionsOf yearFits directiveOf periodAt periodOf dieselFits fuelFits oldBrakeFits numberIs countOf parkingAxlesFit oldRules differenceFits differencesFrom statedOf oldBookingRight sliceRight isRead isSerialLink answerRight sevenOf separated sum hexDigit checksum answerOf addressOk fieldOk allFieldsOk sevenOk judgeFile judgeAnswer
 computed = (
   record { slice = refl; is-read = refl; well-formed = refl; short = refl; reads = refl; values = refl; checks = refl },
   refl,

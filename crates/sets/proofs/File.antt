@@ -17,7 +17,7 @@ use Rattle.reading.specs.Reading.{Reading, refused, read}
 use Rattle.files.specs.Files.{readFile, axlesOf, IsFile}
 use Rattle.files.proofs.Theorem.{read-sound, read-complete}
 use Rattle.due.specs.Booking.{isL, bookingIn}
-use Rattle.due.specs.Conditions.{conditionsOf, gasValues}
+use Rattle.due.specs.Conditions.{conditionsOf}
 use Rattle.due.specs.Due.{isAsDue, firstNotAsDue}
 use Rattle.due.specs.declared.Conditions.{Conditions}
 use Rattle.due.proofs.FirstNotAsDue.{first-le, each-as-due, all-as-due}
@@ -60,12 +60,12 @@ pub record RulesKept (f : File) (a : List (List ℕ)) (n : ℕ) (vs : List (List
 
 checks-sound : (f : File) (a vs : List (List ℕ)) (n : ℕ) → firstFailed (fileChecks f a vs n) ≡ passed → RulesKept f a n vs
 checks-sound f a vs n e =
-    let w = both-passed (checkDue f (conditionsOf a (gasValues f vs)) vs) (checkRule (firstBroken f (rulesOf f a vs n))) e in
-    record { dues = due-passed f (conditionsOf a (gasValues f vs)) vs (w .0); rules = rule-passed f (rulesOf f a vs n) (w .1) }
+    let w = both-passed (checkDue f (conditionsOf f a vs) vs) (checkRule (firstBroken f (rulesOf f a vs n))) e in
+    record { dues = due-passed f (conditionsOf f a vs) vs (w .0); rules = rule-passed f (rulesOf f a vs n) (w .1) }
 
 checks-complete : (f : File) (a vs : List (List ℕ)) (n : ℕ) → RulesKept f a n vs → firstFailed (fileChecks f a vs n) ≡ passed
 checks-complete f a vs n k =
-    rw (passed-due f (conditionsOf a (gasValues f vs)) vs (k .dues), all-kept f (rulesOf f a vs n) (k .rules)) refl
+    rw (passed-due f (conditionsOf f a vs) vs (k .dues), all-kept f (rulesOf f a vs n) (k .rules)) refl
 
 -- ---- what is let through
 

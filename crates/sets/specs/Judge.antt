@@ -11,7 +11,7 @@ use Rattle.tables.specs.File.{File, ac2, acc, drift, suspension, gas, files, fi
 use Rattle.reading.specs.Reading.{Reading, refused, read}
 use Rattle.files.specs.Files.{readFile, axlesOf}
 use Rattle.due.specs.Booking.{bookingIn}
-use Rattle.due.specs.Conditions.{conditionsOf, gasValues}
+use Rattle.due.specs.Conditions.{conditionsOf}
 use Rattle.due.specs.Due.{firstNotAsDue}
 use Rattle.due.specs.declared.Conditions.{Conditions}
 use Rattle.rules.specs.Rule.{firstBroken}
@@ -65,7 +65,7 @@ checkRule (Broken b) = failed (numberOf (b .kind)) (b .entry)
 
 -- "all of 10 .. then 12 or 13": a for AC2's values, own for the file's, n for its axles
 abbrev pub fileChecks : File → List (List ℕ) → List (List ℕ) → ℕ → List FileCheck
-fileChecks f a own n = checkDue f (conditionsOf a (gasValues f own)) own ∷ checkRule (firstBroken f (rulesOf f a own n)) ∷ []
+fileChecks f a own n = checkDue f (conditionsOf f a own) own ∷ checkRule (firstBroken f (rulesOf f a own n)) ∷ []
 
 -- the first that fails
 abbrev pub firstFailed : List FileCheck → FileCheck

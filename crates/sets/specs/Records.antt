@@ -9,7 +9,7 @@ use Rattle.tables.specs.File.{File, ac2, acc, drift, suspension, gas, hasAxles,
 use Rattle.reading.specs.Fitting.{FitsText, EachKept}
 use Rattle.files.specs.Files.{AxleCount}
 use Rattle.due.specs.Booking.{bookingIn}
-use Rattle.due.specs.Conditions.{conditionsOf, gasValues}
+use Rattle.due.specs.Conditions.{conditionsOf}
 use Rattle.due.specs.Due.{isAsDue}
 use Rattle.rules.specs.Rule.{allHold}
 use Rattle.rules.specs.Rules.{rulesOf}
@@ -67,7 +67,7 @@ Address false v = v ≡ []
 
 -- "every rule on due entries": a for AC2's values, vs for those of file f
 abbrev pub EachAsDue : File → List (List ℕ) → List (List ℕ) → Type 0
-EachAsDue f a vs = (i : ℕ) → i < length vs → isAsDue f (conditionsOf a (gasValues f vs)) i (getD vs i []) ≡ true
+EachAsDue f a vs = (i : ℕ) → i < length vs → isAsDue f (conditionsOf f a vs) i (getD vs i []) ≡ true
 
 -- "A lawful record, for a stem"; the stem comes in with what the caller states by it
 pub record Lawful (stated : Stated) (r : Record) : Type 0 where

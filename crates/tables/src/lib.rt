@@ -1,6 +1,7 @@
 // The tables of the files (01, Bookings and Results): headings, entry names and first pairs, by the numbers of a file
 // (from 1), a section and an entry (from 0). No number is forbidden: what there is not, has nothing in it.
 mod compare; // compare.rt: entry names and headings compared
+pub mod pairs; // pairs.rt: the pairs of entries that conditions and rules look at
 mod write; // write.rt: lines of headings and entries written
 
 ghost use mathlib.Core.Path.{_≡_};

@@ -9,38 +9,31 @@ use Rattle.kinds.specs.Value.{wordIndex, wordsOf}
 use Rattle.places.specs.Places.{startOf, lengthOf, valueOf}
 use Rattle.due.specs.Booking.{fuelIn, isLate}
 use Rattle.places.proofs.Values.{value-length}
-use Rattle.due.proofs.Values.{ac2-pair, booking-at}
+use Rattle.due.proofs.Pairs.{new-held}
+use Rattle.due.proofs.Values.{booking-at}
 use Rattle.due.proofs.booking_of.Statement.{statement}
 use Rattle.due.proofs.booking_of.Tie as tie
 
 value-of-requires : tie.Need-value-of-requires
-value-of-requires c κs =
-    let s = c .before .before in
-    ac2-pair (s .args .text .now) (s .args .places .now) 2 (s .pre .0) (s .pre .1) (lit< tt)
+value-of-requires c κs = new-held _ _ (c .before .before .pre) 2 (lit< tt)
 
 word-index-requires : tie.Need-word-index-requires
 word-index-requires c κs = search needs
 
 value-of-requires-2 : tie.Need-value-of-requires-2
-value-of-requires-2 c κs =
-    let s = c .before .before .before .before in
-    ac2-pair (s .args .text .now) (s .args .places .now) 5 (s .pre .0) (s .pre .1) (lit< tt)
+value-of-requires-2 c κs = new-held _ _ (c .before .before .before .before .pre) 5 (lit< tt)
 
 fuel-of-requires : tie.Need-fuel-of-requires
 fuel-of-requires c κs = search needs
 
 value-of-requires-3 : tie.Need-value-of-requires-3
-value-of-requires-3 c κs =
-    let s = c .before .before .before .before .before .before in
-    ac2-pair (s .args .text .now) (s .args .places .now) 8 (s .pre .0) (s .pre .1) (lit< tt)
+value-of-requires-3 c κs = new-held _ _ (c .before .before .before .before .before .before .pre) 8 (lit< tt)
 
 is-late-requires : tie.Need-is-late-requires
 is-late-requires c κs = search needs
 
 value-of-requires-4 : tie.Need-value-of-requires-4
-value-of-requires-4 c κs =
-    let s = c .before .before .before .before .before .before .before .before in
-    ac2-pair (s .args .text .now) (s .args .places .now) 9 (s .pre .0) (s .pre .1) (lit< tt)
+value-of-requires-4 c κs = new-held _ _ (c .before .before .before .before .before .before .before .before .pre) 9 (lit< tt)
 
 slice-aggregate-equal : tie.Need-slice-aggregate-equal
 slice-aggregate-equal c = search needs
@@ -49,7 +42,7 @@ equal-requires : tie.Need-equal-requires
 equal-requires c κs = search needs
 
 length-of-requires : tie.Need-length-of-requires
-length-of-requires c κs = search needs
+length-of-requires c κs = new-held _ _ (c .before .before .before .before .before .before .before .before .before .before .before .pre) 0 (lit< tt) .0
 
 returns : tie.Need-returns
 returns c =
@@ -60,7 +53,7 @@ returns c =
     let q5 : c .before .before .before .before .before .before .fuel-of .result ≡ fuelIn (valueOf t p 5) = rw (c .before .before .before .before .before .before .before .value-of2 .ensures) at (c .before .before .before .before .before .before .fuel-of .ensures) in
     let q8 : c .before .before .before .before .is-late .result ≡ isLate (valueOf t p 8) = rw (c .before .before .before .before .before .value-of3 .ensures) at (c .before .before .before .before .is-late .ensures) in
     let q9 : c .before .equal .result ≡ sameBytes (valueOf t p 9) (bytes "NESSUNA") = rw (c .before .before .before .value-of4 .ensures) at (c .before .equal .ensures) in
-    let q0 : c .length-of .result ≡ length (valueOf t p 0) = c .length-of .ensures ∙ sym (value-length t (startOf p 0, lengthOf p 0) (ac2-pair t p 0 (s .pre .0) (s .pre .1) (lit< tt) .1)) in
+    let q0 : c .length-of .result ≡ length (valueOf t p 0) = c .length-of .ensures ∙ sym (value-length t (startOf p 0, lengthOf p 0) (new-held t p (s .pre) 0 (lit< tt) .1)) in
     rw (q2, q5, q8, q9, q0) (sym (booking-at t p))
 
 pub booking-of-spec : {M : Type 1} → statement M

@@ -4,7 +4,7 @@ use lib.ListN.{length}
 use Rattle.tables.specs.Section.{entriesOf}
 use Rattle.tables.specs.Entries.{newBooking, oldBooking, sixteen, tester, protocol, measurement, analysis, analyser, counter, speedTest, allKeyDates, allKeyBodies, fuelAnalysis}
 use Rattle.tables.specs.File.{ofNumber, entries, sections, fixedSections, axleSections, axlesFrom}
-use Rattle.due.proofs.Entries.{no-file}
+use Rattle.tables.proofs.Files.{of-none}
 use Rattle.due.proofs.condition_count.Statement.{statement}
 use Rattle.due.proofs.condition_count.Tie as tie
 
@@ -29,9 +29,7 @@ unfolding ofNumber entries entriesOf sections fixedSections axleSections axlesFr
 returns-5 c = rw (c .match .keys5)
 
 returns-6 : tie.Need-returns-6
-returns-6 c =
-    let r = c .match .rest in
-    sym (no-file 0 (λ f. length (entries f 0)) (c .before .args .file) (r .0 .0 .0 .0 .1) (r .0 .0 .0 .1) (r .0 .0 .1) (r .0 .1) (r .1))
+returns-6 c = sym (of-none 0 (λ f. length (entries f 0)) (c .before .args .file) (c .match .rest))
 
 pub condition-count-spec : {M : Type 1} → statement M
 condition-count-spec = tie.close (tie.spec returns returns-2 returns-3 returns-4 returns-5 returns-6)

@@ -1,8 +1,8 @@
 -- Each file's number is looked at. Assumes nothing.
-use mathlib.Core.Path.{sym}
+use mathlib.Core.Path.{refl, sym}
 use Rattle.tables.specs.File.{ofNumber}
 use Rattle.due.specs.Table.{firstCondition}
-use Rattle.due.proofs.Entries.{first-else}
+use Rattle.due.proofs.Pairs.{of-others}
 use Rattle.due.proofs.first_condition.Statement.{statement}
 use Rattle.due.proofs.first_condition.Tie as tie
 
@@ -23,9 +23,10 @@ unfolding ofNumber firstCondition
 returns-4 c = rw (c .match .keys4)
 
 returns-5 : tie.Need-returns-5
+unfolding firstCondition
 returns-5 c =
     let r = c .match .rest in
-    sym (first-else (c .before .args .file) (r .0 .0 .0 .1) (r .0 .0 .1) (r .0 .1) (r .1))
+    sym (of-others 0 firstCondition (c .before .args .file) (λ e. refl) (λ e. absurd (r .0 .0 .0 .1 e)) (λ e. absurd (r .0 .0 .1 e)) (λ e. absurd (r .0 .1 e)) (λ e. absurd (r .1 e)))
 
 pub first-condition-spec : {M : Type 1} → statement M
 first-condition-spec = tie.close (tie.spec returns returns-2 returns-3 returns-4 returns-5)

@@ -4,7 +4,6 @@ use mathlib.Core.Path.{subst}
 use denote.Ref.{now}
 use Rattle.judge.specs.Steps.{fileNumbered, JudgesValues}
 use Rattle.judge.specs.declared.Step.{Step}
-use Rattle.judge.proofs.Numbers.{booking-ready, booking-is}
 use Rattle.judge.proofs.Text.{booking-faulty, booking-held, values-ready, booking-stopped, booking-went}
 use Rattle.judge.proofs.judge_booking_text.Statement.{statement}
 use Rattle.judge.proofs.judge_booking_text.Tie as tie
@@ -22,13 +21,13 @@ booking-of-requires : tie.Need-booking-of-requires
 booking-of-requires c κs =
     let x = c .before .before .before .before .before .before .before .before .before .before .before .before .before .before in
     let r = c .before .before .before .before .before .before .before .before in
-    booking-ready (now (x .args .text)) (r .read-text .last .1 .1 .0) (booking-held (now (x .args .text)) (now (x .args .places)) (r .read-text .last .1 .1 .0) (r .read-text .last .1 .1 .1 .0) (r .read-text .result) (r .read-text .ensures) (x .pre .0) _ (c .before .before .sections .given .1))
+    booking-held (now (x .args .text)) (now (x .args .places)) (r .read-text .last .1 .1 .0) (r .read-text .last .1 .1 .1 .0) (r .read-text .result) (r .read-text .ensures) (x .pre .0) _ (c .before .before .sections .given .1)
 
 judge-values-requires : tie.Need-judge-values-requires
 judge-values-requires c κs =
     let x = c .before .before .before .before .before .before .before .before .before .before .before .before .before .before .before .before .before in
     let r = c .before .before .before .before .before .before .before .before .before .before .before in
-    values-ready (now (x .args .text)) (now (x .args .places)) (r .read-text .last .1 .1 .0) (r .read-text .last .1 .1 .1 .0) (r .read-text .result) (r .read-text .ensures) (x .pre .0) _ (c .before .before .before .before .before .sections .given .1) _ (booking-is (now (x .args .text)) (r .read-text .last .1 .1 .0) _ (c .before .before .booking-of .ensures)) (search needs)
+    values-ready (now (x .args .text)) (now (x .args .places)) (r .read-text .last .1 .1 .0) (r .read-text .last .1 .1 .1 .0) (r .read-text .result) (r .read-text .ensures) (x .pre .0) _ (c .before .before .before .before .before .sections .given .1) _ (c .before .before .booking-of .ensures) (search needs)
 
 enum-known-x-2 : tie.Need-enum-known-x-2
 enum-known-x-2 c = search needs
@@ -74,7 +73,7 @@ returns-3 c =
     let r = c .before .before .before .before .before .before .before .before .before .before .before .before .before .before .before in
     let v = c .before .before .before in
     booking-went (now (x .args .text)) (now (x .args .places)) (r .read-text .last .1 .1 .0) (r .read-text .last .1 .1 .1 .0) (r .read-text .result) (r .read-text .ensures) (x .pre .0) _ (c .before .before .before .before .before .before .before .before .before .sections .given .1) _
-    (booking-is (now (x .args .text)) (r .read-text .last .1 .1 .0) _ (c .before .before .before .before .before .before .booking-of .ensures)) (c .before .kept .given .0 .0)
+    (c .before .before .before .before .before .before .booking-of .ensures) (c .before .kept .given .0 .0)
     (subst (λ (y : Step). JudgesValues (fileNumbered 1) (c .before .before .before .before .before .before .before .before .before .sections .given .0 .0) (now (x .args .text)) (now (x .args .text)) (r .read-text .last .1 .1 .0) (r .read-text .last .1 .1 .1 .0) y) (c .before .kept .given .1) (v .judge-values .ensures))
 
 pub judge-booking-text-spec : {M : Type 1} → statement M

@@ -1,7 +1,7 @@
 -- `judge::judge_text` meets its contract: 3 to 9, then the values that are now in the places. Assumes nothing.
 use borrow.Author.Needs.{needs}
 use denote.Ref.{now}
-use Rattle.rules.specs.Values.{newValues}
+use Rattle.due.specs.Values.{newValues}
 use Rattle.judge.proofs.Text.{text-faulty, later-ready, later-judged}
 use Rattle.judge.proofs.judge_text.Statement.{statement}
 use Rattle.judge.proofs.judge_text.Tie as tie

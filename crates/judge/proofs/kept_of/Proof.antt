@@ -3,7 +3,7 @@ use borrow.Author.Needs.{needs}
 use mathlib.Core.Path.{refl, _∙_}
 use mathlib.Core.Bool.{false}
 use denote.Ref.{now}
-use Rattle.rules.specs.Values.{valuesOf}
+use Rattle.due.specs.Values.{valuesOf}
 use Rattle.rules.specs.Answer.{isMarked}
 use Rattle.judge.proofs.Numbers.{by-file}
 use Rattle.judge.proofs.kept_of.Statement.{statement}

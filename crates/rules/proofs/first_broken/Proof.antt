@@ -1,22 +1,23 @@
 -- `rules::first_broken` meets its contract: each file by its number; drift and gas have no rule. Assumes nothing.
 use mathlib.Core.Path.{sym, _∙_}
-use Rattle.tables.specs.File.{File, ac2, acc, suspension}
 use mathlib.Core.List.{[]}
+use Rattle.tables.specs.File.{File, ac2, acc, drift, suspension, gas}
+use Rattle.tables.proofs.Files.{of-none}
+use Rattle.due.proofs.Pairs.{of-number, number-held}
 use Rattle.rules.specs.Rules.{firstBrokenAt}
 use Rattle.rules.specs.declared.RuleCheck.the-variants.{Kept}
-use Rattle.rules.proofs.Pairs.{of-number, of-others, number-held}
-use Rattle.rules.proofs.Rules.{new-rules, old-rules, axle-rules, drift-rules, gas-rules, new-any, old-any}
+use Rattle.rules.proofs.Rules.{new-rules, old-rules, axle-rules, drift-rules, gas-rules, old-any}
 use Rattle.rules.proofs.first_broken.Statement.{statement}
 use Rattle.rules.proofs.first_broken.Tie as tie
 
 check-new-booking-requires : tie.Need-check-new-booking-requires
-check-new-booking-requires c κs = new-any _ _ [] _ (number-held ac2 _ _ _ _ (c .match .keys1) (c .before .before .before .before .pre .2))
+check-new-booking-requires c κs = (c .before .before .before .before .pre .1, c .before .before .before .before .pre .2)
 
 check-old-booking-requires : tie.Need-check-old-booking-requires
-check-old-booking-requires c κs = (c .before .before .before .before .pre .1, old-any _ _ [] _ (number-held acc _ _ _ _ (c .match .keys2) (c .before .before .before .before .pre .2)))
+check-old-booking-requires c κs = (c .before .before .before .before .pre .1, c .before .before .before .before .pre .2, old-any _ _ [] _ (number-held acc _ _ _ _ (c .match .keys2) (c .before .before .before .before .pre .3)))
 
 check-differences-requires : tie.Need-check-differences-requires
-check-differences-requires c κs = (c .before .before .before .before .pre .0, number-held suspension _ _ _ _ (c .match .keys3) (c .before .before .before .before .pre .2))
+check-differences-requires c κs = (c .before .before .before .before .pre .0, number-held suspension _ _ _ _ (c .match .keys4) (c .before .before .before .before .pre .3))
 
 returns : tie.Need-returns
 returns c =
@@ -30,14 +31,23 @@ returns-2 c =
 
 returns-3 : tie.Need-returns-3
 returns-3 c =
-    let x = c .before .before .before .before .before .args in
-    c .check-differences .ensures ∙ sym (of-number Kept (λ (f : File). firstBrokenAt f (x .axles) (x .booking .now) (x .text .now) (x .places .now)) suspension _ (c .before .match .keys3) ∙ axle-rules _ _ _ _)
+    let x = c .before .before .before .before .args in
+    sym (of-number Kept (λ (f : File). firstBrokenAt f (x .axles) (x .booking .now) (x .text .now) (x .places .now)) drift _ (c .match .keys3) ∙ drift-rules _ _ _ _)
 
 returns-4 : tie.Need-returns-4
 returns-4 c =
+    let x = c .before .before .before .before .before .args in
+    c .check-differences .ensures ∙ sym (of-number Kept (λ (f : File). firstBrokenAt f (x .axles) (x .booking .now) (x .text .now) (x .places .now)) suspension _ (c .before .match .keys4) ∙ axle-rules _ _ _ _)
+
+returns-5 : tie.Need-returns-5
+returns-5 c =
     let x = c .before .before .before .before .args in
-    let n = c .match .rest in
-    sym (of-others Kept (λ (f : File). firstBrokenAt f (x .axles) (x .booking .now) (x .text .now) (x .places .now)) _ (λ e. absurd (n .0 .0 .1 e)) (λ e. absurd (n .0 .1 e)) (λ e. drift-rules _ _ _ _) (λ e. absurd (n .1 e)) (λ e. gas-rules _ _ _ _))
+    sym (of-number Kept (λ (f : File). firstBrokenAt f (x .axles) (x .booking .now) (x .text .now) (x .places .now)) gas _ (c .match .keys5) ∙ gas-rules _ _ _ _)
+
+returns-6 : tie.Need-returns-6
+returns-6 c =
+    let x = c .before .before .before .before .args in
+    sym (of-none Kept (λ (f : File). firstBrokenAt f (x .axles) (x .booking .now) (x .text .now) (x .places .now)) _ (c .match .rest))
 
 pub first-broken-spec : {M : Type 1} → statement M
 first-broken-spec =
@@ -49,4 +59,6 @@ first-broken-spec =
     returns
     returns-2
     returns-3
-    returns-4)
+    returns-4
+    returns-5
+    returns-6)

@@ -3,7 +3,7 @@ use native.Mathlib.Omega.{arith}
 use borrow.Author.Needs.{needs}
 use Rattle.rules_main.proofs.is_held.Statement.{statement}
 use Rattle.rules_main.proofs.is_held.Tie as tie
-use Rattle.rules.proofs.Pairs.{least-places}
+use Rattle.tables.proofs.Numbers.{first-pairs}
 
 entry-count-requires : tie.Need-entry-count-requires
 entry-count-requires c κs = search needs
@@ -12,7 +12,7 @@ first-pair-requires : tie.Need-first-pair-requires
 first-pair-requires c κs = search needs
 
 pairs-within-requires : tie.Need-pairs-within-requires
-pairs-within-requires c κs = omega (arith, least-places, c .first-pair .ensures, c .before .entry-count .ensures .1, c .before .before .before .before .pre .1)
+pairs-within-requires c κs = omega (arith, first-pairs .5, c .first-pair .ensures, c .before .entry-count .ensures .1, c .before .before .before .before .pre .1)
 
 returns : tie.Need-returns
 returns c = λ e. (c .before .before .before .before .before .pre .1, rw (c .before .first-pair .ensures, c .before .before .entry-count .ensures .0) at (c .pairs-within .ensures e))

@@ -3,7 +3,7 @@ use native.Mathlib.Omega.{arith}
 use borrow.Author.Needs.{needs}
 use Rattle.rules_main.proofs.print_refusal.Statement.{statement}
 use Rattle.rules_main.proofs.print_refusal.Tie as tie
-use Rattle.rules.proofs.Pairs.{least-places}
+use Rattle.tables.proofs.Numbers.{first-pairs}
 
 entry-count-requires : tie.Need-entry-count-requires
 entry-count-requires c κs = search needs
@@ -48,7 +48,7 @@ add-start-of : tie.Need-add-start-of
 add-start-of c = search needs
 
 start-of-requires : tie.Need-start-of-requires
-start-of-requires c κs = omega (arith, least-places, c .first-pair .ensures, c .before .before .before .before .before .before .before .before .before .before .entry-count .ensures .1, c .before .before .before .before .before .before .before .before .before .if1 .left, c .before .before .before .before .before .before .before .before .before .before .before .before .before .before .pre .1)
+start-of-requires c κs = omega (arith, first-pairs .5, c .first-pair .ensures, c .before .before .before .before .before .before .before .before .before .before .entry-count .ensures .1, c .before .before .before .before .before .before .before .before .before .if1 .left, c .before .before .before .before .before .before .before .before .before .before .before .before .before .before .pre .1)
 
 cast-print-name : tie.Need-cast-print-name
 cast-print-name c = search needs

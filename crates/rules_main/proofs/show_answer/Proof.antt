@@ -2,13 +2,13 @@
 use borrow.Author.Needs.{needs}
 use Rattle.rules_main.proofs.show_answer.Statement.{statement}
 use Rattle.rules_main.proofs.show_answer.Tie as tie
-use Rattle.rules.proofs.Pairs.{least-places}
+use Rattle.tables.proofs.Numbers.{first-pairs}
 
 slice-aggregate-show-answered : tie.Need-slice-aggregate-show-answered
 slice-aggregate-show-answered c = search needs
 
 show-answered-requires : tie.Need-show-answered-requires
-show-answered-requires c κs = search (needs, least-places)
+show-answered-requires c κs = search (needs, first-pairs .5)
 
 returns : tie.Need-returns
 returns c = search needs
@@ -20,13 +20,13 @@ slice-aggregate-read-file-2 : tie.Need-slice-aggregate-read-file-2
 slice-aggregate-read-file-2 c = search needs
 
 read-file-requires : tie.Need-read-file-requires
-read-file-requires c κs = search (needs, least-places)
+read-file-requires c κs = search (needs, first-pairs .5)
 
 slice-aggregate-show-answered-2 : tie.Need-slice-aggregate-show-answered-2
 slice-aggregate-show-answered-2 c = search needs
 
 show-answered-requires-2 : tie.Need-show-answered-requires-2
-show-answered-requires-2 c κs = search (needs, least-places)
+show-answered-requires-2 c κs = search (needs, first-pairs .5)
 
 returns-2 : tie.Need-returns-2
 returns-2 c = search needs

@@ -1,10 +1,8 @@
 -- `rules_main::show_booking` is safe: AC2 is held where the test says so. Assumes nothing.
-use native.Mathlib.Omega.{arith}
 use borrow.Author.Needs.{needs}
 use Rattle.rules_main.proofs.show_booking.Statement.{statement}
 use Rattle.rules_main.proofs.show_booking.Tie as tie
-use Rattle.rules.proofs.Pairs.{least-places}
-use Rattle.rules_main.proofs.Held.{new-numbered, new-within}
+use Rattle.rules_main.proofs.Held.{new-numbered}
 
 is-held-requires : tie.Need-is-held-requires
 is-held-requires c κs = search needs
@@ -13,7 +11,7 @@ stated-of-requires : tie.Need-stated-of-requires
 stated-of-requires c κs = search needs
 
 booking-of-requires : tie.Need-booking-of-requires
-booking-of-requires c κs = (omega (arith, least-places, c .before .before .before .before .before .before .pre), new-within _ _ (new-numbered _ _ (c .before .before .is-held .ensures (c .before .if1 .taken))))
+booking-of-requires c κs = new-numbered _ _ (c .before .before .is-held .ensures (c .before .if1 .taken))
 
 show-slices-requires : tie.Need-show-slices-requires
 show-slices-requires c κs = search needs

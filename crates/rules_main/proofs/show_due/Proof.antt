@@ -1,16 +1,16 @@
--- `rules_main::show_due` is safe: AC2 and the file are held, and with number 5 the file is gas. Assumes nothing.
+-- `rules_main::show_due` is safe: AC2 and the file are held. Assumes nothing.
 use native.Mathlib.Omega.{arith}
 use borrow.Author.Needs.{needs}
 use Rattle.rules_main.proofs.show_due.Statement.{statement}
 use Rattle.rules_main.proofs.show_due.Tie as tie
-use Rattle.rules.proofs.Pairs.{least-places}
-use Rattle.rules_main.proofs.Held.{new-within, gas-within}
+use Rattle.tables.proofs.Numbers.{first-pairs}
+use Rattle.due.proofs.Pairs.{fixed-held}
 
 booking-of-requires : tie.Need-booking-of-requires
-booking-of-requires c κs = (omega (arith, least-places, c .before .before .before .before .pre .1 .0), new-within _ _ (c .before .before .before .before .pre .1))
+booking-of-requires c κs = c .before .before .before .before .pre .1
 
 conditions-of-requires : tie.Need-conditions-of-requires
-conditions-of-requires c κs = (omega (arith, least-places, c .before .before .before .before .before .pre .1 .0), λ e. gas-within _ _ _ _ e (c .before .before .before .before .before .pre .2))
+conditions-of-requires c κs = fixed-held _ _ _ _ (c .before .before .before .before .before .pre .2)
 
 first-pair-requires : tie.Need-first-pair-requires
 first-pair-requires c κs = search needs
@@ -19,10 +19,10 @@ entry-count-requires : tie.Need-entry-count-requires
 entry-count-requires c κs = search needs
 
 show-entries-requires : tie.Need-show-entries-requires
-show-entries-requires c κs = omega (arith, least-places, c .before .first-pair .ensures, c .entry-count .ensures .1, c .before .before .before .before .before .before .before .before .pre .1 .0)
+show-entries-requires c κs = omega (arith, first-pairs .5, c .before .first-pair .ensures, c .entry-count .ensures .1, c .before .before .before .before .before .before .before .before .pre .1 .0)
 
 first-not-as-due-requires : tie.Need-first-not-as-due-requires
-first-not-as-due-requires c κs = omega (arith, least-places, c .before .before .first-pair .ensures, c .before .entry-count .ensures .1, c .before .before .before .before .before .before .before .before .before .pre .1 .0)
+first-not-as-due-requires c κs = omega (arith, first-pairs .5, c .before .before .first-pair .ensures, c .before .entry-count .ensures .1, c .before .before .before .before .before .before .before .before .before .pre .1 .0)
 
 print-refusal-requires : tie.Need-print-refusal-requires
 print-refusal-requires c κs = search needs

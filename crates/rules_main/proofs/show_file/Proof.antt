@@ -2,7 +2,7 @@
 use borrow.Author.Needs.{needs}
 use Rattle.rules_main.proofs.show_file.Statement.{statement}
 use Rattle.rules_main.proofs.show_file.Tie as tie
-use Rattle.rules.proofs.Pairs.{least-places}
+use Rattle.tables.proofs.Numbers.{first-pairs}
 
 slice-aggregate-read-both : tie.Need-slice-aggregate-read-both
 slice-aggregate-read-both c = search needs
@@ -11,7 +11,7 @@ slice-aggregate-read-both-2 : tie.Need-slice-aggregate-read-both-2
 slice-aggregate-read-both-2 c = search needs
 
 read-both-requires : tie.Need-read-both-requires
-read-both-requires c κs = search (needs, least-places)
+read-both-requires c κs = search (needs, first-pairs .5)
 
 slice-aggregate-show-held : tie.Need-slice-aggregate-show-held
 slice-aggregate-show-held c = search needs
@@ -20,7 +20,7 @@ slice-aggregate-show-held-2 : tie.Need-slice-aggregate-show-held-2
 slice-aggregate-show-held-2 c = search needs
 
 show-held-requires : tie.Need-show-held-requires
-show-held-requires c κs = search (needs, least-places)
+show-held-requires c κs = search (needs, first-pairs .5)
 
 returns : tie.Need-returns
 returns c = search needs

@@ -2,19 +2,19 @@
 use borrow.Author.Needs.{needs}
 use Rattle.rules_main.proofs.show_given.Statement.{statement}
 use Rattle.rules_main.proofs.show_given.Tie as tie
-use Rattle.rules.proofs.Pairs.{least-places}
+use Rattle.tables.proofs.Numbers.{first-pairs}
 
 slice-aggregate-read-booking : tie.Need-slice-aggregate-read-booking
 slice-aggregate-read-booking c = search needs
 
 read-booking-requires : tie.Need-read-booking-requires
-read-booking-requires c κs = search (needs, least-places)
+read-booking-requires c κs = search (needs, first-pairs .5)
 
 slice-aggregate-show-booking : tie.Need-slice-aggregate-show-booking
 slice-aggregate-show-booking c = search needs
 
 show-booking-requires : tie.Need-show-booking-requires
-show-booking-requires c κs = search (needs, least-places)
+show-booking-requires c κs = search (needs, first-pairs .5)
 
 returns : tie.Need-returns
 returns c = search needs

@@ -2,7 +2,7 @@
 //!
 //! - `lines`: line form. - `kinds`: kinds of value. - `tables`: headings and entries.
 //! - `files`: one file, 3 to 9. - `due`: due entries. - `bookings`: rules of AC2 and ACC.
-//! - `identification`: the serial answer. - `judging`: a whole set, or one file alone.
+//! - `identification`: the identification answer. - `judging`: a whole set, or one file alone.
 //! - `writing`: one file written.
 
 #![forbid(unsafe_code)]

@@ -1,0 +1,153 @@
+-- Values at pairs: the pairs of a file that is held are there and within its text, and a named value stands at its pair. Assumes nothing.
+use Prim.Native.Nat.{ℕ, zero, suc, _+_, _*_, _≤_, _<_}
+use native.Mathlib.Omega.{arith}
+use native.Mathlib.Nat.{add-zero}
+use mathlib.Core.Path.{_≡_, refl, ap, sym, _∙_}
+use mathlib.Core.List.{List, [], _∷_, map}
+use lib.ListN.{length, getD}
+use Rattle.lines.specs.Bytes.{sameBytes}
+use Rattle.kinds.specs.Value.{wordIndex}
+use Rattle.places.specs.Places.{startOf, lengthOf, pairsAt, valueAt, valueOf, Within}
+use Rattle.places.proofs.Values.{within-at}
+use Rattle.tables.specs.Section.{entriesOf}
+use Rattle.tables.specs.Entries.{newBooking, oldBooking, tester, protocol, measurement, sixteen, driftAxle, suspensionAxle, analyser, counter, speedTest, allKeyDates, allKeyBodies, analysis, fuelAnalysis}
+use Rattle.tables.specs.File.{File, ac2, acc, drift, suspension, gas, fixedSections, axleEntries, axlesFrom, axleSections, sections, entries, room, rooms, firstPair, leastPlaces, fileNumber, ofNumber}
+use Rattle.tables.specs.Value.{placeOf, axlePlaceOf}
+use Rattle.tables.proofs.Numbers.{first-pairs, room-in}
+use Rattle.tables.proofs.Axles.{entries-length, entries-most}
+use Rattle.tables.proofs.Files.{of-file, of-any, of-map}
+use Rattle.due.specs.Values.{valuesOf, pairOf, Held, NumberHeld, PairHeld}
+
+-- ---- the numbers of `tables::pairs`, by the names of their entries
+
+pub ac2-pairs : map (pairOf ac2) (
+    "TargaNominale" ∷ "TipoVeicolo" ∷ "CategoriaInternazionale" ∷ "DataPrimaImm" ∷ "Alimentazione_1" ∷ "Turbo" ∷ "CorrettorePressione" ∷
+    "DirettivaEmissioniGasBenzinaAuto" ∷ "DirettivaEmissioniGasMotociclo" ∷ "AzionamentoFrenoStazionamento" ∷ "PosAssiStaz" ∷ [])
+    ≡ 0 ∷ 1 ∷ 2 ∷ 4 ∷ 5 ∷ 6 ∷ 7 ∷ 8 ∷ 9 ∷ 10 ∷ 11 ∷ []
+unfolding placeOf wordIndex sameBytes entries sections fixedSections axleSections entriesOf newBooking firstPair rooms
+ac2-pairs = refl
+
+pub acc-pairs : map (pairOf acc) (
+    "TipoVeicolo" ∷ "DescrizioneVeicolo" ∷ "AnnoPrimaImm" ∷ "Alimentazione_1" ∷ "FrenoStazionamento" ∷ "NumAssiStazionamento" ∷ [])
+    ≡ 12 ∷ 13 ∷ 14 ∷ 15 ∷ 16 ∷ 17 ∷ []
+unfolding placeOf wordIndex sameBytes entries sections fixedSections axleSections entriesOf newBooking oldBooking firstPair rooms room
+acc-pairs = refl
+
+pub drift-pairs : pairOf drift "CodErrore" ≡ 29
+unfolding placeOf wordIndex sameBytes entries sections fixedSections axleSections axlesFrom entriesOf newBooking oldBooking sixteen tester protocol measurement firstPair rooms room
+drift-pairs = refl
+
+-- of the axle that follows k axles, three pairs further on for each
+pub suspension-pairs : (pairOf suspension "CodErrore" ≡ 54)
+    × ((k : ℕ) → (firstPair suspension + axlePlaceOf suspension k "Aderenza%Sx" ≡ 59 + 3 * k)
+    × (firstPair suspension + axlePlaceOf suspension k "Aderenza%Dx" ≡ 60 + 3 * k)
+    × (firstPair suspension + axlePlaceOf suspension k "Differenza%" ≡ 61 + 3 * k))
+unfolding placeOf axlePlaceOf wordIndex sameBytes entries sections fixedSections axleSections axlesFrom axleEntries entriesOf newBooking oldBooking sixteen tester protocol measurement driftAxle suspensionAxle firstPair rooms room
+suspension-pairs = (refl, λ k. let e = entries-length suspension k in (omega arith, omega arith, omega arith))
+
+pub gas-pairs : map (pairOf gas) (
+    "MarcaAnalizzatore" ∷ "TipoAnalizzatore" ∷ "NumOmologaAnalizzatore" ∷ "NumSerieAnalizzatore" ∷ "NumVersSoftwareAnalizzatore" ∷ "DataScadenzaAnalizzatore" ∷
+    "TipoCollegamentoContagiri" ∷ "NumVersioneProtocolloContagiri" ∷ "NumVersioneProtocolloProvaVelocita" ∷ "NumVersioneProtocollo" ∷ "TipoCollegamento" ∷ "CodErrore" ∷ [])
+    ≡ 86 ∷ 87 ∷ 88 ∷ 89 ∷ 90 ∷ 91 ∷ 98 ∷ 99 ∷ 105 ∷ 108 ∷ 110 ∷ 127 ∷ []
+unfolding placeOf wordIndex sameBytes entries sections fixedSections axleSections axlesFrom axleEntries entriesOf newBooking oldBooking sixteen tester protocol measurement driftAxle suspensionAxle analysis analyser counter speedTest allKeyDates allKeyBodies fuelAnalysis firstPair rooms room
+gas-pairs = refl
+
+-- the last of gas's
+pub gas-code : pairOf gas "CodErrore" ≡ 127
+gas-code = ap (λ (l : List ℕ). getD l 11 0) gas-pairs
+
+-- ---- how many entries a file has
+
+pub new-count : (n : ℕ) → length (entries ac2 n) ≡ 12
+unfolding entries sections fixedSections axleSections entriesOf newBooking
+new-count n = refl
+
+pub old-count : (n : ℕ) → length (entries acc n) ≡ 6
+unfolding entries sections fixedSections axleSections entriesOf oldBooking
+old-count n = refl
+
+pub gas-count : (n : ℕ) → length (entries gas n) ≡ 53
+unfolding entries sections fixedSections axleSections entriesOf analysis analyser counter speedTest protocol allKeyDates allKeyBodies measurement fuelAnalysis
+gas-count n = refl
+
+pub drift-count : (n : ℕ) → length (entries drift n) ≡ 16 + n
+unfolding entries sections fixedSections axleSections axlesFrom axleEntries entriesOf sixteen tester protocol measurement driftAxle
+drift-count n = omega (arith, entries-length drift n)
+
+pub suspension-count : (n : ℕ) → length (entries suspension n) ≡ 16 + 3 * n
+unfolding entries sections fixedSections axleSections axlesFrom axleEntries entriesOf sixteen tester protocol measurement suspensionAxle
+suspension-count n = omega (arith, entries-length suspension n)
+
+-- ---- a pair of a file that is held
+
+value-at : (t p : List ℕ) (a n k : ℕ) → k < n → getD (map (valueAt t) (pairsAt p a n)) k [] ≡ valueOf t p (a + k)
+unfolding pairsAt
+value-at t p a zero k l = absurd (omega arith)
+value-at t p a (suc n) zero l = rw (add-zero a)
+value-at t p a (suc n) (suc k) l =
+    let z : a + suc k ≡ a + 1 + k = omega arith in
+    rw z (value-at t p (a + 1) n k (omega arith))
+
+-- the value at place k of a file stands at its pair m
+pub value-held : (f : File) (n : ℕ) (t p : List ℕ) (k m : ℕ) → k < length (entries f n) → firstPair f + k ≡ m → getD (valuesOf f n t p) k [] ≡ valueOf t p m
+value-held f n t p k m l e = value-at t p (firstPair f) (length (entries f n)) k l ∙ ap (valueOf t p) e
+
+pub pair-held : (f : File) (n : ℕ) (t p : List ℕ) (k m : ℕ) → n ≤ 9 → Held f n t p → k < length (entries f n) → firstPair f + k ≡ m → PairHeld t p m
+unfolding leastPlaces
+pair-held f n t p k m l h i e =
+    let c : startOf p (firstPair f + k) + lengthOf p (firstPair f + k) ≤ length t = within-at t p (firstPair f) (length (entries f n)) k (h .1) i in
+    (omega (arith, entries-most f n l, room-in f, h .0), rw e at c)
+
+module _ (t p : List ℕ) where
+  pub new-held : Held ac2 0 t p → (k : ℕ) → k < 12 → PairHeld t p k
+  new-held h k l = pair-held ac2 0 t p k k (omega arith) h (rw (new-count 0) l) (rw (first-pairs .0) (omega arith))
+
+  pub old-held : Held acc 0 t p → (k : ℕ) → k < 6 → PairHeld t p (12 + k)
+  old-held h k l = pair-held acc 0 t p k (12 + k) (omega arith) h (rw (old-count 0) l) (rw (first-pairs .1) refl)
+
+  pub gas-held : Held gas 0 t p → (k : ℕ) → k < 53 → PairHeld t p (86 + k)
+  gas-held h k l = pair-held gas 0 t p k (86 + k) (omega arith) h (rw (gas-count 0) l) (rw (first-pairs .4) refl)
+
+  pub axle-held : (n : ℕ) → n ≤ 9 → Held suspension n t p → (k m : ℕ) → k < 16 + 3 * n → 43 + k ≡ m → PairHeld t p m
+  axle-held n s h k m l e = pair-held suspension n t p k m s h (rw (suspension-count n) l) (rw (first-pairs .3) e)
+
+-- the pairs of a file's first entries lie within its text where all do
+within-few : (t p : List ℕ) (a m n : ℕ) → m ≤ n → Within t (pairsAt p a n) → Within t (pairsAt p a m)
+unfolding Within pairsAt
+within-few t p a zero n l w = tt
+within-few t p a (suc m) zero l w = absurd (omega arith)
+within-few t p a (suc m) (suc n) l w = (w .0, within-few t p (a + 1) m n (omega arith) (w .1))
+
+-- ---- a file by its number
+
+-- what is said of the file of a number
+pub of-number : {A : Type 0} (d : A) (g : File → A) (f : File) (m : ℕ) → m ≡ fileNumber f → ofNumber d g m ≡ g f
+of-number d g f m e = ap (ofNumber d g) e ∙ of-file d g f
+
+-- where each file that the number may be says the same as no file
+pub of-others : {A : Type 0} (d : A) (g : File → A) (m : ℕ) → (m ≡ 1 → g ac2 ≡ d) → (m ≡ 2 → g acc ≡ d) → (m ≡ 3 → g drift ≡ d)
+    → (m ≡ 4 → g suspension ≡ d) → (m ≡ 5 → g gas ≡ d) → ofNumber d g m ≡ d
+unfolding ofNumber
+of-others d g zero h1 h2 h3 h4 h5 = refl
+of-others d g (suc zero) h1 h2 h3 h4 h5 = h1 refl
+of-others d g (suc (suc zero)) h1 h2 h3 h4 h5 = h2 refl
+of-others d g (suc (suc (suc zero))) h1 h2 h3 h4 h5 = h3 refl
+of-others d g (suc (suc (suc (suc zero)))) h1 h2 h3 h4 h5 = h4 refl
+of-others d g (suc (suc (suc (suc (suc zero))))) h1 h2 h3 h4 h5 = h5 refl
+of-others d g (suc (suc (suc (suc (suc (suc m)))))) h1 h2 h3 h4 h5 = refl
+
+pub number-held : (f : File) (m n : ℕ) (t p : List ℕ) → m ≡ fileNumber f → NumberHeld m n t p → Held f n t p
+number-held f m n t p e h = (h .0, rw (of-number 0 firstPair f m e, of-number 0 (λ (f : File). length (entries f n)) f m e) at (h .1))
+
+pub held-number : (f : File) (m n : ℕ) (t p : List ℕ) → m ≡ fileNumber f → Held f n t p → NumberHeld m n t p
+held-number f m n t p e h = (h .0, rw (of-number 0 firstPair f m e, of-number 0 (λ (f : File). length (entries f n)) f m e) (h .1))
+
+fewer : (m n : ℕ) → ofNumber 0 (λ (f : File). length (entries f 0)) m ≤ ofNumber 0 (λ (f : File). length (entries f n)) m
+fewer m n =
+    let g : File → ℕ × ℕ = (λ (f : File). (length (entries f 0), length (entries f n))) in
+    rw (sym (of-map (λ (x : ℕ × ℕ). x .0) (0, 0) g m), sym (of-map (λ (x : ℕ × ℕ). x .1) (0, 0) g m))
+    (of-any (0, 0) g (λ (x : ℕ × ℕ). x .0 ≤ x .1) (omega arith) (λ f. omega (arith, entries-length f n)) m)
+
+-- with its axles held, a file's fixed sections are
+pub fixed-held : (m n : ℕ) (t p : List ℕ) → NumberHeld m n t p → NumberHeld m 0 t p
+fixed-held m n t p h = (h .0, within-few t p (ofNumber 0 firstPair m) _ _ (fewer m n) (h .1))
