@@ -11,16 +11,16 @@ use Rattle.due.specs.Booking.{bookingIn}
 use Rattle.due.specs.declared.Booking.{Booking}
 use Rattle.due.specs.Values.{newValues}
 use Rattle.rules.specs.Slices.{sliceRight, isRead}
-use Rattle.rules.specs.Answer.{isMarked}
+use Rattle.rules.specs.Marks.{isMarked}
 use Rattle.rules.specs.declared.Stated.{Stated}
 use Rattle.sets.specs.Records.{isGiven}
 use Rattle.sets.specs.Judge.{FileRead, notRead, judgeFile}
-use Rattle.judge.specs.Steps.{fileNumbered, nothingKept, Ready, JudgesFile, textJudged, fileJudged}
+use Rattle.judge.specs.Steps.{fileNumbered, nothingKept, FileReady, JudgesFile, textJudged, fileJudged}
 use Rattle.judge.specs.declared.Step.{Step}
 use Rattle.judge.specs.declared.Step.the-variants.{Stop, Go}
 use Rattle.judge.proofs.Numbers.{by-file}
 
-module _ (file : ℕ) (stated : Stated) (b : Booking) (s t p : List ℕ) (d : Ready file b s p) where
+module _ (file : ℕ) (stated : Stated) (b : Booking) (s t p : List ℕ) (d : FileReady file b s p) where
   abbrev f : File
   f = fileNumbered file
 

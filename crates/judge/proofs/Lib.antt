@@ -2,6 +2,6 @@ pub mod Numbers
 pub mod Values
 pub mod Text
 pub mod File
-pub mod Answer
+pub mod Identification
 pub mod Slices
 pub mod Judged

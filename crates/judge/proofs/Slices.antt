@@ -17,17 +17,17 @@ use Rattle.files.proofs.Pairs.{few-axles, rooms-fit, own-pairs}
 use Rattle.due.specs.Booking.{bookingIn}
 use Rattle.due.specs.declared.Booking.{Booking}
 use Rattle.due.specs.Values.{pairsOf, valuesOf, newValues, Held}
-use Rattle.rules.specs.Slices.{sliceRight, isRead, answerRight}
+use Rattle.rules.specs.Slices.{sliceRight, isRead, identificationRight}
 use Rattle.rules.specs.declared.Stated.{Stated}
 use Rattle.due.proofs.Pairs.{gas-count}
-use Rattle.serial.specs.Reading.{readAnswer}
+use Rattle.serial.specs.Reading.{readIdentification}
 use Rattle.sets.specs.Records.{Slices, isGiven}
-use Rattle.sets.specs.Judge.{FileRead, SetRead, notRead, judgeBooking, judgeFields, judgeFile, judgeAnswer, fileGiven, answerStep, setRead, Slice, fileSlice, answerSlice, laterSlices, eachAccepted, judgeSlices, setFiles}
+use Rattle.sets.specs.Judge.{FileRead, SetRead, notRead, judgeBooking, judgeFields, judgeFile, judgeIdentification, fileGiven, identificationStep, setRead, Slice, fileSlice, identificationSlice, laterSlices, eachAccepted, judgeSlices, setFiles}
 use Rattle.sets.specs.declared.SetAnswer.{SetAnswer}
 use Rattle.sets.specs.declared.SetAnswer.the-variants.{Accepted, Refused}
 use Rattle.sets.proofs.File.{FilePassed, Passed, file-sound, booking-file}
 use Rattle.sets.proofs.Set.{each-sound}
-use Rattle.judge.specs.Steps.{fileNumbered, IsNumber, keptOf, keptIn, acceptanceWith, IsBooking, Ready, JudgesFile, JudgesBooking, Asked, Next, answerJudged, JudgesAnswer, AnswerReady, laterFiles, acceptanceIn, JudgesSlices}
+use Rattle.judge.specs.Steps.{fileNumbered, IsNumber, keptOf, keptIn, acceptanceWith, IsBooking, FileReady, JudgesFile, JudgesBooking, Asked, Next, identificationJudged, JudgesIdentification, IdentificationReady, laterFiles, acceptanceIn, JudgesSlices}
 use Rattle.judge.specs.declared.Kept.{Kept}
 use Rattle.judge.specs.declared.Booked.{Booked}
 use Rattle.judge.specs.declared.Step.{Step}
@@ -135,29 +135,29 @@ module _ (stated : Stated) (S : Slices) (p : List ℕ) where
   first-file f l K cs w h r v j = on-file f l K cs w p h refl r v j
 
   -- what the next file asks
-  pub going-ready : (file : ℕ) (b : Booking) → IsNumber file → 2 ≤ file → IsBooking b text p → {K : Type 0} {cs : List Slice} {w q : List ℕ} → Going K cs w q → Ready file b text q
+  pub going-ready : (file : ℕ) (b : Booking) → IsNumber file → 2 ≤ file → IsBooking b text p → {K : Type 0} {cs : List Slice} {w q : List ℕ} → Going K cs w q → FileReady file b text q
   going-ready file b n l e h = record { number = n; later = l; held = h .held; booking = e ∙ ap bookingIn (sym (h .book)) }
 
-  pub next-ready : (file : ℕ) (b : Booking) → IsNumber file → 2 ≤ file → IsBooking b text p → (K : Type 0) (cs : List Slice) (before : Step) (w q : List ℕ) → After K cs before w q → Asked before (Ready file b text q)
+  pub next-ready : (file : ℕ) (b : Booking) → IsNumber file → 2 ≤ file → IsBooking b text p → (K : Type 0) (cs : List Slice) (before : Step) (w q : List ℕ) → After K cs before w q → Asked before (FileReady file b text q)
   next-ready file b n l e K cs (Stop x) w q h = tt
   next-ready file b n l e K cs (Go y) w q h = going-ready file b n l e (h .0)
 
   -- ---- slice 6
 
   -- without gas its values are not looked at
-  no-values : (v w : List (List ℕ)) (i : List ℕ) → judgeAnswer false v i ≡ judgeAnswer false w i
-  unfolding judgeAnswer answerRight
+  no-values : (v w : List (List ℕ)) (i : List ℕ) → judgeIdentification false v i ≡ judgeIdentification false w i
+  unfolding judgeIdentification identificationRight
   no-values v w i = on (isGiven i)
     where
-      on : (b : Bool) → require (not b) 11 6 0 (cond b (judgeFields v i (readAnswer i)) (acceptance [])) ≡ require (not b) 11 6 0 (cond b (judgeFields w i (readAnswer i)) (acceptance []))
+      on : (b : Bool) → require (not b) 11 6 0 (cond b (judgeFields v i (readIdentification i)) (acceptance [])) ≡ require (not b) 11 6 0 (cond b (judgeFields w i (readIdentification i)) (acceptance []))
       on true = refl
       on false = refl
 
   -- gas's values stand at its pairs, where it is given
-  abbrev pub AnswerKnown : List ℕ → Type 0
-  AnswerKnown q = AnswerReady (S .file gas) q × (answerJudged (S .file gas) (S .answer) q ≡ answerStep stated S a)
+  abbrev pub IdentificationKnown : List ℕ → Type 0
+  IdentificationKnown q = IdentificationReady (S .file gas) q × (identificationJudged (S .file gas) (S .identification) q ≡ identificationStep stated S a)
 
-  gas-known : (K : Type 0) (cs : List Slice) (w q : List ℕ) → Going K (fileSlice gas ∷ cs) w q → (r : Step) (v : List ℕ) → JudgesNext gas r q v → Asked r (AnswerKnown v)
+  gas-known : (K : Type 0) (cs : List Slice) (w q : List ℕ) → Going K (fileSlice gas ∷ cs) w q → (r : Step) (v : List ℕ) → JudgesNext gas r q v → Asked r (IdentificationKnown v)
   unfolding isRead
   gas-known K cs w q h (Stop e) v j = tt
   gas-known K cs w q h (Go y) v j = (λ e. given (lt-ltb 0 (length (S .file gas)) e) .0, by-test (isGiven (S .file gas)) (λ e. given e .1) none)
@@ -171,7 +171,7 @@ module _ (stated : Stated) (S : Slices) (p : List ℕ) where
       is : g ≡ fileGiven stated S a gas
       is = sym (ap (givenBy notRead) s)
 
-      given : isGiven (S .file gas) ≡ true → Held gas 0 (S .file gas) v × (answerJudged (S .file gas) (S .answer) v ≡ answerStep stated S a)
+      given : isGiven (S .file gas) ≡ true → Held gas 0 (S .file gas) v × (identificationJudged (S .file gas) (S .identification) v ≡ identificationStep stated S a)
       given e =
           let k : Passed gas a (S .file gas) g = file-sound gas stated a (S .file gas) g s .read e in
           let fit : placeSize * (firstPair gas + length (g .pairs)) ≤ leastPlaces = omega (arith, read-few gas a (S .file gas) g k, rooms-fit gas) in
@@ -179,27 +179,27 @@ module _ (stated : Stated) (S : Slices) (p : List ℕ) where
           = ap (pairsOf gas 0) (j .3) ∙ ap (λ (c : ℕ). pairsAt (setPairs (firstPair gas) (g .pairs) q) (firstPair gas) c) (gas-count 0 ∙ sym (gas-count (g .axles)))
           ∙ own-pairs gas (g .axles) (g .pairs) q (k .many) fit (h .held .0) in (
             (omega (arith, ap length (j .3), set-length (firstPair gas) (g .pairs) q, h .held .0), subst (Within (S .file gas)) (sym o) (k .within)),
-            ap (λ (u : List (List ℕ)). judgeAnswer (isGiven (S .file gas)) u (S .answer)) (ap (map (valueAt (S .file gas))) o ∙ sym (k .values) ∙ ap (λ (z : FileRead). z .values) is),
+            ap (λ (u : List (List ℕ)). judgeIdentification (isGiven (S .file gas)) u (S .identification)) (ap (map (valueAt (S .file gas))) o ∙ sym (k .values) ∙ ap (λ (z : FileRead). z .values) is),
           )
 
-      none : isGiven (S .file gas) ≡ false → answerJudged (S .file gas) (S .answer) v ≡ answerStep stated S a
-      none e = rw e (no-values (valuesOf gas 0 (S .file gas) v) (fileGiven stated S a gas .values) (S .answer))
+      none : isGiven (S .file gas) ≡ false → identificationJudged (S .file gas) (S .identification) v ≡ identificationStep stated S a
+      none e = rw e (no-values (valuesOf gas 0 (S .file gas) v) (fileGiven stated S a gas .values) (S .identification))
 
-  pub answer-known : (K : Type 0) (cs : List Slice) (before : Step) (w q : List ℕ) → After K (fileSlice gas ∷ cs) before w q → (r : Step) (v : List ℕ)
-      → Next before r q v (JudgesNext gas r q v) → Asked r (AnswerKnown v)
-  answer-known K cs (Stop e) w q h r v n = subst (λ (y : Step). Asked y (AnswerKnown v)) (sym (n .0)) tt
-  answer-known K cs (Go y) w q h r v n = gas-known K cs w q (h .0) r v n
+  pub identification-known : (K : Type 0) (cs : List Slice) (before : Step) (w q : List ℕ) → After K (fileSlice gas ∷ cs) before w q → (r : Step) (v : List ℕ)
+      → Next before r q v (JudgesNext gas r q v) → Asked r (IdentificationKnown v)
+  identification-known K cs (Stop e) w q h r v n = subst (λ (y : Step). Asked y (IdentificationKnown v)) (sym (n .0)) tt
+  identification-known K cs (Go y) w q h r v n = gas-known K cs w q (h .0) r v n
 
-  pub answer-ready : (before : Step) (q : List ℕ) → Asked before (AnswerKnown q) → Asked before (AnswerReady (S .file gas) q)
-  answer-ready (Stop e) q h = tt
-  answer-ready (Go y) q h = h .0
+  pub identification-ready : (before : Step) (q : List ℕ) → Asked before (IdentificationKnown q) → Asked before (IdentificationReady (S .file gas) q)
+  identification-ready (Stop e) q h = tt
+  identification-ready (Go y) q h = h .0
 
-  pub next-answer : (K : Type 0) (cs : List Slice) (before : Step) (w q : List ℕ) → After K (answerSlice ∷ cs) before w q → Asked before (AnswerKnown q) → (r : Step)
-      → Next before r q q (JudgesAnswer (answerJudged (S .file gas) (S .answer) q) r) → After K cs r w q
-  next-answer K cs (Stop e) w q h k r n = subst (λ (y : Step). After K cs y w q) (sym (n .0)) h
-  next-answer K cs (Go y) w q h k (Stop e) n =
+  pub next-identification : (K : Type 0) (cs : List Slice) (before : Step) (w q : List ℕ) → After K (identificationSlice ∷ cs) before w q → Asked before (IdentificationKnown q) → (r : Step)
+      → Next before r q q (JudgesIdentification (identificationJudged (S .file gas) (S .identification) q) r) → After K cs r w q
+  next-identification K cs (Stop e) w q h k r n = subst (λ (y : Step). After K cs y w q) (sym (n .0)) h
+  next-identification K cs (Go y) w q h k (Stop e) n =
       (h .0 .rest ∙ ap (λ (z : Answer (List ℕ)). followed z (λ v. eachAccepted stated S a cs x)) (sym (k .1) ∙ n), h .1)
-  next-answer K cs (Go y) w q h k (Go z) n = (
+  next-identification K cs (Go y) w q h k (Go z) n = (
     record {
       held = h .0 .held;
       book = h .0 .book;

@@ -28,7 +28,7 @@ use Rattle.due.specs.declared.Booking.{Booking}
 use Rattle.due.specs.Values.{pairsOf, newValues, Held}
 use Rattle.due.proofs.Pairs.{new-count}
 use Rattle.sets.specs.Judge.{fileRead, fileChecks, firstFailed, checkedFile, judgeReading, judgeText}
-use Rattle.judge.specs.Steps.{fileNumbered, IsNumber, keptOf, IsBooking, Ready, ValuesReady, valuesStep, JudgesValues, JudgesFile, textJudged, JudgesBooking}
+use Rattle.judge.specs.Steps.{fileNumbered, IsNumber, keptOf, IsBooking, FileReady, ValuesReady, valuesStep, JudgesValues, JudgesFile, textJudged, JudgesBooking}
 use Rattle.judge.specs.declared.Kept.{Kept}
 use Rattle.judge.specs.declared.Step.{Step}
 use Rattle.judge.specs.declared.Step.the-variants.{Stop, Go}
@@ -131,7 +131,7 @@ module _ (file : ℕ) (number : IsNumber file) (t p q ls : List ℕ) (r : TextAn
 
     -- ---- a file after AC2, whose text is s
 
-    module _ (b : Booking) (s : List ℕ) (d : Ready file b s p) where
+    module _ (b : Booking) (s : List ℕ) (d : FileReady file b s p) where
       same : pairsOf ac2 0 q ≡ pairsOf ac2 0 p
       same = ap (pairsOf ac2 0) set ∙ booking-kept f (omega (arith, number, d .later)) ps p
 

@@ -13,10 +13,10 @@ use Rattle.files.specs.Files.{axlesOf}
 use Rattle.due.specs.Booking.{bookingIn}
 use Rattle.due.specs.declared.Booking.{Booking}
 use Rattle.due.specs.Values.{pairsOf, valuesOf, newValues, Held}
-use Rattle.rules.specs.Answer.{isMarked}
+use Rattle.rules.specs.Marks.{isMarked}
 use Rattle.rules.specs.declared.Stated.{Stated}
 use Rattle.sets.specs.Records.{Slices, isGiven}
-use Rattle.sets.specs.Judge.{acceptanceOf, FileRead, SetRead, fileRead, checkedFile, firstFailed, fileChecks, judgeText, judgeFile, judgeAnswer, setRead, laterSlices, eachAccepted, setFiles, answerIs}
+use Rattle.sets.specs.Judge.{acceptanceOf, FileRead, SetRead, fileRead, checkedFile, firstFailed, fileChecks, judgeText, judgeFile, judgeIdentification, setRead, laterSlices, eachAccepted, setFiles, answerIs}
 use Rattle.sets.specs.declared.Acceptance.{Acceptance}
 use Rattle.sets.specs.declared.SetAnswer.{SetAnswer}
 use Rattle.sets.specs.declared.SetAnswer.the-variants.{Accepted, Refused}
@@ -67,7 +67,7 @@ abbrev pub IsBooking : Booking → List ℕ → List ℕ → Type 0
 IsBooking b s p = b ≡ bookingIn (newValues s p)
 
 -- what judging a file after AC2 asks: AC2's text s
-pub record Ready (file : ℕ) (b : Booking) (s p : List ℕ) : Type 0 where
+pub record FileReady (file : ℕ) (b : Booking) (s p : List ℕ) : Type 0 where
   pub number : IsNumber file
   pub later : 2 ≤ file
   pub held : Held ac2 0 s p
@@ -130,20 +130,20 @@ Next (Stop x) r p q P = (r ≡ Stop x) × (q ≡ p)
 Next (Go y) r p q P = P
 
 -- slice 6: what it gives is the address, which a step has no room for
-abbrev pub answerJudged : List ℕ → List ℕ → List ℕ → Answer (List ℕ)
-answerJudged g i p = judgeAnswer (isGiven g) (valuesOf gas 0 g p) i
+abbrev pub identificationJudged : List ℕ → List ℕ → List ℕ → Answer (List ℕ)
+identificationJudged g i p = judgeIdentification (isGiven g) (valuesOf gas 0 g p) i
 
-abbrev pub JudgesAnswer : Answer (List ℕ) → Step → Type 0
-JudgesAnswer a (Stop x) = a ≡ refusalOf x
-JudgesAnswer a (Go y) = (v : List ℕ) × (a ≡ acceptance v)
+abbrev pub JudgesIdentification : Answer (List ℕ) → Step → Type 0
+JudgesIdentification a (Stop x) = a ≡ refusalOf x
+JudgesIdentification a (Go y) = (v : List ℕ) × (a ≡ acceptance v)
 
 -- gas, where it is given, has its pairs within its text g
-abbrev pub AnswerReady : List ℕ → List ℕ → Type 0
-AnswerReady g p = 0 < length g → Held gas 0 g p
+abbrev pub IdentificationReady : List ℕ → List ℕ → Type 0
+IdentificationReady g p = 0 < length g → Held gas 0 g p
 
 -- a refusal of slice 6
-abbrev pub answerRefused : RefusalKind → Step
-answerRefused k = Stop (record { kind = k; file = 6; line = 0 })
+abbrev pub identificationRefused : RefusalKind → Step
+identificationRefused k = Stop (record { kind = k; file = 6; line = 0 })
 
 -- ---- the set
 

@@ -6,7 +6,7 @@ ghost use Rattle.tables.specs.File.{ac2 as bookingFile, files, leastPlaces};
 ghost use Rattle.due.specs.Values.{valuesOf, newValues, Held, NumberHeld};
 ghost use Rattle.sets.specs.Records.{slicesOf};
 ghost use Rattle.sets.specs.Judge.{judgeText, judgeBooking, judgeSlices, setRead, laterSlices, eachAccepted};
-ghost use Rattle.judge.specs.Steps.{fileNumbered, IsNumber, keptFrom, keptIn, acceptanceWith, IsBooking, Ready, ValuesReady, JudgesValues, JudgesFile, textJudged, fileJudged, JudgesBooking, Asked, Next, answerJudged, JudgesAnswer, AnswerReady, answerRefused, laterFiles, JudgesSlices};
+ghost use Rattle.judge.specs.Steps.{fileNumbered, IsNumber, keptFrom, keptIn, acceptanceWith, IsBooking, FileReady, ValuesReady, JudgesValues, JudgesFile, textJudged, fileJudged, JudgesBooking, Asked, Next, identificationJudged, JudgesIdentification, IdentificationReady, identificationRefused, laterFiles, JudgesSlices};
 ghost use Rattle.judge.specs.Judged.{SetJudged};
 use due::Booking;
 use files::TextAnswer;
@@ -14,7 +14,7 @@ use refusals::Refusal;
 use refusals::RefusalKind;
 use rules::RuleCheck;
 use rules::Stated;
-use serial::AnswerRead;
+use serial::IdentificationRead;
 use sets::Acceptance;
 use sets::SetAnswer;
 
@@ -155,7 +155,7 @@ fn judge_text(
     places: &mut [u32],
     lines: &mut [u32],
 ) -> Step
-    requires { ⌜ Ready file b (now booking) (now places) × (64 ≤ length (now lines)) ⌝ }
+    requires { ⌜ FileReady file b (now booking) (now places) × (64 ≤ length (now lines)) ⌝ }
     ensures { λ r. ⌜ JudgesFile (fileNumbered file) (textJudged file (now (booking .entry)) (now (text .entry)) (now (places .entry))) r (now (places .entry)) (now (places .exit)) ⌝ }
 {
     match files::read_text(file, text, places, lines) {
@@ -189,7 +189,7 @@ fn judge_file(
     text: &[u8],
     places: &mut [u32],
 ) -> Step
-    requires { ⌜ Ready file b (now booking) (now places) ⌝ }
+    requires { ⌜ FileReady file b (now booking) (now places) ⌝ }
     ensures { λ r. ⌜ JudgesFile (fileNumbered file) (fileJudged file stated (now (booking .entry)) (now (text .entry)) (now (places .entry))) r (now (places .entry)) (now (places .exit)) ⌝ }
 {
     let given = 0 < text.len();
@@ -220,7 +220,7 @@ fn judge_next(
     text: &[u8],
     places: &mut [u32],
 ) -> Step
-    requires { ⌜ Asked before (Ready file b (now booking) (now places)) ⌝ }
+    requires { ⌜ Asked before (FileReady file b (now booking) (now places)) ⌝ }
     ensures { λ r. ⌜ Next before r (now (places .entry)) (now (places .exit)) (JudgesFile (fileNumbered file) (fileJudged file stated (now (booking .entry)) (now (text .entry)) (now (places .entry))) r (now (places .entry)) (now (places .exit))) ⌝ }
 {
     match before {
@@ -229,8 +229,8 @@ fn judge_next(
     }
 }
 
-fn refuse_answer(kind: RefusalKind) -> Step
-    ensures { λ r. ⌜ r ≡ answerRefused kind ⌝ }
+fn refuse_identification(kind: RefusalKind) -> Step
+    ensures { λ r. ⌜ r ≡ identificationRefused kind ⌝ }
 {
     Step::Stop(Refusal {
         kind: kind,
@@ -240,26 +240,26 @@ fn refuse_answer(kind: RefusalKind) -> Step
 }
 
 // Slice 6: 11, 14, 15. Nothing is kept of it.
-fn judge_answer(gas: &[u8], identification: &[u8], places: &[u32]) -> Step
-    requires { ⌜ AnswerReady (now gas) (now places) ⌝ }
-    ensures { λ r. ⌜ JudgesAnswer (answerJudged (now (gas .entry)) (now (identification .entry)) (now (places .entry))) r ⌝ }
+fn judge_identification(gas: &[u8], identification: &[u8], places: &[u32]) -> Step
+    requires { ⌜ IdentificationReady (now gas) (now places) ⌝ }
+    ensures { λ r. ⌜ JudgesIdentification (identificationJudged (now (gas .entry)) (now (identification .entry)) (now (places .entry))) r ⌝ }
 {
     let given = 0 < identification.len();
     let passed = Step::Go(Kept {
         axles: 0,
         mark: false,
     });
-    if !rules::answer_right(gas, places, given) {
-        return refuse_answer(RefusalKind::SliceNotAsDue);
+    if !rules::identification_right(gas, places, given) {
+        return refuse_identification(RefusalKind::SliceNotAsDue);
     }
     if !given {
         return passed;
     }
-    match serial::read_answer(identification) {
-        AnswerRead::Malformed => refuse_answer(RefusalKind::AnswerForm),
-        AnswerRead::Fields(ends) => {
+    match serial::read_identification(identification) {
+        IdentificationRead::Malformed => refuse_identification(RefusalKind::IdentificationForm),
+        IdentificationRead::Fields(ends) => {
             if !rules::same_fields(identification, ends, gas, places) {
-                return refuse_answer(RefusalKind::AnswerDiffers);
+                return refuse_identification(RefusalKind::IdentificationDiffers);
             }
             passed
         }
@@ -267,13 +267,13 @@ fn judge_answer(gas: &[u8], identification: &[u8], places: &[u32]) -> Step
 }
 
 // Slice 6 after other slices.
-fn answer_next(before: Step, gas: &[u8], identification: &[u8], places: &[u32]) -> Step
-    requires { ⌜ Asked before (AnswerReady (now gas) (now places)) ⌝ }
-    ensures { λ r. ⌜ Next before r (now (places .entry)) (now (places .entry)) (JudgesAnswer (answerJudged (now (gas .entry)) (now (identification .entry)) (now (places .entry))) r) ⌝ }
+fn identification_next(before: Step, gas: &[u8], identification: &[u8], places: &[u32]) -> Step
+    requires { ⌜ Asked before (IdentificationReady (now gas) (now places)) ⌝ }
+    ensures { λ r. ⌜ Next before r (now (places .entry)) (now (places .entry)) (JudgesIdentification (identificationJudged (now (gas .entry)) (now (identification .entry)) (now (places .entry))) r) ⌝ }
 {
     match before {
         Step::Stop(x) => Step::Stop(x),
-        Step::Go(_k) => judge_answer(gas, identification, places),
+        Step::Go(_k) => judge_identification(gas, identification, places),
     }
 }
 
@@ -325,7 +325,7 @@ fn judge_later(
     let d = judge_next(o, 3, stated, b, ac2, drift, places);
     let u = judge_next(d, 4, stated, b, ac2, suspension, places);
     let g = judge_next(u, 5, stated, b, ac2, gas, places);
-    let last = answer_next(g, gas, identification, places);
+    let last = identification_next(g, gas, identification, places);
     match last {
         Step::Stop(x) => SetAnswer::Refused(x),
         Step::Go(_k) => SetAnswer::Accepted(acceptance_with(d, u, g)),

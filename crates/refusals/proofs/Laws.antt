@@ -3,7 +3,7 @@ use Prim.Native.Nat.{_≤_}
 use native.Mathlib.Omega.{arith}
 use Rattle.refusals.specs.Refusals.{numberOf}
 use Rattle.refusals.specs.declared.RefusalKind.{RefusalKind}
-use Rattle.refusals.specs.declared.RefusalKind.the-variants.{PlacesTooShort, StemForm, FileTooLong, LineForm, HeadingNotExpected, EntryNotExpected, SectionAbsent, EntryAbsent, WrongKind, NotAsDue, SliceNotAsDue, BookingRule, DifferenceRule, AnswerForm, AnswerDiffers, FileOrAxles, PairOutside, OutputTooShort}
+use Rattle.refusals.specs.declared.RefusalKind.the-variants.{PlacesTooShort, StemForm, FileTooLong, LineForm, HeadingNotExpected, EntryNotExpected, SectionAbsent, EntryAbsent, WrongKind, NotAsDue, SliceNotAsDue, BookingRule, DifferenceRule, IdentificationForm, IdentificationDiffers, FileOrAxles, PairOutside, OutputTooShort}
 
 pub not-zero : (k : RefusalKind) → 1 ≤ numberOf k
 not-zero PlacesTooShort = omega arith
@@ -19,8 +19,8 @@ not-zero NotAsDue = omega arith
 not-zero SliceNotAsDue = omega arith
 not-zero BookingRule = omega arith
 not-zero DifferenceRule = omega arith
-not-zero AnswerForm = omega arith
-not-zero AnswerDiffers = omega arith
+not-zero IdentificationForm = omega arith
+not-zero IdentificationDiffers = omega arith
 not-zero FileOrAxles = omega arith
 not-zero PairOutside = omega arith
 not-zero OutputTooShort = omega arith

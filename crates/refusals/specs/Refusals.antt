@@ -2,7 +2,7 @@
 use Prim.Native.Nat.{ℕ}
 use Rattle.refusals.specs.declared.Refusal.{Refusal}
 use Rattle.refusals.specs.declared.RefusalKind.{RefusalKind}
-use Rattle.refusals.specs.declared.RefusalKind.the-variants.{PlacesTooShort, StemForm, FileTooLong, LineForm, HeadingNotExpected, EntryNotExpected, SectionAbsent, EntryAbsent, WrongKind, NotAsDue, SliceNotAsDue, BookingRule, DifferenceRule, AnswerForm, AnswerDiffers, FileOrAxles, PairOutside, OutputTooShort}
+use Rattle.refusals.specs.declared.RefusalKind.the-variants.{PlacesTooShort, StemForm, FileTooLong, LineForm, HeadingNotExpected, EntryNotExpected, SectionAbsent, EntryAbsent, WrongKind, NotAsDue, SliceNotAsDue, BookingRule, DifferenceRule, IdentificationForm, IdentificationDiffers, FileOrAxles, PairOutside, OutputTooShort}
 
 -- document 01's number for each case
 abbrev pub numberOf : RefusalKind → ℕ
@@ -33,9 +33,9 @@ numberOf BookingRule = 12
 -- Differenza%
 numberOf DifferenceRule = 13
 -- answer's form
-numberOf AnswerForm = 14
+numberOf IdentificationForm = 14
 -- answer differs from gas
-numberOf AnswerDiffers = 15
+numberOf IdentificationDiffers = 15
 -- file not 1 to 5; axles not 1 to 9, or not 0
 numberOf FileOrAxles = 16
 -- start plus length of a pair is above the text's length

@@ -24,7 +24,7 @@ use Rattle.due.specs.declared.Fuel.the-variants.{Petrol, Diesel, OtherFuel}
 use Rattle.rules.specs.Rule.{Rule, broken, allHold, firstBroken}
 use Rattle.rules.specs.Bookings.{parkingBrakeFits, descriptionsOf, descriptions, yearFits, directiveOf, periodAt, periodOf, petrolWord, petrolFits, dieselFits, fuelFits, oldBrakeFits, numberIs, countOf, parkingAxlesFit, oldRules}
 use Rattle.rules.specs.Differences.{difference, differenceFits}
-use Rattle.rules.specs.Answer.{sameFields}
+use Rattle.rules.specs.Identification.{sameFields}
 use Rattle.rules.specs.declared.BrokenRule.{BrokenRule}
 use Rattle.rules.specs.declared.RuleCheck.{RuleCheck}
 use Rattle.rules.specs.declared.RuleCheck.the-variants.{Kept, Broken}

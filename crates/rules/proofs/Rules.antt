@@ -24,7 +24,8 @@ use Rattle.rules.specs.Rule.{broken, firstBroken}
 use Rattle.rules.specs.Bookings.{typeOf, typeIs, parkingBrakeFits, newRules, descriptionsOf, descriptions, yearFits, fuelFitsBy, fuelFits, petrolFits, petrolWord, directiveOf, periodOf, dieselFits, oldBrakeFits, parkingAxlesFit, oldRules}
 use Rattle.rules.specs.Differences.{differenceFits, differencesFrom}
 use Rattle.rules.specs.Rules.{rulesOf}
-use Rattle.rules.specs.Answer.{sevenOf, isMarked}
+use Rattle.rules.specs.Identification.{sevenOf}
+use Rattle.rules.specs.Marks.{isMarked}
 use Rattle.rules.specs.declared.RuleCheck.the-variants.{Kept}
 use Rattle.refusals.specs.declared.RefusalKind.the-variants.{BookingRule, DifferenceRule}
 use Rattle.places.proofs.Values.{within-at, value-length}

@@ -13,7 +13,7 @@ use Rattle.kinds.specs.Value.{isLeap, daysIn, isGregorian, areDigits, isYear, i
 use Rattle.kinds.specs.Meaning.{driftRead, dayNumber}
 use Rattle.kinds.specs.declared.DriftRead.the-variants as DriftRead
 use Rattle.kinds.proofs.Samples.{drift-minus, drift-most, drift-three, first-day-unknown, first-month-unknown, leap-2000, leap-1900, hour-24, revs-by-hand}
-use Rattle.serial.specs.Answer.{sum, checksum}
+use Rattle.serial.specs.Identification.{sum, checksum}
 use Rattle.serial.proofs.Samples.{sample, sample-checksum}
 use Rattle.refusals.specs.declared.RefusalKind.the-variants.{BookingRule, DifferenceRule}
 use Rattle.tables.specs.Section.{entriesOf}

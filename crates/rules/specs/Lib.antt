@@ -3,4 +3,5 @@ pub mod Bookings
 pub mod Differences
 pub mod Rules
 pub mod Slices
-pub mod Answer
+pub mod Identification
+pub mod Marks

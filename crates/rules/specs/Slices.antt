@@ -47,5 +47,5 @@ isRead suspension b given = given
 isRead gas b given = given
 
 -- "slice 6 exactly when gas has RS SENZA ESITO": when gas is given and has it
-unfoldable pub answerRight : Bool → List (List ℕ) → Bool → Bool
-answerRight gasGiven g given = exactly (gasGiven && isSerial gas g) given
+unfoldable pub identificationRight : Bool → List (List ℕ) → Bool → Bool
+identificationRight gasGiven g given = exactly (gasGiven && isSerial gas g) given

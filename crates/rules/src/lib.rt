@@ -1,8 +1,9 @@
 // Rules over values (01, Bookings, Results and Judging): bookings (12), Differenza% (13), which slices are due (11),
 // the stem (2), and what the identification answer must equal (15).
-mod answer; // answer.rt: the identification answer against gas, and marks
 mod bookings; // bookings.rt: the rules of bookings
 mod differences; // differences.rt: Differenza%
+mod identification; // identification.rt: the identification answer against gas
+mod marks; // marks.rt: what acceptance says of a result file
 mod slices; // slices.rt: the stem, and which slices are due and read
 
 ghost use mathlib.Core.Path.{_≡_};
@@ -12,10 +13,10 @@ ghost use Rattle.due.specs.Values.{newValues, Held, NumberHeld};
 ghost use Rattle.due.specs.Booking.{bookingIn};
 ghost use Rattle.rules.specs.Rules.{firstBrokenAt};
 ghost use Rattle.rules.specs.declared.RuleCheck.{RuleCheck};
-pub use answer::is_marked;
-pub use answer::same_fields;
-pub use slices::answer_right;
+pub use identification::same_fields;
+pub use marks::is_marked;
 pub use slices::good_stem;
+pub use slices::identification_right;
 pub use slices::is_read;
 pub use slices::slice_right;
 pub use slices::stated_of;

@@ -6,7 +6,7 @@ ghost use lib.Dec.{ltb};
 ghost use lib.ListN.{length};
 ghost use Rattle.tables.specs.File.{gas, ofNumber};
 ghost use Rattle.due.specs.Values.{valuesOf, Held};
-ghost use Rattle.rules.specs.Slices.{isCapital, goodStem, statedOf, exactly, oldBookingRight, sliceRight, isRead, answerRight};
+ghost use Rattle.rules.specs.Slices.{isCapital, goodStem, statedOf, exactly, oldBookingRight, sliceRight, isRead, identificationRight};
 use crate::Stated;
 use tables::pairs;
 
@@ -95,9 +95,9 @@ pub fn is_read(file: u32, booking: due::Booking, given: bool) -> bool
 }
 
 // 11 of slice 6, from gas's text. Of gas that is not given no value is looked at.
-pub fn answer_right(text: &[u8], places: &[u32], given: bool) -> bool
+pub fn identification_right(text: &[u8], places: &[u32], given: bool) -> bool
     requires { ⌜ (0 < length (now text) → Held gas 0 (now text) (now places)) ⌝ }
-    ensures { λ r. ⌜ r ≡ answerRight (ltb 0 (length (now (text .entry)))) (valuesOf gas 0 (now (text .entry)) (now (places .entry))) given ⌝ }
+    ensures { λ r. ⌜ r ≡ identificationRight (ltb 0 (length (now (text .entry)))) (valuesOf gas 0 (now (text .entry)) (now (places .entry))) given ⌝ }
 {
     if text.len() == 0 {
         return !given;

@@ -22,8 +22,8 @@ use files::TextAnswer;
 use refusals::RefusalKind;
 use rules::RuleCheck;
 use rules::Stated;
-use serial::AnswerRead;
 use serial::FieldEnds;
+use serial::IdentificationRead;
 
 // ---- reading a file
 
@@ -420,11 +420,11 @@ fn show_equal(answer: &[u8], e: FieldEnds, gas: &[u8], places: &[u32])
 fn show_read(answer: &[u8], gas: &[u8], places: &[u32])
     requires { ⌜ Held gasFile 0 (now gas) (now places) ⌝ }
 {
-    match serial::read_answer(answer) {
-        AnswerRead::Malformed => {
+    match serial::read_identification(answer) {
+        IdentificationRead::Malformed => {
             io::write_all(1, b"refused 14\n");
         }
-        AnswerRead::Fields(e) => {
+        IdentificationRead::Fields(e) => {
             show_fields(answer, e);
             show_equal(answer, e, gas, places);
         }
@@ -435,7 +435,7 @@ fn show_judged(answer: &[u8], gas: &[u8], places: &[u32])
     requires { ⌜ Held gasFile 0 (now gas) (now places) ⌝ }
 {
     let given = 0 < answer.len();
-    if !rules::answer_right(gas, places, given) {
+    if !rules::identification_right(gas, places, given) {
         io::write_all(1, b"refused 11\n");
     }
     if given {

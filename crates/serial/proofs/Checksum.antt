@@ -7,7 +7,7 @@ use mathlib.Core.List.{List}
 use lib.Dec.{ltb}
 use lib.ListN.{getD}
 use borrow.Author.Tests.{ltb-true, ltb-false}
-use Rattle.serial.specs.Answer.{sum, hexDigit, checksum}
+use Rattle.serial.specs.Identification.{sum, hexDigit, checksum}
 
 pub hex-injective : (m n : ℕ) → m < 16 → n < 16 → hexDigit m ≡ hexDigit n → m ≡ n
 unfolding hexDigit

@@ -11,11 +11,11 @@ use borrow.Author.Tests.{eqb-true, eq-eqb}
 use Rattle.lines.specs.Bytes.{part, sameBytes, without}
 use Rattle.lines.specs.Text.{bytes}
 use Rattle.lines.proofs.Bytes.{same-is, same-refl}
-use Rattle.serial.specs.Answer.{separated, tenFields, checksum, answerOf, addressOk, fieldOk, allFieldsOk, sevenOk}
-use Rattle.serial.specs.Reading.{framed, checksumOk, endOf, endsOf, Ordered, addressIn, sevenIn, headOk, readFields, front, summed, readAnswer}
+use Rattle.serial.specs.Identification.{separated, tenFields, checksum, identificationOf, addressOk, fieldOk, allFieldsOk, sevenOk}
+use Rattle.serial.specs.Reading.{framed, checksumOk, endOf, endsOf, Ordered, addressIn, sevenIn, headOk, readFields, front, summed, readIdentification}
 use Rattle.serial.specs.declared.FieldEnds.{FieldEnds}
-use Rattle.serial.specs.declared.AnswerRead.{AnswerRead}
-use Rattle.serial.specs.declared.AnswerRead.the-variants.{Malformed, Fields}
+use Rattle.serial.specs.declared.IdentificationRead.{IdentificationRead}
+use Rattle.serial.specs.declared.IdentificationRead.the-variants.{Malformed, Fields}
 use Rattle.serial.proofs.Tests.{both}
 use Rattle.serial.proofs.Places.{framed-size, ends-ordered}
 use Rattle.serial.proofs.Fields.{drop-take, address-of, seven-of, ten-joined, fieldAfter, field-stands, last-stands, field, address}
@@ -23,18 +23,18 @@ use Rattle.serial.proofs.Frame.{frame-sound, whole, whole-length, whole
 
 -- ---- what is read was written
 
-abbrev accepted : AnswerRead → Bool
+abbrev accepted : IdentificationRead → Bool
 accepted Malformed = false
 accepted (Fields e) = true
 
 -- a test that leads on to fields held
-held : (b : Bool) (r : AnswerRead) (e : FieldEnds) → cond b r Malformed ≡ Fields e → (b ≡ true) × (r ≡ Fields e)
+held : (b : Bool) (r : IdentificationRead) (e : FieldEnds) → cond b r Malformed ≡ Fields e → (b ≡ true) × (r ≡ Fields e)
 held true r e q = (refl, q)
 held false r e q = absurd (true≢false (sym (ap accepted q)))
 
 -- an answer with its parts: it is what they make, they are good, their places are in order and within it
 pub record Written (t : List ℕ) (e : FieldEnds) : Type 0 where
-  pub answer : t ≡ answerOf (addressIn t e) (sevenIn t e)
+  pub answer : t ≡ identificationOf (addressIn t e) (sevenIn t e)
   pub address : addressOk (addressIn t e) ≡ true
   pub seven : sevenOk (sevenIn t e) ≡ true
   pub ordered : Ordered (length t) e
@@ -66,7 +66,7 @@ front-sound s e q =
     subst (λ (x : FieldEnds). Front s x) p (front-ends s (eqb-true _ _ (a .0)) (b .0) (c .0))
 
 written : (t : List ℕ) (e : FieldEnds) → (length t ≤ 512) × (4 ≤ length t) → t ≡ 2 ∷ summed t ++ (checksum (summed t) ++ 3 ∷ []) → Front (front t) e → Written t e
-unfolding answerOf sevenOk
+unfolding identificationOf sevenOk
 written t e h w f =
     let m = length t - 3 in
     let l : length (front t) ≡ m = length-take-le m t (omega arith) in
@@ -75,7 +75,7 @@ written t e h w f =
     let s = seven-of m t e o in
     let d : drop 1 (front t) ≡ tenFields (addressIn t e) (sevenIn t e) = rw (a, s) at (f .ten) in
     let b : summed t ≡ tenFields (addressIn t e) (sevenIn t e) = sym (drop-take 1 m t) ∙ d in
-    let q : 2 ∷ summed t ++ (checksum (summed t) ++ 3 ∷ []) ≡ answerOf (addressIn t e) (sevenIn t e) = ap (λ (l : List ℕ). 2 ∷ l ++ (checksum l ++ 3 ∷ [])) b in
+    let q : 2 ∷ summed t ++ (checksum (summed t) ++ 3 ∷ []) ≡ identificationOf (addressIn t e) (sevenIn t e) = ap (λ (l : List ℕ). 2 ∷ l ++ (checksum l ++ 3 ∷ [])) b in
     record {
       answer = w ∙ q;
       address = rw a at (f .address);
@@ -84,8 +84,8 @@ written t e h w f =
       short = h .0;
     }
 
-pub read-sound : (t : List ℕ) (e : FieldEnds) → readAnswer t ≡ Fields e → Written t e
-unfolding readAnswer
+pub read-sound : (t : List ℕ) (e : FieldEnds) → readIdentification t ≡ Fields e → Written t e
+unfolding readIdentification
 read-sound t e q =
     let a = held (framed t) _ e q in
     let b = held (checksumOk (summed t) (getD t (length t - 3) 0) (getD t (length t - 2) 0)) (readFields (front t)) e (a .1) in
@@ -99,7 +99,7 @@ endsIn t = endsOf (front t)
 
 -- the answer is read, and these are its parts
 pub record Found (t v : List ℕ) (fs : List (List ℕ)) : Type 0 where
-  pub read : readAnswer t ≡ Fields (endsIn t)
+  pub read : readIdentification t ≡ Fields (endsIn t)
   pub address : addressIn t (endsIn t) ≡ v
   pub seven : sevenIn t (endsIn t) ≡ fs
 
@@ -181,8 +181,8 @@ module _ (v a b c d e f g : List ℕ) (ok : addressOk v ≡ true)
   unfolding readFields
   fields-read = rw (eq-eqb (endsOf head .vermctcnet) (length head) (cut-again .end), cut-again .first, seven-good) refl
 
-  found : Found (answerOf v given) v given
-  unfolding answerOf readAnswer
+  found : Found (identificationOf v given) v given
+  unfolding identificationOf readIdentification
   found =
       let p = cut-again in
       let l = ten-length in
@@ -198,9 +198,9 @@ module _ (v a b c d e f g : List ℕ) (ok : addressOk v ≡ true)
         seven = ap (λ (s : List ℕ). sevenIn (whole ten h) (endsOf s)) w ∙ sym (seven-of m (whole ten h) (endsOf head) o) ∙ ap (λ (s : List ℕ). sevenIn s (endsOf head)) w ∙ p .seven;
       }
 
-  answer-length : length (answerOf v given) ≤ 469
-  unfolding answerOf
-  answer-length =
+  identification-length : length (identificationOf v given) ≤ 469
+  unfolding identificationOf
+  identification-length =
       let l = ten-length in
       let n = whole-length ten (omega arith) in
       omega arith
@@ -233,19 +233,19 @@ module _ (P : List (List ℕ) → Type 0)
       h a b c d e f g (ra .0) (rb .0) (rc .0) (rd .0) (re .0) (rf .0) (rg .0)
   of-seven (a ∷ b ∷ c ∷ d ∷ e ∷ f ∷ g ∷ i ∷ fs) s = other (a ∷ b ∷ c ∷ d ∷ e ∷ f ∷ g ∷ i ∷ fs) (λ q. omega arith) s
 
-pub read-complete : (v : List ℕ) (seven : List (List ℕ)) → addressOk v ≡ true → sevenOk seven ≡ true → Found (answerOf v seven) v seven
-read-complete v seven ok s = of-seven (λ fs. Found (answerOf v fs) v fs) (λ a b c d e f g oka okb okc okd oke okf okg. found v a b c d e f g ok oka okb okc okd oke okf okg) seven s
+pub read-complete : (v : List ℕ) (seven : List (List ℕ)) → addressOk v ≡ true → sevenOk seven ≡ true → Found (identificationOf v seven) v seven
+read-complete v seven ok s = of-seven (λ fs. Found (identificationOf v fs) v fs) (λ a b c d e f g oka okb okc okd oke okf okg. found v a b c d e f g ok oka okb okc okd oke okf okg) seven s
 
 -- the limit of 512 bytes turns no such answer away
-pub answer-short : (v : List ℕ) (seven : List (List ℕ)) → addressOk v ≡ true → sevenOk seven ≡ true → length (answerOf v seven) ≤ 512
-answer-short v seven ok s =
-    let l = of-seven (λ fs. length (answerOf v fs) ≤ 469) (λ a b c d e f g oka okb okc okd oke okf okg. answer-length v a b c d e f g ok oka okb okc okd oke okf okg) seven s in
+pub identification-short : (v : List ℕ) (seven : List (List ℕ)) → addressOk v ≡ true → sevenOk seven ≡ true → length (identificationOf v seven) ≤ 512
+identification-short v seven ok s =
+    let l = of-seven (λ fs. length (identificationOf v fs) ≤ 469) (λ a b c d e f g oka okb okc okd oke okf okg. identification-length v a b c d e f g ok oka okb okc okd oke okf okg) seven s in
     omega arith
 
 -- address and fields are unique
-pub answer-unique : (v w : List ℕ) (seven others : List (List ℕ)) → addressOk v ≡ true → sevenOk seven ≡ true → addressOk w ≡ true → sevenOk others ≡ true
-    → answerOf v seven ≡ answerOf w others → (v ≡ w) × (seven ≡ others)
-answer-unique v w seven others okv oks okw oko q =
+pub identification-unique : (v w : List ℕ) (seven others : List (List ℕ)) → addressOk v ≡ true → sevenOk seven ≡ true → addressOk w ≡ true → sevenOk others ≡ true
+    → identificationOf v seven ≡ identificationOf w others → (v ≡ w) × (seven ≡ others)
+identification-unique v w seven others okv oks okw oko q =
     let x = read-complete v seven okv oks in
     let y = read-complete w others okw oko in (
       sym (x .address) ∙ ap (λ (t : List ℕ). addressIn t (endsIn t)) q ∙ y .address,

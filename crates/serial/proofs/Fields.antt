@@ -11,7 +11,7 @@ use lib.Seq.{drop-drop, take-all, take-at, drop-at, take-nil, take-take}
 use borrow.Author.Tests.{leb-true, eqb-true, ne-eqb, not-true}
 use Rattle.lines.specs.Bytes.{part, isPrintable, allPrintable, without, before}
 use Rattle.kinds.specs.Digits.{isDigit, allDigits}
-use Rattle.serial.specs.Answer.{separated, addressOk, fieldOk}
+use Rattle.serial.specs.Identification.{separated, addressOk, fieldOk}
 use Rattle.serial.specs.Reading.{fieldEnd, endOf, Ordered, addressIn, sevenIn}
 use Rattle.serial.specs.declared.FieldEnds.{FieldEnds}
 use Rattle.serial.proofs.Tests.{both}

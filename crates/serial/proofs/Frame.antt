@@ -8,7 +8,7 @@ use lib.Dec.{leb, eqb}
 use lib.ListN.{length, getD, drop, length-append, take-append-drop, drop-of-length-le}
 use lib.Seq.{drop-cons, drop-drop, take-at, getD-append-add}
 use borrow.Author.Tests.{leb-true, le-leb, eqb-true, eq-eqb}
-use Rattle.serial.specs.Answer.{sum, hexDigit, checksum}
+use Rattle.serial.specs.Identification.{sum, hexDigit, checksum}
 use Rattle.serial.specs.Reading.{framed, checksumOk, front, summed}
 use Rattle.serial.proofs.Tests.{both}
 

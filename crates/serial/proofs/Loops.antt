@@ -9,7 +9,7 @@ use lib.ListN.{length, getD, drop, drop-of-length-le}
 use lib.Seq.{drop-cons}
 use borrow.Author.Tests.{eq-eqb, ne-eqb}
 use Rattle.lines.specs.Bytes.{before}
-use Rattle.serial.specs.Answer.{sum}
+use Rattle.serial.specs.Identification.{sum}
 
 module _ (s : List ℕ) (i : ℕ) (h : i < length s) where
   pub before-more : (x : ℕ) → (getD s i 0 ≡ x → ⊥) → i + before x (drop i s) ≡ i + 1 + before x (drop (i + 1) s)

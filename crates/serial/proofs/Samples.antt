@@ -3,7 +3,7 @@ use mathlib.Core.Path.{_≡_, refl}
 use mathlib.Core.List.{List, [], _∷_}
 use Prim.Native.Nat.{ℕ}
 use Rattle.lines.specs.Text.{bytes}
-use Rattle.serial.specs.Answer.{separated, sum, hexDigit, checksum}
+use Rattle.serial.specs.Identification.{separated, sum, hexDigit, checksum}
 
 abbrev pub sample : List ℕ
 sample = separated (bytes "GAS") (bytes "1" ∷ bytes "VA" ∷ [])

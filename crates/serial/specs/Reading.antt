@@ -6,10 +6,10 @@ use lib.Dec.{leb, eqb}
 use lib.ListN.{length, getD, take, drop}
 use Rattle.lines.specs.Bytes.{part, sameBytes, before}
 use Rattle.lines.specs.Text.{bytes}
-use Rattle.serial.specs.Answer.{sum, hexDigit, addressOk, allFieldsOk}
+use Rattle.serial.specs.Identification.{sum, hexDigit, addressOk, allFieldsOk}
 use Rattle.serial.specs.declared.FieldEnds.{FieldEnds}
-use Rattle.serial.specs.declared.AnswerRead.{AnswerRead}
-use Rattle.serial.specs.declared.AnswerRead.the-variants.{Malformed, Fields}
+use Rattle.serial.specs.declared.IdentificationRead.{IdentificationRead}
+use Rattle.serial.specs.declared.IdentificationRead.the-variants.{Malformed, Fields}
 
 -- "at most 512 bytes", 02 hex first, 03 hex last; two checksum bytes fit between
 unfoldable pub framed : List ℕ → Bool
@@ -66,7 +66,7 @@ headOk s e =
 
 -- The ten fields of what stands before the checksum. They are exactly ten where the tenth ends with the list:
 -- of fewer the tenth end would be past it, of more before it.
-unfoldable pub readFields : List ℕ → AnswerRead
+unfoldable pub readFields : List ℕ → IdentificationRead
 readFields s =
     cond (eqb (endsOf s .vermctcnet) (length s)) (cond (headOk s (endsOf s)) (cond (allFieldsOk (sevenIn s (endsOf s))) (Fields (endsOf s)) Malformed) Malformed) Malformed
 
@@ -79,6 +79,6 @@ abbrev pub summed : List ℕ → List ℕ
 summed t = part t 1 (length t - 3)
 
 -- the frame, then the checksum, then the fields; places are those of the answer itself
-unfoldable pub readAnswer : List ℕ → AnswerRead
-readAnswer t =
+unfoldable pub readIdentification : List ℕ → IdentificationRead
+readIdentification t =
     cond (framed t) (cond (checksumOk (summed t) (getD t (length t - 3) 0) (getD t (length t - 2) 0)) (readFields (front t)) Malformed) Malformed

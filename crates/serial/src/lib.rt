@@ -4,8 +4,8 @@ ghost use mathlib.Core.Path.{_≡_};
 ghost use Prim.Native.Nat.{_+_, _<_, _≤_, _%_};
 ghost use lib.ListN.{length};
 ghost use Rattle.lines.specs.Bytes.{part};
-ghost use Rattle.serial.specs.Answer.{sum, hexDigit, addressOk, fieldOk, allFieldsOk};
-ghost use Rattle.serial.specs.Reading.{framed, checksumOk, fieldEnd, endsOf, Ordered, sevenIn, headOk, readFields, readAnswer};
+ghost use Rattle.serial.specs.Identification.{sum, hexDigit, addressOk, fieldOk, allFieldsOk};
+ghost use Rattle.serial.specs.Reading.{framed, checksumOk, fieldEnd, endsOf, Ordered, sevenIn, headOk, readFields, readIdentification};
 
 // Where each field ends, as a place in the answer: that of the 17 hex behind it, for the last that of the checksum.
 // A field starts one place after the end of the field before it, so Mar is `&answer[id + 1..mar]`.
@@ -23,7 +23,7 @@ pub struct FieldEnds {
     pub vermctcnet: usize,
 }
 
-pub enum AnswerRead {
+pub enum IdentificationRead {
     Malformed,
     Fields(FieldEnds),
 }
@@ -186,22 +186,22 @@ fn seven_ok(front: &[u8], e: FieldEnds) -> bool
 }
 
 // The ten fields of what stands before the checksum.
-fn read_fields(front: &[u8]) -> AnswerRead
+fn read_fields(front: &[u8]) -> IdentificationRead
     requires { ⌜ length (now front) ≤ 512 ⌝ }
     ensures { λ r. ⌜ r ≡ readFields (now (front .entry)) ⌝ }
 {
     let e = ends_of(front);
     let last = e.vermctcnet;
     if last != front.len() {
-        return AnswerRead::Malformed;
+        return IdentificationRead::Malformed;
     }
     if !head_ok(front, e) {
-        return AnswerRead::Malformed;
+        return IdentificationRead::Malformed;
     }
     if !seven_ok(front, e) {
-        return AnswerRead::Malformed;
+        return IdentificationRead::Malformed;
     }
-    AnswerRead::Fields(e)
+    IdentificationRead::Fields(e)
 }
 
 // At most 512 bytes, 02 hex first, 03 hex last.
@@ -222,16 +222,16 @@ fn is_framed(answer: &[u8]) -> bool
 }
 
 // The answer's fields, or that it is not of the form.
-pub fn read_answer(answer: &[u8]) -> AnswerRead
-    ensures { λ r. ⌜ r ≡ readAnswer (now (answer .entry)) ⌝ }
+pub fn read_identification(answer: &[u8]) -> IdentificationRead
+    ensures { λ r. ⌜ r ≡ readIdentification (now (answer .entry)) ⌝ }
 {
     if !is_framed(answer) {
-        return AnswerRead::Malformed;
+        return IdentificationRead::Malformed;
     }
     let n = answer.len();
     let end = n - 3;
     if !checksum_ok(&answer[1..end], answer[end], answer[n - 2]) {
-        return AnswerRead::Malformed;
+        return IdentificationRead::Malformed;
     }
     read_fields(&answer[..end])
 }

@@ -34,13 +34,13 @@ use Rattle.rules.specs.Rule.{firstBroken}
 use Rattle.rules.specs.Rules.{rulesOf}
 use Rattle.rules.specs.Bookings.{typeOf, parkingBrakeFits, newRules, descriptionsOf, yearFits, directiveOf, periodAt, periodOf, dieselFits, fuelFits, oldBrakeFits, numberIs, countOf, parkingAxlesFit, oldRules}
 use Rattle.rules.specs.Differences.{differenceFits, differencesFrom}
-use Rattle.rules.specs.Slices.{statedOf, oldBookingRight, sliceRight, isRead, answerRight}
-use Rattle.rules.specs.Answer.{sevenOf}
-use Rattle.serial.specs.Answer.{separated, sum, hexDigit, checksum, answerOf, addressOk, fieldOk, allFieldsOk, sevenOk}
+use Rattle.rules.specs.Slices.{statedOf, oldBookingRight, sliceRight, isRead, identificationRight}
+use Rattle.rules.specs.Identification.{sevenOf}
+use Rattle.serial.specs.Identification.{separated, sum, hexDigit, checksum, identificationOf, addressOk, fieldOk, allFieldsOk, sevenOk}
 use Rattle.sets.specs.Records.{Slices, eachFile, slicesOf, isGiven, Record, Lawful, Fits}
-use Rattle.sets.specs.Judge.{passed, fileChecks, firstFailed, FileRead, notRead, judgeFile, judgeAnswer, SetRead}
+use Rattle.sets.specs.Judge.{passed, fileChecks, firstFailed, FileRead, notRead, judgeFile, judgeIdentification, SetRead}
 use Rattle.sets.proofs.File.{file-sound, file-accepted}
-use Rattle.sets.proofs.Answer.{answer-sound, answer-complete}
+use Rattle.sets.proofs.Identification.{identification-sound, identification-complete}
 use Rattle.sets.proofs.Set.{recordOf, same-record, of-each, SetPassed, passed-lawful, passed-fits}
 
 abbrev h : String → Line
@@ -100,10 +100,10 @@ computed-accepted f st a ls c vs k =
 
 -- a set whose slices are accepted has this record, a being AC2's values
 record-fits : (st : Stated) (s : Slices) (x : SetRead) → ((f : File) → judgeFile f st (x .file ac2 .values) (s .file f) ≡ acceptance (x .file f))
-    → judgeAnswer (isGiven (s .file gas)) (x .file gas .values) (s .answer) ≡ acceptance (x .address) → Lawful st (recordOf s x) × Fits (recordOf s x) s
+    → judgeIdentification (isGiven (s .file gas)) (x .file gas .values) (s .identification) ≡ acceptance (x .address) → Lawful st (recordOf s x) × Fits (recordOf s x) s
 record-fits st s x e q =
-    let v = answer-sound (isGiven (s .file gas)) (x .file gas .values) (s .answer) (x .address) q in
-    let w : SetPassed st s x = record { file = λ f. file-sound f st (x .file ac2 .values) (s .file f) (x .file f) (e f); answer = v .0; address = v .1; identification = v .2 } in
+    let v = identification-sound (isGiven (s .file gas)) (x .file gas .values) (s .identification) (x .address) q in
+    let w : SetPassed st s x = record { file = λ f. file-sound f st (x .file ac2 .values) (s .file f) (x .file f) (e f); sixth = v .0; address = v .1; identification = v .2 } in
     (passed-lawful st s x w, passed-fits st s x w)
 
 -- ---- an L vehicle: ACC is given and, with a stem whose first digit is 9, not read
@@ -138,7 +138,7 @@ motorcycleSet = slicesOf (textOf motorcycle) (bytes "no line") [] [] [] []
 abbrev pub motorcycleRecord : Record
 motorcycleRecord = record {
   given = eachFile true true false false false;
-  answerGiven = false;
+  identificationGiven = false;
   axles = λ f. 0;
   values = eachFile motorcycleValues [] [] [] [];
   address = [];
@@ -312,11 +312,11 @@ carGasValues =
 abbrev pub carStem : List ℕ
 carStem = bytes "AB123456"
 
-abbrev pub carAnswer : List ℕ
-carAnswer = 2 ∷ bytes "GAS" ++ (23 ∷ bytes "12" ++ (23 ∷ bytes "ID" ++ (23 ∷ bytes "BETA" ++ (23 ∷ bytes "A2" ++ (23 ∷ bytes "OM77" ++ (23 ∷ bytes "77" ++ (23 ∷ bytes "30062025" ++ (23 ∷ bytes "2.1" ++ (23 ∷ bytes "210" ++ (bytes "57" ++ (3 ∷ [])))))))))))
+abbrev pub carIdentification : List ℕ
+carIdentification = 2 ∷ bytes "GAS" ++ (23 ∷ bytes "12" ++ (23 ∷ bytes "ID" ++ (23 ∷ bytes "BETA" ++ (23 ∷ bytes "A2" ++ (23 ∷ bytes "OM77" ++ (23 ∷ bytes "77" ++ (23 ∷ bytes "30062025" ++ (23 ∷ bytes "2.1" ++ (23 ∷ bytes "210" ++ (bytes "57" ++ (3 ∷ [])))))))))))
 
 abbrev pub carSet : Slices
-carSet = slicesOf (textOf carNew) (textOf carOld) (textOf carDrift) (textOf carSuspension) (textOf carGas) carAnswer
+carSet = slicesOf (textOf carNew) (textOf carOld) (textOf carDrift) (textOf carSuspension) (textOf carGas) carIdentification
 
 abbrev pub carValues : File → List (List ℕ)
 carValues = eachFile carNewValues carOldValues carDriftValues carSuspensionValues carGasValues
@@ -324,7 +324,7 @@ carValues = eachFile carNewValues carOldValues carDriftValues carSuspensionValue
 abbrev pub carRecord : Record
 carRecord = record {
   given = λ f. true;
-  answerGiven = true;
+  identificationGiven = true;
   axles = eachFile 0 0 2 1 0;
   values = carValues;
   address = bytes "12";
@@ -344,17 +344,17 @@ computed :
     × (judgeFile drift motorcycleStated motorcycleValues [] ≡ acceptance notRead)
     × (judgeFile suspension motorcycleStated motorcycleValues [] ≡ acceptance notRead)
     × (judgeFile gas motorcycleStated motorcycleValues [] ≡ acceptance notRead)
-    × (judgeAnswer false [] [] ≡ acceptance [])
+    × (judgeIdentification false [] [] ≡ acceptance [])
     × Computed ac2 carStated carNewValues carNew 1 carNewValues
     × Computed acc carStated carNewValues carOld 1 carOldValues
     × Computed drift carStated carNewValues carDrift 3 carDriftValues
     × Computed suspension carStated carNewValues carSuspension 2 carSuspensionValues
     × Computed gas carStated carNewValues carGas 2 carGasValues
-    × (answerRight true carGasValues true ≡ true)
+    × (identificationRight true carGasValues true ≡ true)
     × (addressOk (bytes "12") ≡ true)
-    × (carAnswer ≡ answerOf (bytes "12") (sevenOf carGasValues))
+    × (carIdentification ≡ identificationOf (bytes "12") (sevenOf carGasValues))
     × (sevenOk (sevenOf carGasValues) ≡ true)
-unfolding sameBytes allPrintable without textOf wellFormed allWellFormed layoutOf words allDigits numberFrom dayNumber isString isExact isNumber isFixed isLeap daysIn isYear isGregorian areDigits isDay isTime wordIndex isWord startsWith isDrift isRevs isFirstDate isFirstDay allSorN isPositions kindOk kindKept entriesOf newBooking oldBooking tester protocol measurement sixteen driftAxle suspensionAxle analyser counter speedTest allKeyDates allKeyBodies analysis fuelAnalysis fixedSections axleEntries axlesFrom axleSections sections leastSections entries rowCount rowAt placeOf axlePlaceOf scan firstWrong firstAbsent ownerRow isM isN isO isL fuelIn isLate bookingIn versionIn linksIn conditionsOf exceptions conditionOf conditionAt isMoped isMotorcycle isMorN conditionP holdsIn dueOf firstNotAsDueFrom firstNotAsDue firstBroken rulesOf typeOf parkingBrakeFits newRules descriptionsOf yearFits directiveOf periodAt periodOf dieselFits fuelFits oldBrakeFits numberIs countOf parkingAxlesFit oldRules differenceFits differencesFrom statedOf oldBookingRight sliceRight isRead isSerialLink answerRight sevenOf separated sum hexDigit checksum answerOf addressOk fieldOk allFieldsOk sevenOk judgeFile judgeAnswer
+unfolding sameBytes allPrintable without textOf wellFormed allWellFormed layoutOf words allDigits numberFrom dayNumber isString isExact isNumber isFixed isLeap daysIn isYear isGregorian areDigits isDay isTime wordIndex isWord startsWith isDrift isRevs isFirstDate isFirstDay allSorN isPositions kindOk kindKept entriesOf newBooking oldBooking tester protocol measurement sixteen driftAxle suspensionAxle analyser counter speedTest allKeyDates allKeyBodies analysis fuelAnalysis fixedSections axleEntries axlesFrom axleSections sections leastSections entries rowCount rowAt placeOf axlePlaceOf scan firstWrong firstAbsent ownerRow isM isN isO isL fuelIn isLate bookingIn versionIn linksIn conditionsOf exceptions conditionOf conditionAt isMoped isMotorcycle isMorN conditionP holdsIn dueOf firstNotAsDueFrom firstNotAsDue firstBroken rulesOf typeOf parkingBrakeFits newRules descriptionsOf yearFits directiveOf periodAt periodOf dieselFits fuelFits oldBrakeFits numberIs countOf parkingAxlesFit oldRules differenceFits differencesFrom statedOf oldBookingRight sliceRight isRead isSerialLink identificationRight sevenOf separated sum hexDigit checksum identificationOf addressOk fieldOk allFieldsOk sevenOk judgeFile judgeIdentification
 computed = (
   record { slice = refl; is-read = refl; well-formed = refl; short = refl; reads = refl; values = refl; checks = refl },
   refl,
@@ -404,7 +404,7 @@ car-lawful =
     (computed-accepted drift carStated carNewValues carDrift 3 carDriftValues (computed .8))
     (computed-accepted suspension carStated carNewValues carSuspension 2 carSuspensionValues (computed .9))
     (computed-accepted gas carStated carNewValues carGas 2 carGasValues (computed .10)))
-    (answer-complete true carGasValues true carAnswer (bytes "12") refl (computed .11) (computed .12) (λ q. (computed .13, computed .14))))
+    (identification-complete true carGasValues true carIdentification (bytes "12") refl (computed .11) (computed .12) (λ q. (computed .13, computed .14))))
 
 -- ---- not every set has one
 

@@ -1,6 +1,6 @@
 pub mod Steps
 pub mod File
-pub mod Answer
+pub mod Identification
 pub mod Places
 pub mod Set
 pub mod Theorem

@@ -9,30 +9,30 @@ use Rattle.tables.specs.File.{File, ac2, acc, drift, suspension, gas, hasAxles}
 use Rattle.files.specs.Files.{AxleCount, IsFile}
 use Rattle.due.specs.Booking.{bookingIn}
 use Rattle.due.specs.declared.Booking.{Booking}
-use Rattle.rules.specs.Slices.{sliceRight, isRead, answerRight}
-use Rattle.rules.specs.Answer.{sevenOf}
+use Rattle.rules.specs.Slices.{sliceRight, isRead, identificationRight}
+use Rattle.rules.specs.Identification.{sevenOf}
 use Rattle.rules.specs.declared.Stated.{Stated}
-use Rattle.serial.specs.Answer.{answerOf, sevenOk}
+use Rattle.serial.specs.Identification.{identificationOf, sevenOk}
 use Rattle.sets.specs.Records.{Slices, isGiven, Record, Read, NotRead, Address, Lawful, Fits}
-use Rattle.sets.specs.Judge.{FileRead, notRead, judgeBooking, judgeFile, judgeAnswer, SetRead, fileStep, fileGiven, answerStep, setRead, Slice, fileSlice, answerSlice, laterSlices, eachAccepted, judgeSlices}
+use Rattle.sets.specs.Judge.{FileRead, notRead, judgeBooking, judgeFile, judgeIdentification, SetRead, fileStep, fileGiven, identificationStep, setRead, Slice, fileSlice, identificationSlice, laterSlices, eachAccepted, judgeSlices}
 use Rattle.sets.proofs.Steps.{followed-inv, given-is}
 use Rattle.sets.proofs.File.{FilePassed, RulesKept, file-sound, booking-file, booking-complete, file-complete}
-use Rattle.sets.proofs.Answer.{seven-fields, answer-sound, answer-complete}
+use Rattle.sets.proofs.Identification.{seven-fields, identification-sound, identification-complete}
 
 -- the record that the judge has read
 abbrev pub recordOf : Slices → SetRead → Record
 recordOf s x = record {
   given = λ f. isGiven (s .file f);
-  answerGiven = isGiven (s .answer);
+  identificationGiven = isGiven (s .identification);
   axles = λ f. x .file f .axles;
   values = λ f. x .file f .values;
   address = x .address;
 }
 
 -- two records with the same parts are the same
-pub same-record : (q r : Record) → ((f : File) → q .given f ≡ r .given f) → q .answerGiven ≡ r .answerGiven
+pub same-record : (q r : Record) → ((f : File) → q .given f ≡ r .given f) → q .identificationGiven ≡ r .identificationGiven
     → ((f : File) → q .axles f ≡ r .axles f) → ((f : File) → q .values f ≡ r .values f) → q .address ≡ r .address → q ≡ r
-same-record q r a b c d e = λ i. record { given = λ f. a f i; answerGiven = b i; axles = λ f. c f i; values = λ f. d f i; address = e i }
+same-record q r a b c d e = λ i. record { given = λ f. a f i; identificationGiven = b i; axles = λ f. c f i; values = λ f. d f i; address = e i }
 
 -- what holds of each file
 pub of-each : (P : File → Type 0) → P ac2 → P acc → P drift → P suspension → P gas → (f : File) → P f
@@ -69,7 +69,7 @@ no-axles gas b given e = refl
 module _ (st : Stated) (s : Slices) (a : List (List ℕ)) where
   abbrev Accepted : Slice → Type 0
   Accepted (fileSlice f) = fileStep st s a f ≡ acceptance (fileGiven st s a f)
-  Accepted answerSlice = answerStep st s a ≡ acceptance (givenBy [] (answerStep st s a))
+  Accepted identificationSlice = identificationStep st s a ≡ acceptance (givenBy [] (identificationStep st s a))
 
   abbrev AllAccepted : List Slice → Type 0
   AllAccepted [] = Unit {0}
@@ -81,15 +81,15 @@ module _ (st : Stated) (s : Slices) (a : List (List ℕ)) where
       let i = followed-inv (fileStep st s a f) (λ g. eachAccepted st s a cs x) y e in
       let w = each-sound cs x y (i .2) in
       (w .0, (given-is notRead (fileStep st s a f) (i .0) (i .1), w .1))
-  each-sound (answerSlice ∷ cs) x y e =
-      let i = followed-inv (answerStep st s a) (λ v. eachAccepted st s a cs x) y e in
+  each-sound (identificationSlice ∷ cs) x y e =
+      let i = followed-inv (identificationStep st s a) (λ v. eachAccepted st s a cs x) y e in
       let w = each-sound cs x y (i .2) in
-      (w .0, (given-is [] (answerStep st s a) (i .0) (i .1), w .1))
+      (w .0, (given-is [] (identificationStep st s a) (i .0) (i .1), w .1))
 
-  pub each-complete : {A : Type 0} (cs : List Slice) (x : A) → ((f : File) → Accepted (fileSlice f)) → Accepted answerSlice → eachAccepted st s a cs x ≡ acceptance x
+  pub each-complete : {A : Type 0} (cs : List Slice) (x : A) → ((f : File) → Accepted (fileSlice f)) → Accepted identificationSlice → eachAccepted st s a cs x ≡ acceptance x
   each-complete [] x h k = refl
   each-complete (fileSlice f ∷ cs) x h k = rw (h f) (each-complete cs x h k)
-  each-complete (answerSlice ∷ cs) x h k = rw k (each-complete cs x h k)
+  each-complete (identificationSlice ∷ cs) x h k = rw k (each-complete cs x h k)
 
   -- AC2 too, where it was judged and a are its values
   all-files : (g : FileRead) → judgeBooking (s .file ac2) ≡ acceptance g → g .values ≡ a → AllAccepted laterSlices → (f : File) → Accepted (fileSlice f)
@@ -102,9 +102,9 @@ module _ (st : Stated) (s : Slices) (a : List (List ℕ)) where
 -- a set that passed
 pub record SetPassed (st : Stated) (s : Slices) (x : SetRead) : Type 0 where
   pub file : (f : File) → FilePassed f st (x .file ac2 .values) (s .file f) (x .file f)
-  pub answer : answerRight (isGiven (s .file gas)) (x .file gas .values) (isGiven (s .answer)) ≡ true
-  pub address : Address (isGiven (s .answer)) (x .address)
-  pub identification : isGiven (s .answer) ≡ true → s .answer ≡ answerOf (x .address) (sevenOf (x .file gas .values))
+  pub sixth : identificationRight (isGiven (s .file gas)) (x .file gas .values) (isGiven (s .identification)) ≡ true
+  pub address : Address (isGiven (s .identification)) (x .address)
+  pub identification : isGiven (s .identification) ≡ true → s .identification ≡ identificationOf (x .address) (sevenOf (x .file gas .values))
 
 -- ---- what is let through
 
@@ -116,12 +116,12 @@ slices-sound st s x e =
     let a : List (List ℕ) = g .values in
     let w = each-sound st s a laterSlices (setRead st s a) x (i .2) in
     let own : fileGiven st s a ac2 ≡ g = ap (givenBy notRead) (booking-file st (s .file ac2) g (i .1)) in
-    let v = answer-sound (isGiven (s .file gas)) (fileGiven st s a gas .values) (s .answer) (givenBy [] (answerStep st s a)) (w .1 .1 .1 .1 .1 .0) in
+    let v = identification-sound (isGiven (s .file gas)) (fileGiven st s a gas .values) (s .identification) (givenBy [] (identificationStep st s a)) (w .1 .1 .1 .1 .1 .0) in
     subst (λ (x : SetRead). SetPassed st s x) (w .0) (record {
       file = λ f.
           subst (λ (b : List (List ℕ)). FilePassed f st b (s .file f) (fileGiven st s a f)) (ap (λ (y : FileRead). y .values) (sym own))
           (file-sound f st a (s .file f) (fileGiven st s a f) (all-files st s a g (i .1) refl (w .1) f));
-      answer = v .0;
+      sixth = v .0;
       address = v .1;
       identification = v .2;
     })
@@ -142,7 +142,7 @@ module _ (st : Stated) (s : Slices) (x : SetRead) (p : SetPassed st s x) where
   pub passed-lawful : Lawful st (recordOf s x)
   passed-lawful = record {
     slices = λ f. p .file f .slice;
-    answer = p .answer;
+    sixth = p .sixth;
     counts = counted;
     kinds = λ f h. p .file f .read h .is .kept;
     dueEntries = λ f h. p .file f .read h .kept .dues;
@@ -154,7 +154,7 @@ module _ (st : Stated) (s : Slices) (x : SetRead) (p : SetPassed st s x) where
   pub passed-fits : Fits (recordOf s x) s
   passed-fits = record {
     given = λ f. refl;
-    answerGiven = refl;
+    identificationGiven = refl;
     files = λ f h. p .file f .read h .is .fits;
     identification = p .identification;
   }
@@ -193,18 +193,18 @@ module _ (st : Stated) (s : Slices) (r : Record) (l : Lawful st r) (h : Fits r s
       (subst (λ (n : ℕ). RulesKept ac2 own n own) z (w .0)) (subst (λ (n : ℕ). IsFile ac2 n own (s .file ac2)) z (w .1))
 
   -- with slice 6 gas is given, and so its seven are fields
-  seven : r .answerGiven ≡ true → sevenOk (sevenOf (r .values gas)) ≡ true
-  unfolding isRead answerRight
+  seven : r .identificationGiven ≡ true → sevenOk (sevenOf (r .values gas)) ≡ true
+  unfolding isRead identificationRight
   seven k = by-test (r .given gas)
       (λ q. let z : r .axles gas ≡ 0 = file-of gas q .1 .count in
       seven-fields own (r .values gas) (rw z at (l .kinds gas q)) (l .dueEntries gas q))
-      (λ q. absurd (true≢false (sym (rw (q, k) at (l .answer)))))
+      (λ q. absurd (true≢false (sym (rw (q, k) at (l .sixth)))))
 
-  answer-through : answerStep st s own ≡ acceptance (r .address)
-  answer-through =
+  identification-through : identificationStep st s own ≡ acceptance (r .address)
+  identification-through =
       rw (given-same gas .1)
-      (answer-complete (isGiven (s .file gas)) (r .values gas) (r .answerGiven) (s .answer) (r .address) (h .answerGiven)
-      (ap (λ (b : Bool). answerRight b (r .values gas) (r .answerGiven)) (sym (h .given gas)) ∙ l .answer)
+      (identification-complete (isGiven (s .file gas)) (r .values gas) (r .identificationGiven) (s .identification) (r .address) (h .identificationGiven)
+      (ap (λ (b : Bool). identificationRight b (r .values gas) (r .identificationGiven)) (sym (h .given gas)) ∙ l .sixth)
       (l .address)
       (λ k. (h .identification k, seven k)))
 
@@ -215,6 +215,6 @@ module _ (st : Stated) (s : Slices) (r : Record) (l : Lawful st r) (h : Fits r s
       let b = new-booking in (
         x,
         rw (b .1, b .2)
-            (each-complete st s own laterSlices x (λ f. given-is notRead (fileStep st s own f) (through f .0) (through f .1)) (given-is [] (answerStep st s own) (r .address) answer-through)),
-        same-record (recordOf s x) r (λ f. sym (h .given f)) (sym (h .answerGiven)) (λ f. given-same f .0) (λ f. given-same f .1) (ap (givenBy []) answer-through),
+            (each-complete st s own laterSlices x (λ f. given-is notRead (fileStep st s own f) (through f .0) (through f .1)) (given-is [] (identificationStep st s own) (r .address) identification-through)),
+        same-record (recordOf s x) r (λ f. sym (h .given f)) (sym (h .identificationGiven)) (λ f. given-same f .0) (λ f. given-same f .1) (ap (givenBy []) identification-through),
       )

@@ -19,7 +19,7 @@ use Rattle.files.proofs.Pairs.{few-axles}
 use Rattle.due.specs.Booking.{bookingIn}
 use Rattle.places.proofs.Values.{value-length}
 use Rattle.rules.specs.Slices.{goodStem, statedOf, isRead}
-use Rattle.rules.specs.Answer.{isMarked}
+use Rattle.rules.specs.Marks.{isMarked}
 use Rattle.rules.specs.declared.Stated.{Stated}
 use Rattle.sets.specs.Records.{Slices, isGiven, Record, Read, NotRead, Lawful, Fits}
 use Rattle.sets.specs.Judge.{acceptanceOf, FileRead, SetRead, judgeSlices, setFiles, settled, judge}

@@ -16,14 +16,15 @@ use Rattle.due.specs.Due.{firstNotAsDue}
 use Rattle.due.specs.declared.Conditions.{Conditions}
 use Rattle.rules.specs.Rule.{firstBroken}
 use Rattle.rules.specs.Rules.{rulesOf}
-use Rattle.rules.specs.Slices.{goodStem, statedOf, sliceRight, isRead, answerRight}
-use Rattle.rules.specs.Answer.{sevenOf, sameFields, isMarked}
+use Rattle.rules.specs.Slices.{goodStem, statedOf, sliceRight, isRead, identificationRight}
+use Rattle.rules.specs.Identification.{sevenOf, sameFields}
+use Rattle.rules.specs.Marks.{isMarked}
 use Rattle.rules.specs.declared.Stated.{Stated}
 use Rattle.rules.specs.declared.RuleCheck.{RuleCheck}
 use Rattle.rules.specs.declared.RuleCheck.the-variants.{Kept, Broken}
-use Rattle.serial.specs.Reading.{readAnswer, addressIn, sevenIn}
-use Rattle.serial.specs.declared.AnswerRead.{AnswerRead}
-use Rattle.serial.specs.declared.AnswerRead.the-variants.{Malformed, Fields}
+use Rattle.serial.specs.Reading.{readIdentification, addressIn, sevenIn}
+use Rattle.serial.specs.declared.IdentificationRead.{IdentificationRead}
+use Rattle.serial.specs.declared.IdentificationRead.the-variants.{Malformed, Fields}
 use Rattle.sets.specs.Records.{Slices, isGiven}
 use Rattle.sets.specs.declared.Acceptance.{Acceptance}
 use Rattle.sets.specs.declared.SetAnswer.{SetAnswer}
@@ -117,15 +118,15 @@ judgeFile f stated a s =
 -- ---- slice 6
 
 -- 14, 15
-abbrev pub judgeFields : List (List ℕ) → List ℕ → AnswerRead → Answer (List ℕ)
+abbrev pub judgeFields : List (List ℕ) → List ℕ → IdentificationRead → Answer (List ℕ)
 judgeFields g s Malformed = refusal 14 6 0
 judgeFields g s (Fields e) = require (sameFields (sevenIn s e) (sevenOf g)) 15 6 0 (acceptance (addressIn s e))
 
 -- 11, 14, 15; what it gives is the address
-unfoldable pub judgeAnswer : Bool → List (List ℕ) → List ℕ → Answer (List ℕ)
-judgeAnswer gasGiven g s =
-    require (answerRight gasGiven g (isGiven s)) 11 6 0
-    (cond (isGiven s) (judgeFields g s (readAnswer s)) (acceptance []))
+unfoldable pub judgeIdentification : Bool → List (List ℕ) → List ℕ → Answer (List ℕ)
+judgeIdentification gasGiven g s =
+    require (identificationRight gasGiven g (isGiven s)) 11 6 0
+    (cond (isGiven s) (judgeFields g s (readIdentification s)) (acceptance []))
 
 -- ---- the set
 
@@ -142,26 +143,26 @@ module _ (stated : Stated) (s : Slices) (a : List (List ℕ)) where
   abbrev pub fileGiven : File → FileRead
   fileGiven f = givenBy notRead (fileStep f)
 
-  abbrev pub answerStep : Answer (List ℕ)
-  answerStep = judgeAnswer (isGiven (s .file gas)) (fileGiven gas .values) (s .answer)
+  abbrev pub identificationStep : Answer (List ℕ)
+  identificationStep = judgeIdentification (isGiven (s .file gas)) (fileGiven gas .values) (s .identification)
 
   abbrev pub setRead : SetRead
-  setRead = record { file = fileGiven; address = givenBy [] answerStep }
+  setRead = record { file = fileGiven; address = givenBy [] identificationStep }
 
 -- a slice after AC2
 pub data Slice : Type 0 where
   fileSlice : File → Slice
-  answerSlice : Slice
+  identificationSlice : Slice
 
 -- "slices 1 to 6": those after AC2 in their order
 abbrev pub laterSlices : List Slice
-laterSlices = fileSlice acc ∷ fileSlice drift ∷ fileSlice suspension ∷ fileSlice gas ∷ answerSlice ∷ []
+laterSlices = fileSlice acc ∷ fileSlice drift ∷ fileSlice suspension ∷ fileSlice gas ∷ identificationSlice ∷ []
 
 -- the first of these slices that is refused; where none is, x
 abbrev pub eachAccepted : {A : Type 0} → Stated → Slices → List (List ℕ) → List Slice → A → Answer A
 eachAccepted stated s a [] x = acceptance x
 eachAccepted stated s a (fileSlice f ∷ cs) x = followed (fileStep stated s a f) (λ g. eachAccepted stated s a cs x)
-eachAccepted stated s a (answerSlice ∷ cs) x = followed (answerStep stated s a) (λ v. eachAccepted stated s a cs x)
+eachAccepted stated s a (identificationSlice ∷ cs) x = followed (identificationStep stated s a) (λ v. eachAccepted stated s a cs x)
 
 -- AC2 first, then the others by its values
 unfoldable pub judgeSlices : Stated → Slices → Answer SetRead

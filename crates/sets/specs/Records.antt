@@ -13,17 +13,17 @@ use Rattle.due.specs.Conditions.{conditionsOf}
 use Rattle.due.specs.Due.{isAsDue}
 use Rattle.rules.specs.Rule.{allHold}
 use Rattle.rules.specs.Rules.{rulesOf}
-use Rattle.rules.specs.Slices.{sliceRight, isRead, answerRight}
-use Rattle.rules.specs.Answer.{sevenOf}
+use Rattle.rules.specs.Slices.{sliceRight, isRead, identificationRight}
+use Rattle.rules.specs.Identification.{sevenOf}
 use Rattle.rules.specs.declared.Stated.{Stated}
-use Rattle.serial.specs.Answer.{answerOf, addressOk}
+use Rattle.serial.specs.Identification.{identificationOf, addressOk}
 
 -- ---- sets and records
 
 -- 01, first paragraph: the slices of a set, those of the files and the identification answer
 pub record Slices : Type 0 where
   pub file : File → List ℕ
-  pub answer : List ℕ
+  pub identification : List ℕ
 
 -- what there is for each file, in their order
 abbrev pub eachFile : {A : Type 0} → A → A → A → A → A → File → A
@@ -35,7 +35,7 @@ eachFile a o d u g gas = g
 
 -- "1 new booking (AC2), 2 old booking (ACC), 3 drift, 4 suspension, 5 gas, 6 the analyser's identification answer"
 abbrev pub slicesOf : List ℕ → List ℕ → List ℕ → List ℕ → List ℕ → List ℕ → Slices
-slicesOf a o d u g i = record { file = eachFile a o d u g; answer = i }
+slicesOf a o d u g i = record { file = eachFile a o d u g; identification = i }
 
 -- "An empty slice means "not given""
 abbrev pub isGiven : List ℕ → Bool
@@ -45,7 +45,7 @@ isGiven s = ltb 0 (length s)
 -- and, with slice 6, the address". Two records are the same when these are.
 pub record Record : Type 0 where
   pub given : File → Bool
-  pub answerGiven : Bool
+  pub identificationGiven : Bool
   pub axles : File → ℕ
   -- in entry order
   pub values : File → List (List ℕ)
@@ -73,7 +73,7 @@ EachAsDue f a vs = (i : ℕ) → i < length vs → isAsDue f (conditionsOf f a v
 pub record Lawful (stated : Stated) (r : Record) : Type 0 where
   -- "given slices, with row 11's clause on the stem"
   pub slices : (f : File) → sliceRight f stated (bookingIn (r .values ac2)) (r .given f) ≡ true
-  pub answer : answerRight (r .given gas) (r .values gas) (r .answerGiven) ≡ true
+  pub sixth : identificationRight (r .given gas) (r .values gas) (r .identificationGiven) ≡ true
   -- "axle counts (1 to 9 for a file given)", "0 for a file not given", and for one without axles
   pub counts : (f : File) → AxleCount (hasAxles f && r .given f) (r .axles f)
   -- "one value for each entry", and "every rule on kinds"
@@ -83,15 +83,15 @@ pub record Lawful (stated : Stated) (r : Record) : Type 0 where
   pub rules : (f : File) → Read r f → allHold (rulesOf f (r .values ac2) (r .values f) (r .axles f)) ≡ true
   -- values are those of files that are read
   pub unread : (f : File) → NotRead r f → r .values f ≡ []
-  pub address : Address (r .answerGiven) (r .address)
+  pub address : Address (r .identificationGiven) (r .address)
 
 -- ---- a record fits a set
 
 pub record Fits (r : Record) (s : Slices) : Type 0 where
   -- "which slices are given, those of the set handed in and no others"
   pub given : (f : File) → r .given f ≡ isGiven (s .file f)
-  pub answerGiven : r .answerGiven ≡ isGiven (s .answer)
+  pub identificationGiven : r .identificationGiven ≡ isGiven (s .identification)
   -- "Its lines, for each file that is read" are that file
   pub files : (f : File) → Read r f → FitsText (sections f (r .axles f)) (r .values f) (s .file f)
   -- "Its identification, with slice 6 only, is the answer above with that address and gas's seven values"
-  pub identification : r .answerGiven ≡ true → s .answer ≡ answerOf (r .address) (sevenOf (r .values gas))
+  pub identification : r .identificationGiven ≡ true → s .identification ≡ identificationOf (r .address) (sevenOf (r .values gas))

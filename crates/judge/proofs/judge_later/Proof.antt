@@ -7,8 +7,8 @@ use mathlib.Core.List.{List, [], _∷_}
 use denote.Ref.{now}
 use Rattle.tables.specs.File.{acc, drift, suspension, gas, ofNumber}
 use Rattle.sets.specs.Records.{Slices, slicesOf}
-use Rattle.sets.specs.Judge.{Slice, fileSlice, answerSlice}
-use Rattle.judge.proofs.Slices.{After, KeptAs, filled, at-first, first-file, next-file, going-ready, next-ready, AnswerKnown, answer-known, answer-ready, next-answer, later-refused, later-size, later-accepted}
+use Rattle.sets.specs.Judge.{Slice, fileSlice, identificationSlice}
+use Rattle.judge.proofs.Slices.{After, KeptAs, filled, at-first, first-file, next-file, going-ready, next-ready, IdentificationKnown, identification-known, identification-ready, next-identification, later-refused, later-size, later-accepted}
 use Rattle.judge.specs.Steps.{Asked}
 use Rattle.judge.proofs.judge_later.Statement.{statement}
 use Rattle.judge.proofs.judge_later.Tie as tie
@@ -62,7 +62,7 @@ kept4 c = let x = start4 c in kept3 (c .before .before .before .before) × KeptA
 -- the slices left after each
 
 abbrev left4 : List Slice
-left4 = answerSlice ∷ []
+left4 = identificationSlice ∷ []
 
 abbrev left3 : List Slice
 left3 = fileSlice gas ∷ left4
@@ -116,18 +116,18 @@ after4 c =
     let d = c .before .before .before .before in
     next-file (x .args .stated) (slices x) (lent x) gas (omega arith) (kept3 d) left4 (pairs3 x) (places3 d) (d .judge-next2 .result) (after3 d) (c .judge-next3 .result) (places4 c) (c .judge-next3 .ensures)
 
-known4 : (c : tie.After-judge-next3) → Asked (c .judge-next3 .result) (AnswerKnown (start4 c .args .stated) (slices (start4 c)) (lent (start4 c)) (places4 c))
+known4 : (c : tie.After-judge-next3) → Asked (c .judge-next3 .result) (IdentificationKnown (start4 c .args .stated) (slices (start4 c)) (lent (start4 c)) (places4 c))
 unfolding ofNumber
 known4 c =
     let x = start4 c in
     let d = c .before .before .before .before in
-    answer-known (x .args .stated) (slices x) (lent x) (kept3 d) left4 (d .judge-next2 .result) (pairs3 x) (places3 d) (after3 d) (c .judge-next3 .result) (places4 c) (c .judge-next3 .ensures)
+    identification-known (x .args .stated) (slices x) (lent x) (kept3 d) left4 (d .judge-next2 .result) (pairs3 x) (places3 d) (after3 d) (c .judge-next3 .result) (places4 c) (c .judge-next3 .ensures)
 
-after5 : (c : tie.After-answer-next) → After (start4 (c .before .before .before .before) .args .stated) (slices (start4 (c .before .before .before .before))) (lent (start4 (c .before .before .before .before))) (kept4 (c .before .before .before .before)) [] (c .answer-next .result) (pairs4 (start4 (c .before .before .before .before))) (places4 (c .before .before .before .before))
+after5 : (c : tie.After-identification-next) → After (start4 (c .before .before .before .before) .args .stated) (slices (start4 (c .before .before .before .before))) (lent (start4 (c .before .before .before .before))) (kept4 (c .before .before .before .before)) [] (c .identification-next .result) (pairs4 (start4 (c .before .before .before .before))) (places4 (c .before .before .before .before))
 after5 c =
     let d = c .before .before .before .before in
     let x = start4 d in
-    next-answer (x .args .stated) (slices x) (lent x) (kept4 d) [] (d .judge-next3 .result) (pairs4 x) (places4 d) (after4 d) (known4 d) (c .answer-next .result) (c .answer-next .ensures)
+    next-identification (x .args .stated) (slices x) (lent x) (kept4 d) [] (d .judge-next3 .result) (pairs4 x) (places4 d) (after4 d) (known4 d) (c .identification-next .result) (c .identification-next .ensures)
 
 -- the needs
 
@@ -158,11 +158,11 @@ judge-next-requires-3 c κs =
     let x = start3 d in
     next-ready (x .args .stated) (slices x) (lent x) 5 (x .args .b) refl (omega arith) (x .pre .1) (kept3 d) left3 (d .judge-next2 .result) (pairs3 x) (places3 d) (after3 d)
 
-answer-next-requires : tie.Need-answer-next-requires
-answer-next-requires c κs =
+identification-next-requires : tie.Need-identification-next-requires
+identification-next-requires c κs =
     let d = c .before .before .before in
     let x = start4 d in
-    answer-ready (x .args .stated) (slices x) (lent x) (d .judge-next3 .result) (places4 d) (known4 d)
+    identification-ready (x .args .stated) (slices x) (lent x) (d .judge-next3 .result) (places4 d) (known4 d)
 
 enum-known-last : tie.Need-enum-known-last
 enum-known-last c = search needs
@@ -181,14 +181,14 @@ returns c =
     let d = c .before .before .before in
     let g = d .before .before .before .before in
     let x = start4 g in
-    later-refused (x .args .stated) (slices x) (lent x) (kept4 g) (d .answer-next .result) (pairs4 x) (places4 g) (after5 d) _ (c .before .last .given .1)
+    later-refused (x .args .stated) (slices x) (lent x) (kept4 g) (d .identification-next .result) (pairs4 x) (places4 g) (after5 d) _ (c .before .last .given .1)
 
 same-length-2 : tie.Need-same-length-2
 same-length-2 c =
     let d = c .before .before .before .before in
     let g = d .before .before .before .before in
     let x = start4 g in
-    later-size (x .args .stated) (slices x) (lent x) (kept4 g) (d .answer-next .result) (pairs4 x) (places4 g) (after5 d) _ (c .before .before .last2 .given .1)
+    later-size (x .args .stated) (slices x) (lent x) (kept4 g) (d .identification-next .result) (pairs4 x) (places4 g) (after5 d) _ (c .before .before .last2 .given .1)
 
 returns-2 : tie.Need-returns-2
 returns-2 c =
@@ -196,7 +196,7 @@ returns-2 c =
     let g = d .before .before .before .before in
     let x = start4 g in
     rw (c .acceptance-with .ensures)
-    (later-accepted (x .args .stated) (slices x) (lent x) (g .before .before .before .before .before .before .before .before .before .before .before .before .judge-file .result) (g .before .before .before .before .before .before .before .before .judge-next .result) (g .before .before .before .before .judge-next2 .result) (g .judge-next3 .result) (d .answer-next .result) (places4 g) (after5 d) _ (c .before .before .last2 .given .1))
+    (later-accepted (x .args .stated) (slices x) (lent x) (g .before .before .before .before .before .before .before .before .before .before .before .before .judge-file .result) (g .before .before .before .before .before .before .before .before .judge-next .result) (g .before .before .before .before .judge-next2 .result) (g .judge-next3 .result) (d .identification-next .result) (places4 g) (after5 d) _ (c .before .before .last2 .given .1))
 
 pub judge-later-spec : {M : Type 1} → statement M
 judge-later-spec =
@@ -206,7 +206,7 @@ judge-later-spec =
     judge-next-requires
     judge-next-requires-2
     judge-next-requires-3
-    answer-next-requires
+    identification-next-requires
     enum-known-last
     enum-known-last-2
     acceptance-with-requires

@@ -4,7 +4,7 @@ use mathlib.Core.Path.{refl, _∙_}
 use mathlib.Core.Bool.{false}
 use denote.Ref.{now}
 use Rattle.due.specs.Values.{valuesOf}
-use Rattle.rules.specs.Answer.{isMarked}
+use Rattle.rules.specs.Marks.{isMarked}
 use Rattle.judge.proofs.Numbers.{by-file}
 use Rattle.judge.proofs.kept_of.Statement.{statement}
 use Rattle.judge.proofs.kept_of.Tie as tie

@@ -5,8 +5,8 @@ use Rattle.rules_main.proofs.show_read.Statement.{statement}
 use Rattle.rules_main.proofs.show_read.Tie as tie
 use Rattle.serial.proofs.Exact.{read-sound}
 
-read-answer-requires : tie.Need-read-answer-requires
-read-answer-requires c κs = search needs
+read-identification-requires : tie.Need-read-identification-requires
+read-identification-requires c κs = search needs
 
 enum-told : tie.Need-enum-told
 enum-told c = search needs
@@ -21,10 +21,10 @@ enum-known-e : tie.Need-enum-known-e
 enum-known-e c = search needs
 
 show-fields-requires : tie.Need-show-fields-requires
-show-fields-requires c κs = read-sound _ (c .before .e .given .0 .0) (sym (c .before .before .before .read-answer .ensures) ∙ c .before .e .given .1) .ordered
+show-fields-requires c κs = read-sound _ (c .before .e .given .0 .0) (sym (c .before .before .before .read-identification .ensures) ∙ c .before .e .given .1) .ordered
 
 show-equal-requires : tie.Need-show-equal-requires
-show-equal-requires c κs = (read-sound _ (c .before .before .e .given .0 .0) (sym (c .before .before .before .before .read-answer .ensures) ∙ c .before .before .e .given .1) .ordered, c .before .before .before .before .before .before .before .before .pre)
+show-equal-requires c κs = (read-sound _ (c .before .before .e .given .0 .0) (sym (c .before .before .before .before .read-identification .ensures) ∙ c .before .before .e .given .1) .ordered, c .before .before .before .before .before .before .before .before .pre)
 
 returns : tie.Need-returns
 returns c = search needs
@@ -36,7 +36,7 @@ pub show-read-spec : {M : Type 1} → statement M
 show-read-spec =
     tie.close
     (tie.spec
-    read-answer-requires
+    read-identification-requires
     enum-told
     slice-aggregate-write-all
     write-all-requires

@@ -6,7 +6,7 @@ use Rattle.serial.proofs.address_ok.Tie as tie
 use Rattle.serial.proofs.address_ok.Reads as reads
 use Rattle.serial.proofs.address_ok.Lts as lts
 use Rattle.kinds.proofs.all_digits.Reads as all-digits-reads
-use Rattle.serial.specs.Answer.{addressOk}
+use Rattle.serial.specs.Identification.{addressOk}
 
 returns : tie.Need-returns
 unfolding addressOk

@@ -6,7 +6,7 @@ use Rattle.serial.proofs.field_ok.Tie as tie
 use Rattle.serial.proofs.field_ok.Reads as reads
 use Rattle.serial.proofs.field_ok.Lts as lts
 use Rattle.lines.proofs.all_printable.Reads as all-printable-reads
-use Rattle.serial.specs.Answer.{fieldOk}
+use Rattle.serial.specs.Identification.{fieldOk}
 
 returns : tie.Need-returns
 unfolding fieldOk

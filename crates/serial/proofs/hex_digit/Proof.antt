@@ -5,7 +5,7 @@ use Rattle.serial.proofs.hex_digit.Statement.{statement}
 use Rattle.serial.proofs.hex_digit.Tie as tie
 use Rattle.serial.proofs.hex_digit.Reads as reads
 use Rattle.serial.proofs.hex_digit.Lts as lts
-use Rattle.serial.specs.Answer.{hexDigit}
+use Rattle.serial.specs.Identification.{hexDigit}
 
 add-result : tie.Need-add-result
 add-result c = search needs

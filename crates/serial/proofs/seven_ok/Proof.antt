@@ -5,7 +5,7 @@ use Rattle.serial.proofs.seven_ok.Tie as tie
 use Rattle.serial.proofs.seven_ok.Reads as reads
 use Rattle.serial.proofs.seven_ok.Lts as lts
 use Rattle.serial.proofs.field_between.Reads as field-between-reads
-use Rattle.serial.specs.Answer.{allFieldsOk}
+use Rattle.serial.specs.Identification.{allFieldsOk}
 use Rattle.serial.proofs.Tests.{passed, failed, and-true}
 
 field-between-requires : tie.Need-field-between-requires

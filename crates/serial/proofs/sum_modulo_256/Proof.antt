@@ -9,7 +9,7 @@ use Rattle.serial.proofs.sum_modulo_256.Tie as tie
 use Rattle.serial.proofs.sum_modulo_256.Reads as reads
 use Rattle.serial.proofs.sum_modulo_256.Lts as lts
 use Rattle.serial.proofs.wide.Reads as wide-reads
-use Rattle.serial.specs.Answer.{sum}
+use Rattle.serial.specs.Identification.{sum}
 use Rattle.serial.proofs.Loops.{sum-more, sum-end}
 use native.Mathlib.Nat.{zero-add}
 

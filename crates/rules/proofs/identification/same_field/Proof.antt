@@ -1,7 +1,7 @@
--- `rules::answer::same_field` meets its contract: the field is compared with the value of the pair. Assumes nothing.
+-- `rules::identification::same_field` meets its contract: the field is compared with the value of the pair. Assumes nothing.
 use borrow.Author.Needs.{needs}
-use Rattle.rules.proofs.answer.same_field.Statement.{statement}
-use Rattle.rules.proofs.answer.same_field.Tie as tie
+use Rattle.rules.proofs.identification.same_field.Statement.{statement}
+use Rattle.rules.proofs.identification.same_field.Tie as tie
 
 add-equal : tie.Need-add-equal
 add-equal c = search needs

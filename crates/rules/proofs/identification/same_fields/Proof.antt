@@ -1,13 +1,13 @@
--- `rules::answer::same_fields` meets its contract: the seven fields in their order, each with the value at its pair. Assumes nothing.
+-- `rules::identification::same_fields` meets its contract: the seven fields in their order, each with the value at its pair. Assumes nothing.
 use borrow.Author.Needs.{needs}
 use lib.Dec.{lit<}
 use Rattle.serial.proofs.Tests.{passed, failed, and-true}
 use mathlib.Core.Path.{sym, _∙_}
-use Rattle.rules.specs.Answer.{sameFields}
+use Rattle.rules.specs.Identification.{sameFields}
 use Rattle.due.proofs.Pairs.{gas-held}
 use Rattle.rules.proofs.Rules.{seven-at}
-use Rattle.rules.proofs.answer.same_fields.Statement.{statement}
-use Rattle.rules.proofs.answer.same_fields.Tie as tie
+use Rattle.rules.proofs.identification.same_fields.Statement.{statement}
+use Rattle.rules.proofs.identification.same_fields.Tie as tie
 
 same-field-requires : tie.Need-same-field-requires
 same-field-requires c κs = ((search needs, search needs), gas-held _ _ (c .before .before .before .pre .1) 0 (lit< tt))

@@ -1,8 +1,8 @@
--- `judge::answer_next` meets its contract: a refusal before it stands. Assumes nothing.
+-- `judge::identification_next` meets its contract: a refusal before it stands. Assumes nothing.
 use borrow.Author.Needs.{needs}
 use Rattle.judge.proofs.Slices.{asked-go, next-stop, next-go}
-use Rattle.judge.proofs.answer_next.Statement.{statement}
-use Rattle.judge.proofs.answer_next.Tie as tie
+use Rattle.judge.proofs.identification_next.Statement.{statement}
+use Rattle.judge.proofs.identification_next.Tie as tie
 
 enum-known-before : tie.Need-enum-known-before
 enum-known-before c = search needs
@@ -10,8 +10,8 @@ enum-known-before c = search needs
 enum-known-before-2 : tie.Need-enum-known-before-2
 enum-known-before-2 c = search needs
 
-judge-answer-requires : tie.Need-judge-answer-requires
-judge-answer-requires c κs =
+judge-identification-requires : tie.Need-judge-identification-requires
+judge-identification-requires c κs =
     let x = c .before .before .before .before .before .before in
     asked-go _ (x .args .before) _ (c .before .before3 .given .1) (x .pre)
 
@@ -23,7 +23,7 @@ returns c =
 returns-2 : tie.Need-returns-2
 returns-2 c =
     let x = c .before .before .before .before .before .before .before in
-    next-go _ (x .args .before) _ (c .before .before .before3 .given .1) _ _ _ (c .judge-answer .ensures)
+    next-go _ (x .args .before) _ (c .before .before .before3 .given .1) _ _ _ (c .judge-identification .ensures)
 
-pub answer-next-spec : {M : Type 1} → statement M
-answer-next-spec = tie.close (tie.spec enum-known-before enum-known-before-2 judge-answer-requires returns returns-2)
+pub identification-next-spec : {M : Type 1} → statement M
+identification-next-spec = tie.close (tie.spec enum-known-before enum-known-before-2 judge-identification-requires returns returns-2)

@@ -1,17 +1,17 @@
--- `rules::slices::answer_right` meets its contract: without gas the answer is not due, with gas by its link. Assumes nothing.
+-- `rules::slices::identification_right` meets its contract: without gas the answer is not due, with gas by its link. Assumes nothing.
 use borrow.Author.Needs.{needs}
 use native.Mathlib.Omega.{arith}
 use borrow.Author.Tests.{lt-ltb, le-ltb}
-use Rattle.rules.specs.Slices.{answerRight}
+use Rattle.rules.specs.Slices.{identificationRight}
 use lib.Dec.{lit<}
 use lib.ListN.{length}
 use Rattle.due.proofs.Pairs.{gas-held}
 use Rattle.rules.proofs.Rules.{serial-at}
-use Rattle.rules.proofs.slices.answer_right.Statement.{statement}
-use Rattle.rules.proofs.slices.answer_right.Tie as tie
+use Rattle.rules.proofs.slices.identification_right.Statement.{statement}
+use Rattle.rules.proofs.slices.identification_right.Tie as tie
 
 returns : tie.Need-returns
-unfolding answerRight
+unfolding identificationRight
 returns c = rw (le-ltb 0 (length (c .before .before .before .args .text .now)) (omega (arith, c .if1 .taken)))
 
 value-of-requires : tie.Need-value-of-requires
@@ -24,10 +24,10 @@ is-exactly-requires : tie.Need-is-exactly-requires
 is-exactly-requires c κs = search needs
 
 returns-2 : tie.Need-returns-2
-unfolding answerRight
+unfolding identificationRight
 returns-2 c =
     let x = c .before .before .before .before .before .before .args in
     rw (lt-ltb 0 (length (x .text .now)) (omega (arith, c .before .before .before .if1 .left)), serial-at (x .text .now) (x .places .now), ← (c .before .before .value-of .ensures), ← (c .before .is-serial .ensures)) (c .is-exactly .ensures)
 
-pub answer-right-spec : {M : Type 1} → statement M
-answer-right-spec = tie.close (tie.spec returns value-of-requires is-serial-requires is-exactly-requires returns-2)
+pub identification-right-spec : {M : Type 1} → statement M
+identification-right-spec = tie.close (tie.spec returns value-of-requires is-serial-requires is-exactly-requires returns-2)

@@ -30,8 +30,8 @@ unfoldable pub checksum : List ℕ → List ℕ
 checksum s = hexDigit (sum s % 256 / 16) ∷ hexDigit (sum s % 256 % 16) ∷ []
 
 -- "02 hex, then fields .., two checksum bytes, 03 hex"
-unfoldable pub answerOf : List ℕ → List (List ℕ) → List ℕ
-answerOf address seven = 2 ∷ tenFields address seven ++ (checksum (tenFields address seven) ++ 3 ∷ [])
+unfoldable pub identificationOf : List ℕ → List (List ℕ) → List ℕ
+identificationOf address seven = 2 ∷ tenFields address seven ++ (checksum (tenFields address seven) ++ 3 ∷ [])
 
 -- "1 to 3 digits"
 unfoldable pub addressOk : List ℕ → Bool

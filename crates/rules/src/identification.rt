@@ -1,14 +1,13 @@
-// The identification answer against gas (15), and the mark of a result file (01, Identification answer and Judging).
+// The identification answer against gas (01, Identification answer; 15).
 ghost use mathlib.Core.Path.{_≡_};
-ghost use mathlib.Core.Bool.{false};
 ghost use Prim.Native.Nat.{_+_, _<_, _≤_};
 ghost use lib.ListN.{length};
 ghost use Rattle.lines.specs.Bytes.{part, sameBytes};
 ghost use Rattle.places.specs.Places.{valueOf};
 ghost use Rattle.serial.specs.Reading.{Ordered, sevenIn};
-ghost use Rattle.tables.specs.File.{gas, ofNumber};
-ghost use Rattle.due.specs.Values.{valuesOf, Held, NumberHeld, PairHeld};
-ghost use Rattle.rules.specs.Answer.{sevenOf, sameFields, isMarked};
+ghost use Rattle.tables.specs.File.{gas};
+ghost use Rattle.due.specs.Values.{valuesOf, Held, PairHeld};
+ghost use Rattle.rules.specs.Identification.{sevenOf, sameFields};
 use tables::pairs;
 
 // Whether the field between two ends is the value of pair k.
@@ -92,17 +91,4 @@ pub fn same_fields(answer: &[u8], ends: serial::FieldEnds, text: &[u8], places: 
         places,
         pairs::GAS_NUM_VERSIONE_PROTOCOLLO,
     )
-}
-
-// Whether CodErrore is filled.
-pub fn is_marked(file: u32, axles: usize, text: &[u8], places: &[u32]) -> bool
-    requires { ⌜ NumberHeld file axles (now text) (now places) ⌝ }
-    ensures { λ r. ⌜ r ≡ ofNumber false (λ f. isMarked f (valuesOf f axles (now (text .entry)) (now (places .entry)))) file ⌝ }
-{
-    match file {
-        3 => places::length_of(places, pairs::DRIFT_COD_ERRORE) > 0,
-        4 => places::length_of(places, pairs::SUSPENSION_COD_ERRORE) > 0,
-        5 => places::length_of(places, pairs::GAS_COD_ERRORE) > 0,
-        _ => false,
-    }
 }

@@ -1,18 +1,18 @@
--- `serial::read_answer` meets its contract: the tests are those of the definition; a framed answer has the bytes that are looked at. Assumes nothing.
+-- `serial::read_identification` meets its contract: the tests are those of the definition; a framed answer has the bytes that are looked at. Assumes nothing.
 use mathlib.Core.Path.{_≡_}
 use mathlib.Core.Bool.{true}
 use Prim.Native.Nat.{_≤_}
 use native.Mathlib.Omega.{arith}
 use borrow.Author.Needs.{needs}
 use lib.ListN.{length, length-take}
-use Rattle.serial.proofs.read_answer.Statement.{statement}
-use Rattle.serial.proofs.read_answer.Tie as tie
-use Rattle.serial.proofs.read_answer.Reads as reads
-use Rattle.serial.proofs.read_answer.Lts as lts
+use Rattle.serial.proofs.read_identification.Statement.{statement}
+use Rattle.serial.proofs.read_identification.Tie as tie
+use Rattle.serial.proofs.read_identification.Reads as reads
+use Rattle.serial.proofs.read_identification.Lts as lts
 use Rattle.serial.proofs.checksum_ok.Reads as checksum-ok-reads
 use Rattle.serial.proofs.is_framed.Reads as is-framed-reads
 use Rattle.serial.proofs.read_fields.Reads as read-fields-reads
-use Rattle.serial.specs.Reading.{framed, readAnswer}
+use Rattle.serial.specs.Reading.{framed, readIdentification}
 use Rattle.serial.proofs.Tests.{passed, failed}
 use Rattle.serial.proofs.Places.{framed-size}
 
@@ -26,7 +26,7 @@ is-framed-requires : tie.Need-is-framed-requires
 is-framed-requires c κs = search needs
 
 returns : tie.Need-returns
-unfolding readAnswer
+unfolding readIdentification
 returns c = rw (failed (c .before .is-framed .ensures) (c .if1 .taken))
 
 sub-end : tie.Need-sub-end
@@ -54,7 +54,7 @@ checksum-ok-requires : tie.Need-checksum-ok-requires
 checksum-ok-requires c κs = search needs
 
 returns-2 : tie.Need-returns-2
-unfolding readAnswer
+unfolding readIdentification
 returns-2 c = rw (good (c .before .before .before .before .before), failed (c .before .checksum-ok .ensures) (c .if2 .taken))
 
 slice-aggregate-read-fields : tie.Need-slice-aggregate-read-fields
@@ -64,13 +64,13 @@ read-fields-requires : tie.Need-read-fields-requires
 read-fields-requires c κs = simp length-take (omega (arith, size (c .before .before .before .before .before .before)))
 
 returns-3 : tie.Need-returns-3
-unfolding readAnswer
+unfolding readIdentification
 returns-3 c =
     let f = c .before .before in
     rw (good (f .before .before .before .before .before), passed (f .before .checksum-ok .ensures) (f .if2 .left)) (c .read-fields .ensures)
 
-pub read-answer-spec : {M : Type 1} → statement M
-read-answer-spec =
+pub read-identification-spec : {M : Type 1} → statement M
+read-identification-spec =
     tie.close
     (tie.spec
     is-framed-requires

@@ -1,15 +1,15 @@
--- `rules::answer::is_marked` meets its contract: CodErrore's length is that of its value; bookings have none. Assumes nothing.
+-- `rules::marks::is_marked` meets its contract: CodErrore's length is that of its value; bookings have none. Assumes nothing.
 use mathlib.Core.Path.{sym}
 use mathlib.Core.Bool.{false}
 use native.Mathlib.Omega.{arith}
 use Rattle.tables.specs.File.{File, drift, suspension, gas}
 use Rattle.due.specs.Values.{valuesOf}
-use Rattle.rules.specs.Answer.{isMarked}
+use Rattle.rules.specs.Marks.{isMarked}
 use Rattle.tables.proofs.Numbers.{first-pairs}
 use Rattle.due.proofs.Pairs.{of-number, of-others, number-held}
 use Rattle.rules.proofs.Rules.{drift-marked, suspension-marked, gas-marked, new-marked, old-marked}
-use Rattle.rules.proofs.answer.is_marked.Statement.{statement}
-use Rattle.rules.proofs.answer.is_marked.Tie as tie
+use Rattle.rules.proofs.marks.is_marked.Statement.{statement}
+use Rattle.rules.proofs.marks.is_marked.Tie as tie
 
 length-of-requires : tie.Need-length-of-requires
 length-of-requires c κs = omega (arith, first-pairs .5, c .before .before .before .pre .0)

@@ -26,16 +26,16 @@ use Rattle.due.specs.Due as U
 use Rattle.due.specs.Due.{conditionAt, conditionOf, exceptions}
 use Rattle.due.specs.declared.Condition.the-variants.{Always}
 use Rattle.due.proofs.FirstNotAsDue.{always-filled}
-use Rattle.rules.specs.Slices.{answerRight}
-use Rattle.rules.specs.Answer.{sevenOf, sameFields}
+use Rattle.rules.specs.Slices.{identificationRight}
+use Rattle.rules.specs.Identification.{sevenOf, sameFields}
 use Rattle.rules.proofs.Laws.{fields-same, fields-refl}
-use Rattle.serial.specs.Answer.{answerOf, addressOk, fieldOk, allFieldsOk, sevenOk}
-use Rattle.serial.specs.Reading.{readAnswer, addressIn, sevenIn}
-use Rattle.serial.specs.declared.AnswerRead.{AnswerRead}
-use Rattle.serial.specs.declared.AnswerRead.the-variants.{Malformed, Fields}
+use Rattle.serial.specs.Identification.{identificationOf, addressOk, fieldOk, allFieldsOk, sevenOk}
+use Rattle.serial.specs.Reading.{readIdentification, addressIn, sevenIn}
+use Rattle.serial.specs.declared.IdentificationRead.{IdentificationRead}
+use Rattle.serial.specs.declared.IdentificationRead.the-variants.{Malformed, Fields}
 use Rattle.serial.proofs.Exact.{Written, read-sound, Found, read-complete}
 use Rattle.sets.specs.Records.{isGiven, Address, EachAsDue}
-use Rattle.sets.specs.Judge.{judgeFields, judgeAnswer}
+use Rattle.sets.specs.Judge.{judgeFields, judgeIdentification}
 use Rattle.sets.proofs.Steps.{require-inv}
 
 -- ---- gas's seven values, where kinds and due entries are kept, are fields of an answer
@@ -105,38 +105,38 @@ module _ (a vs : List (List ℕ)) (kinds : EachKept (entries gas 0) vs) (dues : 
 
 -- ---- what is let through
 
-pub answer-sound : (gasGiven : Bool) (g : List (List ℕ)) (s v : List ℕ) → judgeAnswer gasGiven g s ≡ acceptance v
-    → (answerRight gasGiven g (isGiven s) ≡ true) × Address (isGiven s) v × (isGiven s ≡ true → s ≡ answerOf v (sevenOf g))
-unfolding judgeAnswer
-answer-sound gasGiven g s v e =
-    let i = require-inv (answerRight gasGiven g (isGiven s)) 11 6 0 (cond (isGiven s) (judgeFields g s (readAnswer s)) (acceptance [])) v e in
+pub identification-sound : (gasGiven : Bool) (g : List (List ℕ)) (s v : List ℕ) → judgeIdentification gasGiven g s ≡ acceptance v
+    → (identificationRight gasGiven g (isGiven s) ≡ true) × Address (isGiven s) v × (isGiven s ≡ true → s ≡ identificationOf v (sevenOf g))
+unfolding judgeIdentification
+identification-sound gasGiven g s v e =
+    let i = require-inv (identificationRight gasGiven g (isGiven s)) 11 6 0 (cond (isGiven s) (judgeFields g s (readIdentification s)) (acceptance [])) v e in
     let r = given (isGiven s) (i .1) in
     (i .0, r .0, r .1)
   where
-    fields : (r : AnswerRead) → readAnswer s ≡ r → judgeFields g s r ≡ acceptance v → (addressOk v ≡ true) × (s ≡ answerOf v (sevenOf g))
+    fields : (r : IdentificationRead) → readIdentification s ≡ r → judgeFields g s r ≡ acceptance v → (addressOk v ≡ true) × (s ≡ identificationOf v (sevenOf g))
     fields Malformed q e = clash (cc)
     fields (Fields x) q e =
         let i = require-inv (sameFields (sevenIn s x) (sevenOf g)) 15 6 0 (acceptance (addressIn s x)) v e in
         let f : sevenIn s x ≡ sevenOf g = fields-same (sevenIn s x) (sevenOf g) (i .0) in
         let a : addressIn s x ≡ v = cc (i .1) in
         let w : Written s x = read-sound s x q in
-        (ap addressOk (sym a) ∙ w .address, w .answer ∙ ap (λ (l : List ℕ). answerOf l (sevenIn s x)) a ∙ ap (answerOf v) f)
+        (ap addressOk (sym a) ∙ w .address, w .answer ∙ ap (λ (l : List ℕ). identificationOf l (sevenIn s x)) a ∙ ap (identificationOf v) f)
 
-    given : (b : Bool) → cond b (judgeFields g s (readAnswer s)) (acceptance []) ≡ acceptance v → Address b v × (b ≡ true → s ≡ answerOf v (sevenOf g))
-    given true e = let r = fields (readAnswer s) refl e in (r .0, λ h. r .1)
+    given : (b : Bool) → cond b (judgeFields g s (readIdentification s)) (acceptance []) ≡ acceptance v → Address b v × (b ≡ true → s ≡ identificationOf v (sevenOf g))
+    given true e = let r = fields (readIdentification s) refl e in (r .0, λ h. r .1)
     given false e = (cc, λ h. absurd (true≢false (sym h)))
 
 -- ---- what fits is let through
 
-found-accepted : (g : List (List ℕ)) (s v : List ℕ) → Found s v (sevenOf g) → judgeFields g s (readAnswer s) ≡ acceptance v
+found-accepted : (g : List (List ℕ)) (s v : List ℕ) → Found s v (sevenOf g) → judgeFields g s (readIdentification s) ≡ acceptance v
 found-accepted g s v f = rw (f .read, f .seven, fields-refl (sevenOf g), f .address) refl
 
-pub answer-complete : (gasGiven : Bool) (g : List (List ℕ)) (given : Bool) (s v : List ℕ) → given ≡ isGiven s → answerRight gasGiven g given ≡ true → Address given v
-    → (given ≡ true → (s ≡ answerOf v (sevenOf g)) × (sevenOk (sevenOf g) ≡ true))
-    → judgeAnswer gasGiven g s ≡ acceptance v
-unfolding judgeAnswer
-answer-complete gasGiven g true s v e r a h =
+pub identification-complete : (gasGiven : Bool) (g : List (List ℕ)) (given : Bool) (s v : List ℕ) → given ≡ isGiven s → identificationRight gasGiven g given ≡ true → Address given v
+    → (given ≡ true → (s ≡ identificationOf v (sevenOf g)) × (sevenOk (sevenOf g) ≡ true))
+    → judgeIdentification gasGiven g s ≡ acceptance v
+unfolding judgeIdentification
+identification-complete gasGiven g true s v e r a h =
     let w = h refl in
     let f : Found s v (sevenOf g) = subst (λ (t : List ℕ). Found t v (sevenOf g)) (sym (w .0)) (read-complete v (sevenOf g) a (w .1)) in
     rw (← e, r) (found-accepted g s v f)
-answer-complete gasGiven g false s v e r a h = rw (← e, r) (ap {B = Answer (List ℕ)} acceptance (sym a))
+identification-complete gasGiven g false s v e r a h = rw (← e, r) (ap {B = Answer (List ℕ)} acceptance (sym a))
