@@ -132,7 +132,15 @@ fn scan_lines(
                 if none <= cur {
                     return failed(RefusalKind::LineForm, line);
                 }
-                let row = tables::find_row(file, cur, place, names, sizes, tags, &text[start..equals]);
+                let row = tables::find_row(
+                    file,
+                    cur,
+                    place,
+                    names,
+                    sizes,
+                    tags,
+                    &text[start..equals],
+                );
                 let from = equals + 1;
                 if !take_row(numbers, starts, lengths, row, line, from, end - from) {
                     return failed(RefusalKind::EntryNotExpected, line);

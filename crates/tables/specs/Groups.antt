@@ -35,6 +35,13 @@ inRow n = n ++ replicate (34 - length n) 32
 unfoldable pub tagOf : List ℕ → ℕ
 tagOf s = (length s % 32 * 8 + getD s 0 0) % 256
 
+-- from row a on, r is the first with the tag t, or the number of rows where none has it
+pub record PassesTo (tags : List ℕ) (t a r : ℕ) : Type 0 where
+  pub on : a ≤ r
+  pub in-tags : r ≤ length tags
+  pub passed : (k : ℕ) → a ≤ k → k < r → getD tags k 0 ≡ t → ⊥
+  pub found : r < length tags → getD tags r 0 ≡ t
+
 -- rows, lengths and tags are those of the names ns
 pub record Lent (ns : List (List ℕ)) (rows : List (List ℕ)) (lengths tags : List ℕ) : Type 0 where
   pub rows-are : rows ≡ map inRow ns

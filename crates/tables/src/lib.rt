@@ -3,8 +3,8 @@
 pub mod groups; // groups.rt: the names of the entries, with their lengths and tags
 mod compare; // compare.rt: headings compared
 mod write; // write.rt: lines of headings written
-use groups::Row;
 
+use groups::Row;
 ghost use mathlib.Core.Path.{_≡_};
 ghost use Prim.Native.Nat.{_+_, _≤_, _<_};
 ghost use lib.ListN.{length, getD};
@@ -13,7 +13,7 @@ ghost use Rattle.lines.specs.Line.{heading as headingLine, entry as entryLine, 
 ghost use Rattle.lines.specs.Writing.{Wrote};
 ghost use Rattle.tables.specs.File.{tableOf, ofNumber, isFile, leastSections, fixedSections, firstPair, room};
 ghost use Rattle.tables.specs.Row.{entriesIn, names, nameIn, nameAt, headingAt, sectionOf, entryIn, rowsBefore, rowCount, rowAt};
-ghost use Rattle.tables.specs.Groups.{groupOf, tagOf, Lent, InRow, rowName, StandsAt, IsPlaceOf};
+ghost use Rattle.tables.specs.Groups.{groupOf, tagOf, PassesTo, Lent, InRow, rowName, StandsAt, IsPlaceOf};
 
 // Where a section stands: the row of its first entry in its group, how many entries it has, and the rows of its table
 // before it.
@@ -222,7 +222,37 @@ fn write_row(
     lines::write_entry(out, at, &name[..n], value)
 }
 
-// The entry of a name in a section whose names are lent, looked at in table order; the number of entries where it is
+// The first row from `from` on with that tag, one by one; the number of rows where none has it.
+fn next_row(tags: &[u8], from: usize, tag: u8) -> usize
+    requires { ⌜ from ≤ length (now tags) ⌝ }
+    ensures { λ r. ⌜ PassesTo (now (tags .entry)) tag from r ⌝ }
+{
+    let mut row = from;
+    while row < tags.len() {
+        if tags[row] == tag {
+            return row;
+        }
+        row += 1;
+    }
+    row
+}
+
+// Likewise, passing over eight rows at a time while none of the eight has that tag, then one by one.
+fn pass_over(tags: &[u8], from: usize, tag: u8) -> usize
+    requires { ⌜ from ≤ length (now tags) ⌝ }
+    ensures { λ r. ⌜ PassesTo (now (tags .entry)) tag from r ⌝ }
+{
+    let mut row = from;
+    while 8 <= tags.len() - row {
+        if !lines::lacks(tags, row, tag) {
+            return next_row(tags, row, tag);
+        }
+        row += 8;
+    }
+    next_row(tags, row, tag)
+}
+
+// The entry of a name in a section whose names are lent, looked for in table order; the number of entries where it is
 // none of the section's. A name is compared only where its tag is the part's.
 fn find_entry(
     file: u32,
@@ -236,14 +266,12 @@ fn find_entry(
     ensures { λ r. ⌜ r ≡ entryIn (tableOf file) section (now (part .entry)) ⌝ }
 {
     let tag = tag_of(part);
-    let mut entry = 0;
+    let mut entry = pass_over(tags, 0, tag);
     while entry < tags.len() {
-        if tags[entry] == tag {
-            if is_row(rows, lengths, entry, part) {
-                return entry;
-            }
+        if is_row(rows, lengths, entry, part) {
+            return entry;
         }
-        entry += 1;
+        entry = pass_over(tags, entry + 1, tag);
     }
     entry
 }
@@ -309,11 +337,46 @@ fn write_listed(file: u32, row: usize, value: &[u8], out: &mut [u8], at: usize) 
     ensures { λ r. ⌜ Wrote (now (out .entry)) at (writtenLine (entryLine (nameIn (groupOf file) row) (now (value .entry)))) (now (out .exit)) r ⌝ }
 {
     match file {
-        2 => write_row(&groups::old_booking_rows(), &groups::old_booking_lengths(), row, value, out, at),
-        3 => write_row(&groups::tester_rows(), &groups::tester_lengths(), row, value, out, at),
-        4 => write_row(&groups::tester_rows(), &groups::tester_lengths(), row, value, out, at),
-        5 => write_row(&groups::gas_rows(), &groups::gas_lengths(), row, value, out, at),
-        _ => write_row(&groups::new_booking_rows(), &groups::new_booking_lengths(), row, value, out, at),
+        2 => write_row(
+            &groups::old_booking_rows(),
+            &groups::old_booking_lengths(),
+            row,
+            value,
+            out,
+            at,
+        ),
+        3 => write_row(
+            &groups::tester_rows(),
+            &groups::tester_lengths(),
+            row,
+            value,
+            out,
+            at,
+        ),
+        4 => write_row(
+            &groups::tester_rows(),
+            &groups::tester_lengths(),
+            row,
+            value,
+            out,
+            at,
+        ),
+        5 => write_row(
+            &groups::gas_rows(),
+            &groups::gas_lengths(),
+            row,
+            value,
+            out,
+            at,
+        ),
+        _ => write_row(
+            &groups::new_booking_rows(),
+            &groups::new_booking_lengths(),
+            row,
+            value,
+            out,
+            at,
+        ),
     }
 }
 

@@ -6,5 +6,5 @@ use Rattle.tables.proofs.groups.gas_lengths.Statement.{statement}
 use Rattle.tables.proofs.groups.gas_lengths.Tie as tie
 
 pub gas-lengths-spec : {M : Type 1} → statement M
-unfolding gasEntries analysis fuelAnalysis analyser counter speedTest protocol allKeyDates allKeyBodies measurement 
+unfolding gasEntries analysis fuelAnalysis analyser counter speedTest protocol allKeyDates allKeyBodies measurement
 gas-lengths-spec = tie.close (tie.spec (λ c. refl))

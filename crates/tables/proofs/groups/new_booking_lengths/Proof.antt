@@ -5,5 +5,5 @@ use Rattle.tables.proofs.groups.new_booking_lengths.Statement.{statemen
 use Rattle.tables.proofs.groups.new_booking_lengths.Tie as tie
 
 pub new-booking-lengths-spec : {M : Type 1} → statement M
-unfolding newBooking 
+unfolding newBooking
 new-booking-lengths-spec = tie.close (tie.spec (λ c. refl))

@@ -5,5 +5,5 @@ use Rattle.tables.proofs.groups.old_booking_lengths.Statement.{statemen
 use Rattle.tables.proofs.groups.old_booking_lengths.Tie as tie
 
 pub old-booking-lengths-spec : {M : Type 1} → statement M
-unfolding oldBooking 
+unfolding oldBooking
 old-booking-lengths-spec = tie.close (tie.spec (λ c. refl))

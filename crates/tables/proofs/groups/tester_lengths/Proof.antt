@@ -6,5 +6,5 @@ use Rattle.tables.proofs.groups.tester_lengths.Statement.{statement}
 use Rattle.tables.proofs.groups.tester_lengths.Tie as tie
 
 pub tester-lengths-spec : {M : Type 1} → statement M
-unfolding testers sixteen tester protocol measurement driftAxle suspensionAxle 
+unfolding testers sixteen tester protocol measurement driftAxle suspensionAxle
 tester-lengths-spec = tie.close (tie.spec (λ c. refl))
