@@ -7,7 +7,8 @@ ghost use Rattle.lines.specs.Bytes.{allPrintable};
 ghost use Rattle.places.specs.Places.{valueAt};
 ghost use mathlib.Core.Bool.{true};
 ghost use Rattle.tables.specs.File.{tableOf, isFile, ofNumber, leastSections, leastPlaces};
-ghost use Rattle.tables.specs.Row.{rowCount};
+ghost use Rattle.tables.specs.Row.{names as namesOf, rowCount};
+ghost use Rattle.tables.specs.Groups.{groupOf, Lent};
 ghost use Rattle.reading.specs.Reading.{slots, emptySlots, sectionsFound, checkGap, checkAbsent, checkKinds, keptRow, ownerRow};
 ghost use Rattle.reading.specs.Scanning.{Took, Ready, Scanned};
 ghost use Rattle.rows.specs.Rows.{rowKind};
@@ -18,6 +19,8 @@ use lines::LineRead;
 use refusals::Refusal;
 use refusals::RefusalKind;
 use rows::HEADING;
+use tables::groups;
+use tables::groups::Row;
 
 // What an accepted file says: its axle count, 0 for a file without axles.
 pub struct FileAcceptance {
@@ -81,18 +84,21 @@ fn failed(kind: RefusalKind, line: usize) -> Outcome
     })
 }
 
-// All lines of the text, into the rows of the file's table: the first with 4, 5 or 6.
-fn scan_text(
+// All lines of the text, into the rows of the file's table: the first with 4, 5 or 6. The names of the file's entries are
+// lent, with their sizes and tags.
+fn scan_lines(
     file: u32,
+    names: &[Row],
+    sizes: &[u8],
+    tags: &[u8],
     text: &[u8],
     numbers: &mut [u32],
     starts: &mut [u32],
     lengths: &mut [u32],
 ) -> Outcome
-    requires { ⌜ Ready (tableOf file) (now text) (slots (now numbers) (now starts) (now lengths)) ⌝ }
+    requires { ⌜ Lent (namesOf (groupOf file)) (now names) (now sizes) (now tags) × Ready (tableOf file) (now text) (slots (now numbers) (now starts) (now lengths)) ⌝ }
     ensures { λ r. ⌜ Scanned (tableOf file) (now (text .entry)) (slots (now (numbers .entry)) (now (starts .entry)) (now (lengths .entry))) (slots (now (numbers .exit)) (now (starts .exit)) (now (lengths .exit))) (scanIs r (slots (now (numbers .exit)) (now (starts .exit)) (now (lengths .exit)))) ⌝ }
 {
-    let tags = tables::name_tags();
     let none = tables::section_count(file);
     let mut c = Cursor::new();
     let mut cur = none;
@@ -126,7 +132,15 @@ fn scan_text(
                 if none <= cur {
                     return failed(RefusalKind::LineForm, line);
                 }
-                let row = tables::find_row(file, cur, place, &tags, &text[start..equals]);
+                let row = tables::find_row(
+                    file,
+                    cur,
+                    place,
+                    names,
+                    sizes,
+                    tags,
+                    &text[start..equals],
+                );
                 let from = equals + 1;
                 if !take_row(numbers, starts, lengths, row, line, from, end - from) {
                     return failed(RefusalKind::EntryNotExpected, line);
@@ -134,6 +148,71 @@ fn scan_text(
                 c = next;
             }
         }
+    }
+}
+
+// All lines of the text, with the names of the file's group laid out for them.
+fn scan_text(
+    file: u32,
+    text: &[u8],
+    numbers: &mut [u32],
+    starts: &mut [u32],
+    lengths: &mut [u32],
+) -> Outcome
+    requires { ⌜ Ready (tableOf file) (now text) (slots (now numbers) (now starts) (now lengths)) ⌝ }
+    ensures { λ r. ⌜ Scanned (tableOf file) (now (text .entry)) (slots (now (numbers .entry)) (now (starts .entry)) (now (lengths .entry))) (slots (now (numbers .exit)) (now (starts .exit)) (now (lengths .exit))) (scanIs r (slots (now (numbers .exit)) (now (starts .exit)) (now (lengths .exit)))) ⌝ }
+{
+    match file {
+        2 => scan_lines(
+            file,
+            &groups::old_booking_rows(),
+            &groups::old_booking_lengths(),
+            &groups::old_booking_tags(),
+            text,
+            numbers,
+            starts,
+            lengths,
+        ),
+        3 => scan_lines(
+            file,
+            &groups::tester_rows(),
+            &groups::tester_lengths(),
+            &groups::tester_tags(),
+            text,
+            numbers,
+            starts,
+            lengths,
+        ),
+        4 => scan_lines(
+            file,
+            &groups::tester_rows(),
+            &groups::tester_lengths(),
+            &groups::tester_tags(),
+            text,
+            numbers,
+            starts,
+            lengths,
+        ),
+        5 => scan_lines(
+            file,
+            &groups::gas_rows(),
+            &groups::gas_lengths(),
+            &groups::gas_tags(),
+            text,
+            numbers,
+            starts,
+            lengths,
+        ),
+        _ => scan_lines(
+            file,
+            &groups::new_booking_rows(),
+            &groups::new_booking_lengths(),
+            &groups::new_booking_tags(),
+            text,
+            numbers,
+            starts,
+            lengths,
+        ),
     }
 }
 

@@ -2,12 +2,15 @@
 use Prim.Native.Nat.{ℕ, zero, suc, _+_, _*_, _^_, _<_, _≤_}
 use native.Mathlib.Omega.{arith}
 use mathlib.Core.Path.{_≡_, refl, sym, ap, ap₂, _∙_}
-use mathlib.Core.Bool.{Bool, true, false, cond, _&&_}
+use mathlib.Core.Bool.{Bool, true, false, cond, not, _&&_}
+use mathlib.Core.List.{List}
 use lib.Dec.{eqb}
-use lib.Bits.{bitAnd, bitOr, bitXor, and-block, or-block, xor-block, and-lt, or-lt, xor-lt, and-le-r}
-use borrow.Author.Tests.{eqb-true}
+use lib.ListN.{length, getD, take, drop}
+use lib.Seq.{drop-cons}
+use lib.Bits.{bitAnd, bitOr, bitXor, and-block, or-block, xor-block, and-lt, or-lt, xor-lt, and-le-l, and-le-r, xor-add-and, xor-self}
+use borrow.Author.Tests.{eqb-true, eqb-false, eq-eqb, ne-eqb}
 use borrow.Author.Count.{below-more}
-use Rattle.lines.specs.Bytes.{isPrintable, isName}
+use Rattle.lines.specs.Bytes.{isPrintable, isName, without}
 use Rattle.lines.specs.Words.{lanes}
 use Rattle.lines.proofs.Bools.{and-left, and-right}
 
@@ -125,3 +128,52 @@ module _ (i x : ℕ) (f : ℕ → ℕ) (h : Holds i x f) where
       holds-same i _ (λ (k : ℕ). cond (isName (f k)) 0 128)
       (holds-and i (holds-or i (holds-or i h high) (holds-xor i (holds-and i shown other) eighth)) eighth)
       (λ k. name-stop (f k) (h .small k))
+
+-- ---- bytes that are not b
+
+zero-stop : (y : ℕ) → y < 256 → bitAnd (bitOr (bitAnd y 127 + 127) y) 128 ≡ cond (eqb y 0) 0 128
+zero-stop y h = eqb-true _ _ (each-below (λ (k : ℕ). eqb (bitAnd (bitOr (bitAnd k 127 + 127) k) 128) (cond (eqb k 0) 0 128)) 256 refl y h)
+
+by-eqb : (a b : ℕ) (P : Type 0) → (a ≡ b → P) → ((a ≡ b → ⊥) → P) → P
+by-eqb a b P y n = by (eqb a b) refl
+  where
+    by : (t : Bool) → eqb a b ≡ t → P
+    by true e = y (eqb-true a b e)
+    by false e = n (eqb-false a b e)
+
+-- bits that do not differ are the same
+xor-none : (a b : ℕ) → eqb (bitXor a b) 0 ≡ eqb a b
+xor-none a b =
+    by-eqb (bitXor a b) 0 (eqb (bitXor a b) 0 ≡ eqb a b)
+    (λ e. eq-eqb _ _ e ∙ sym (eq-eqb a b (omega (arith, xor-add-and a b, and-le-l a b, and-le-r a b))))
+    (λ n. ne-eqb _ _ n ∙ sym (ne-eqb a b (λ e. n (ap (λ (c : ℕ). bitXor c b) e ∙ xor-self b))))
+
+module _ (i x b : ℕ) (f : ℕ → ℕ) (l : b < 256) (h : Holds i x f) where
+  mixed : Holds i (bitXor x (b * 0x0101010101010101)) (λ (k : ℕ). bitXor (f k) b)
+  unfolding lanes
+  mixed = holds-xor i h (always i b l (b * 0x0101010101010101) (omega arith))
+
+  pub lacks-mask :
+      bitAnd (bitOr (bitAnd (bitXor x (b * 0x0101010101010101)) 0x7f7f7f7f7f7f7f7f + 0x7f7f7f7f7f7f7f7f) (bitXor x (b * 0x0101010101010101))) 0x8080808080808080
+      ≡ lanes (λ (k : ℕ). cond (eqb (f k) b) 0 128) 8 i
+  unfolding lanes
+  lacks-mask =
+      let x' = bitXor x (b * 0x0101010101010101) in
+      let g : ℕ → ℕ = λ (k : ℕ). bitXor (f k) b in
+      let sum = holds-add i (low i x' g mixed) (always i 127 (omega arith) 0x7f7f7f7f7f7f7f7f refl) (λ k. omega (arith, and-le-r (g k) 127)) in
+      holds-same i _ (λ (k : ℕ). cond (eqb (f k) b) 0 128)
+      (holds-and i (holds-or i sum mixed) (eighth i x' g mixed))
+      (λ k. zero-stop (g k) (mixed .small k) ∙ ap (λ (t : Bool). cond t 0 128) (xor-none (f k) b))
+
+-- the numbers agree exactly where no byte is b
+module _ (b : ℕ) (s : List ℕ) where
+  lacks-first : (m e : ℕ) (t w : Bool) → eqb m e ≡ w → eqb (m * 256 + cond t 0 128) (e * 256 + 128) ≡ (not t && w)
+  lacks-first m e true w q = ne-eqb _ _ (λ (z : m * 256 + 0 ≡ e * 256 + 128). omega arith)
+  lacks-first m e false true q = eq-eqb (m * 256 + 128) (e * 256 + 128) (omega (arith, eqb-true m e q))
+  lacks-first m e false false q = ne-eqb _ _ (λ (z : m * 256 + 128 ≡ e * 256 + 128). eqb-false m e q (omega arith))
+
+  pub lacks-is : (n i : ℕ) → i + n ≤ length s → eqb (lanes (λ (k : ℕ). cond (eqb (getD s k 0) b) 0 128) n i) (lanes (λ (k : ℕ). 128) n i) ≡ without b (take n (drop i s))
+  unfolding lanes without
+  lacks-is zero i h = refl
+  lacks-is (suc n) i h =
+      rw (drop-cons s i 0 (omega arith)) (lacks-first _ _ (eqb (getD s i 0) b) (without b (take n (drop (suc i) s))) (lacks-is n (suc i) (omega arith)))

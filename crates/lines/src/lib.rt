@@ -2,9 +2,9 @@
 ghost use mathlib.Core.Path.{_≡_};
 ghost use mathlib.Core.List.{_++_};
 ghost use Prim.Native.Nat.{_+_, _/_, _<_, _≤_, min};
-ghost use lib.ListN.{length, drop};
+ghost use lib.ListN.{length, take, drop};
 ghost use lib.Count.{trailingZeros};
-ghost use Rattle.lines.specs.Bytes.{isPrintable, isName, allPrintable, sameBytes, printableRun, nameRun};
+ghost use Rattle.lines.specs.Bytes.{isPrintable, isName, allPrintable, sameBytes, without, printableRun, nameRun};
 ghost use Rattle.lines.specs.Words.{wordAt, stopsAt};
 ghost use Rattle.lines.specs.Line.{heading, entry, writtenLine, writtenLength};
 ghost use Rattle.lines.specs.Reading.{start, isLine, lineAt};
@@ -88,6 +88,17 @@ fn name_stops(text: &[u8], i: usize) -> u64
     let shown = low + 0x6060606060606060;
     let other = (low ^ 0x3d3d3d3d3d3d3d3d) + 0x7f7f7f7f7f7f7f7f;
     (x | high | ((shown & other) ^ 0x8080808080808080)) & 0x8080808080808080
+}
+
+// Whether none of the eight bytes from `i` on is `b`. A byte that differs from `b` in some bit has its high bit, or its low
+// seven bits plus 7F hex have it.
+pub fn lacks(bytes: &[u8], i: usize, b: u8) -> bool
+    requires { ⌜ i + 8 ≤ length (now bytes) ⌝ }
+    ensures { λ r. ⌜ r ≡ without b (take 8 (drop i (now (bytes .entry)))) ⌝ }
+{
+    let x = word(bytes, i) ^ (wide(b) * 0x0101010101010101);
+    let other = (x & 0x7f7f7f7f7f7f7f7f) + 0x7f7f7f7f7f7f7f7f;
+    (other | x) & 0x8080808080808080 == 0x8080808080808080
 }
 
 // In which byte of a number its lowest 1 stands, 0 for the lowest byte.

@@ -6,7 +6,7 @@ use native.Mathlib.Nat.{zero-add}
 use mathlib.Core.Path.{_≡_, ap, sym, _∙_}
 use mathlib.Core.Option.{Option, none, some}
 use mathlib.Core.List.{List, [], _∷_, _++_, append-assoc}
-use lib.ListN.{length, getD, set, take}
+use lib.ListN.{length, getD, set, take, length-append}
 use lib.Seq.{paste, paste-suc, length-take-le, take-at}
 use borrow.Author.Tests.{le-leb, lt-leb, le-ltb, lt-ltb}
 use Rattle.lines.specs.Line.{heading, entry, lineEnd, writtenLine}
@@ -36,6 +36,13 @@ copy-end d s n i e h = rw (e, length-take-le n s h)
 first-bytes : {d e : List ℕ} {r : ℕ} (s t : List ℕ) (n : ℕ) → Wrote d 0 (s ++ t) e r → n ≡ length s → take n e ≡ s
 unfolding put
 first-bytes s t n w l = rw (w .list, append-assoc s t) (take-at s _ n (sym l))
+
+-- how long what was written is
+pub entry-size : {d e : List ℕ} {r : ℕ} (s : List ℕ) → Wrote d 0 (writtenLine (entry s [])) e r → r ≡ length s + 3
+entry-size s w = omega (arith, w .place, length-append (s ++ (61 ∷ [])) lineEnd, length-append s (61 ∷ []))
+
+pub heading-size : {d e : List ℕ} {r : ℕ} (s : List ℕ) → Wrote d 0 (writtenLine (heading s)) e r → r ≡ length s + 2
+heading-size s w = omega (arith, w .place, length-append s lineEnd)
 
 -- ---- ways out
 

@@ -97,7 +97,7 @@ fn refuse(file: u32) -> NameAnswer
     })
 }
 
-// The name of a file's entry of that number, in the order of the pairs with all nine axles.
+// The name of a file's entry of that number, in the order of the pairs with all nine axles. Its line ends in `=`, CR LF.
 pub fn copy_entry_name(file: u32, entry: u32, output: &mut [u8]) -> NameAnswer
     ensures { λ r. ⌜ Copies file (entryName file entry) (now (output .entry)) (now (output .exit)) r ⌝ }
 {
@@ -108,17 +108,11 @@ pub fn copy_entry_name(file: u32, entry: u32, output: &mut [u8]) -> NameAnswer
         return refuse(file);
     }
     let mut line = [0u8; LINE_SIZE];
-    tables::write_entry(file, section, place, b"", &mut line, 0);
-    copy_name(
-        file,
-        section,
-        &line,
-        tables::name_length(file, section, place),
-        output,
-    )
+    let end = tables::write_entry(file, section, place, b"", &mut line, 0);
+    copy_name(file, section, &line, end - 3, output)
 }
 
-// The heading of a file's section of that number, brackets included.
+// The heading of a file's section of that number, brackets included. Its line ends in CR LF.
 pub fn copy_heading(file: u32, section: u32, output: &mut [u8]) -> NameAnswer
     ensures { λ r. ⌜ Copies file (headingName file section) (now (output .entry)) (now (output .exit)) r ⌝ }
 {
@@ -127,12 +121,6 @@ pub fn copy_heading(file: u32, section: u32, output: &mut [u8]) -> NameAnswer
         return refuse(file);
     }
     let mut line = [0u8; LINE_SIZE];
-    tables::write_heading(file, place, &mut line, 0);
-    copy_name(
-        file,
-        place,
-        &line,
-        tables::heading_length(file, place),
-        output,
-    )
+    let end = tables::write_heading(file, place, &mut line, 0);
+    copy_name(file, place, &line, end - 2, output)
 }

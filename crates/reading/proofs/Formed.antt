@@ -17,12 +17,11 @@ use Rattle.kinds.specs.Value.{width}
 use Rattle.kinds.proofs.Values.{kept}
 use Rattle.tables.specs.Section.{Entry, Section, entriesOf}
 use Rattle.tables.specs.Row.{names}
-use Rattle.tables.specs.Lists.{joined}
 use Rattle.orders.specs.AnyOrder.{Name, Value, Table, Values, Perm, zip, Group, Each, done, next}
 use Rattle.orders.specs.Rows.{Row, headingRow, entryRow, rowValues}
 use Rattle.orders.proofs.Items.{Item, items, All, all-perm, all-join}
 use Rattle.orders.proofs.Complete.{entryItem, zip-section, order-items}
-use Rattle.reading.specs.Fitting.{nameTable, FitsText, EachKept}
+use Rattle.reading.specs.Fitting.{joined, nameTable, FitsText, EachKept}
 use Rattle.reading.specs.Tables.{cleanEntries, cleanTable, entriesLength, tableLength, valuesLength, widths, mostBytes, shortTable}
 use Rattle.reading.proofs.Lookup.{tableRows}
 

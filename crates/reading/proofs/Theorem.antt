@@ -17,7 +17,6 @@ use Rattle.kinds.specs.Kind.{Kind}
 use Rattle.places.specs.Places.{Pair, valueAt, Within}
 use Rattle.tables.specs.Section.{Section, entriesOf}
 use Rattle.tables.specs.Row.{rowCount, rowsBefore}
-use Rattle.tables.specs.Lists.{joined}
 use Rattle.orders.specs.AnyOrder.{Value, Values, AnyOrder, zip}
 use Rattle.orders.specs.Rows as O
 use Rattle.orders.specs.Rows.{Row, Found, then, run, rowValues, bySection}
@@ -26,7 +25,7 @@ use Rattle.orders.proofs.Rows.{Distinct, distinct-append, distinct-rows}
 use Rattle.orders.proofs.Complete as C
 use Rattle.orders.proofs.Complete.{order-sections, order-length}
 use Rattle.orders.proofs.Sound as S
-use Rattle.reading.specs.Fitting.{nameTable, headed, EachKept}
+use Rattle.reading.specs.Fitting.{joined, nameTable, headed, EachKept}
 use Rattle.reading.specs.Tables.{distinctRows, cleanTable}
 use Rattle.reading.specs.Reading.{rowKinds, Slots, emptySlots, Scan, stopped, scanned, scanText, Check, passes, fails, sectionsFound, checkLeast, isFound, checkGap, isAbsent, ownerRow, checkAbsent, keptRow, isWrong, checkKinds, ofEntries, Reading, read, unless, readSlots, judgeSlots, readScan, readText}
 use Rattle.reading.specs.Theorem.{IsText, ReadRight}

@@ -9,9 +9,8 @@ use lib.Seq.{length-take-le}
 use Rattle.places.specs.Places.{Pair, valueAt}
 use Rattle.tables.specs.Section.{Entry, Section, entriesOf}
 use Rattle.tables.specs.Row.{names}
-use Rattle.tables.specs.Lists.{joined}
 use Rattle.orders.specs.AnyOrder.{Value, Values, zip, linesOf, Each, done, next}
-use Rattle.reading.specs.Fitting.{nameTable, FitsText, EachKept}
+use Rattle.reading.specs.Fitting.{joined, nameTable, FitsText, EachKept}
 use Rattle.reading.specs.Tables.{distinctRows, cleanTable}
 use Rattle.reading.specs.Reading.{read, readText}
 use Rattle.reading.specs.Theorem.{IsText}

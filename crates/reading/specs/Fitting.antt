@@ -9,8 +9,12 @@ use Rattle.lines.specs.Line.{Line, heading, entry, lineBytes, textOf, allWellFo
 use Rattle.kinds.specs.Value.{kindKept}
 use Rattle.tables.specs.Section.{Entry, Section}
 use Rattle.tables.specs.Row.{names}
-use Rattle.tables.specs.Lists.{joined}
 use Rattle.orders.specs.AnyOrder.{Name, Value, Table, Values, AnyOrder}
+
+-- lists one after another
+unfoldable pub joined : {A : Type 0} → List (List A) → List A
+joined [] = []
+joined (l ∷ ls) = l ++ joined ls
 
 -- the headings, each with its entries' names
 abbrev pub nameTable : List Section → Table

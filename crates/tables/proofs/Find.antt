@@ -1,20 +1,22 @@
 -- One turn of a sequential look-up, and what a look-up finds. Assumes nothing.
-use Prim.Native.Nat.{ℕ, zero, suc, _+_, _≤_, _<_}
+use Prim.Native.Nat.{ℕ, zero, suc, _+_, _-_, _≤_, _<_}
 use native.Mathlib.Nat.{zero-add, le-of-suc-le-suc}
 use native.Mathlib.Omega.{arith}
 use mathlib.Core.Path.{_≡_, refl, ap, sym, _∙_}
-use mathlib.Core.Bool.{true, false}
+use mathlib.Core.Bool.{true, false, not, false≢true}
 use mathlib.Core.List.{List, [], _∷_}
-use lib.Dec.{leb}
-use lib.ListN.{length, getD, drop}
-use borrow.Author.Tests.{leb-true}
-use Rattle.lines.specs.Bytes.{sameBytes}
+use lib.Dec.{leb, ltb, eqb}
+use lib.ListN.{length, getD, take, drop, length-take, length-drop}
+use lib.Seq.{getD-take, getD-drop}
+use borrow.Author.Tests.{leb-true, ltb-true, ltb-false, eq-eqb}
+use Rattle.lines.specs.Bytes.{sameBytes, without}
 use Rattle.lines.proofs.Bools.{and-left, and-right}
 use Rattle.lines.proofs.Bytes.{same-is, same-refl}
 use Rattle.kinds.specs.Value.{isWordAt, wordIndex}
 use Rattle.kinds.proofs.Laws.{index-here, index-later, index-end, by-test}
 use Rattle.tables.specs.Row.{indexOf}
 use Rattle.tables.specs.Test.{distinct}
+use Rattle.tables.specs.Groups.{PassesTo}
 
 word-is : (ns : List (List ℕ)) (i : ℕ) (s : List ℕ) → i < length ns → isWordAt ns i s ≡ sameBytes s (getD ns i [])
 unfolding isWordAt
@@ -61,3 +63,49 @@ found-at (n ∷ ns) (suc i) d h =
     let l : length ns ≤ indexOf (getD ns i []) ns = rw (sym (same-is (getD ns i []) n e)) at (leb-true (length ns) (indexOf n ns) (and-left (leb (length ns) (indexOf n ns)) (distinct ns) d)) in
     absurd (omega (arith, found-in ns i k)))
     (λ e. rw e (ap suc (found-at ns i (and-right (leb (length ns) (indexOf n ns)) (distinct ns) d) k)))
+
+-- ---- rows passed over by their tags
+
+without-none : (b : ℕ) (s : List ℕ) (k : ℕ) → without b s ≡ true → k < length s → getD s k 0 ≡ b → ⊥
+unfolding without
+without-none b [] k e h p = omega arith
+without-none b (x ∷ s) zero e h p = false≢true (sym (ap not (eq-eqb x b p)) ∙ and-left (not (eqb x b)) (without b s) e)
+without-none b (x ∷ s) (suc k) e h p = without-none b s k (and-right (not (eqb x b)) (without b s) e) (le-of-suc-le-suc h) p
+
+-- no row from a to r has the tag t
+abbrev pub NoneFrom : (tags : List ℕ) (t a r : ℕ) → Type 0
+NoneFrom tags t a r = (k : ℕ) → a ≤ k → k < r → getD tags k 0 ≡ t → ⊥
+
+module _ (tags : List ℕ) (t a r : ℕ) (n : NoneFrom tags t a r) where
+  pub none-more : (getD tags r 0 ≡ t → ⊥) → NoneFrom tags t a (r + 1)
+  none-more e k h l p = by-test (ltb k r) (λ q. n k h (ltb-true _ _ q) p) (λ q. let s : k ≡ r = omega (arith, ltb-false k r q) in e (ap (λ (i : ℕ). getD tags i 0) (sym s) ∙ p))
+
+  -- a block of eight
+  pub none-block : r + 8 ≤ length tags → without t (take 8 (drop r tags)) ≡ true → NoneFrom tags t a (r + 8)
+  none-block m e k h l p =
+      by-test (ltb k r)
+      (λ q. n k h (ltb-true _ _ q) p)
+      (λ q.
+      let b : r ≤ k = ltb-false k r q in
+      let s : r + (k - r) ≡ k = omega arith in
+      let j : k - r < 8 = omega arith in
+      without-none t (take 8 (drop r tags)) (k - r) e
+      (omega (arith, length-take 8 (drop r tags), length-drop r tags))
+      (getD-take 8 (drop r tags) (k - r) 0 j ∙ getD-drop r tags (k - r) 0 ∙ ap (λ (i : ℕ). getD tags i 0) s ∙ p))
+
+-- from a later row on
+pub passes-from : {tags : List ℕ} {t a b r : ℕ} → a ≤ b → NoneFrom tags t a b → PassesTo tags t b r → PassesTo tags t a r
+passes-from {tags} {t} {a} {b} {r} h n p =
+    record {
+      on = omega (arith, p .on);
+      in-tags = p .in-tags;
+      passed = λ k x y. by-test (ltb k b) (λ q. n k x (ltb-true _ _ q)) (λ q. p .passed k (ltb-false _ _ q) y);
+      found = p .found;
+    }
+
+-- the look-up goes on where they end
+module _ (s : List ℕ) (ns : List (List ℕ)) where
+  pub find-passed : (d a r : ℕ) → r ≡ a + d → r ≤ length ns → ((k : ℕ) → a ≤ k → k < r → sameBytes s (getD ns k []) ≡ false)
+      → a + indexOf s (drop a ns) ≡ r + indexOf s (drop r ns)
+  find-passed zero a r e h n = ap (λ (i : ℕ). i + indexOf s (drop i ns)) (sym (omega arith))
+  find-passed (suc d) a r e h n = find-next s ns a (omega arith) (n a (omega arith) (omega arith)) ∙ find-passed d (a + 1) r (omega arith) h (λ k b l. n k (omega arith) l)

@@ -1,10 +1,9 @@
 pub mod Names
-pub mod Pieces
 pub mod Files
 pub mod Sections
 pub mod Find
 pub mod Headings
-pub mod Lists
+pub mod NameRows
 pub mod Rows
 pub mod Axles
 pub mod Numbers

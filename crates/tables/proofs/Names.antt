@@ -5,11 +5,8 @@ use mathlib.Core.Path.{_≡_, refl, ap, _∙_}
 use mathlib.Core.List.{List, [], _∷_, _++_}
 use lib.ListN.{length, getD, length-map, List·getD-eq-default, List·getD-append}
 use lib.Seq.{getD-append-add}
-use Rattle.kinds.specs.Kind.{WordList, links}
 use Rattle.tables.specs.Section.{Entry}
-use Rattle.tables.specs.Entries.{protocol}
 use Rattle.tables.specs.Row.{names, nameIn}
-use Rattle.tables.specs.Lists.{entryList, entryLists}
 
 pub name-none : (es : List Entry) {k : ℕ} → length es ≤ k → nameIn es k ≡ []
 unfolding nameIn
@@ -28,12 +25,3 @@ unfolding nameIn
 name-right es fs n {k} e h =
     let j : k ≡ length (names es) + (k - n) = rw (length-map es (λ e. e .name), e) (omega arith) in
     ap (λ (i : ℕ). getD (names (es ++ fs)) i []) j ∙ rw (names-append es fs) (getD-append-add (names es) (names fs) (k - n) [])
-
--- the words for the link are not part of a name
-pub same-names : (l : WordList) (k : ℕ) → nameIn (protocol l) k ≡ nameIn (protocol links) k
-unfolding nameIn protocol
-same-names l k = refl
-
-pub list-none : {k : ℕ} → length entryLists ≤ k → entryList k ≡ []
-unfolding entryList
-list-none h = List·getD-eq-default entryLists [] h

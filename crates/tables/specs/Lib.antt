@@ -4,4 +4,4 @@ pub mod File
 pub mod Row
 pub mod Value
 pub mod Test
-pub mod Lists
+pub mod Groups

@@ -25,8 +25,8 @@ loop-holds c = (omega arith, refl, rw (c .before .before .clear .ensures) refl)
 mul-answer : tie.Need-mul-answer Inv-loop μ-loop
 mul-answer c = search needs
 
-shared-slice-read-identification : tie.Need-shared-slice-read-identification Inv-loop μ-loop
-shared-slice-read-identification c = search needs
+shared-slice-read-answer : tie.Need-shared-slice-read-answer Inv-loop μ-loop
+shared-slice-read-answer c = search needs
 
 mul-answer-2 : tie.Need-mul-answer-2 Inv-loop μ-loop
 mul-answer-2 c = search needs
@@ -74,7 +74,7 @@ fill-spec =
     clear-requires
     loop-holds
     mul-answer
-    shared-slice-read-identification
+    shared-slice-read-answer
     mul-answer-2
     slice-write-answer
     add-i

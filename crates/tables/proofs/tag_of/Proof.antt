@@ -3,7 +3,7 @@ use borrow.Author.Needs.{needs}
 use native.Mathlib.Omega.{arith}
 use mathlib.Core.Path.{refl}
 use lib.ListN.{List·getD-eq-default}
-use Rattle.tables.specs.Lists.{tagOf}
+use Rattle.tables.specs.Groups.{tagOf}
 use Rattle.tables.proofs.tag_of.Statement.{statement}
 use Rattle.tables.proofs.tag_of.Tie as tie
 

@@ -1,0 +1,393 @@
+// The names of the entries by groups of files that share them, each name once, in a row of its own with blanks after it;
+// beside them their lengths and tags. An array is laid out where it is used: a reader takes those of its file once, and
+// lends them to each look-up.
+ghost use mathlib.Core.Path.{_≡_};
+ghost use mathlib.Core.List.{map};
+ghost use lib.ListN.{length};
+ghost use Rattle.tables.specs.Entries.{newBooking, oldBooking};
+ghost use Rattle.tables.specs.Row.{names};
+ghost use Rattle.tables.specs.Groups.{testers, gasEntries, inRow, tagOf};
+
+// As many bytes as the longest name has.
+pub type Row = [u8; 34];
+
+const NEW_BOOKING_ROWS: [Row; 12] = [
+    *b"TargaNominale                     ",
+    *b"TipoVeicolo                       ",
+    *b"CategoriaInternazionale           ",
+    *b"CodiceCIC                         ",
+    *b"DataPrimaImm                      ",
+    *b"Alimentazione_1                   ",
+    *b"Turbo                             ",
+    *b"CorrettorePressione               ",
+    *b"DirettivaEmissioniGasBenzinaAuto  ",
+    *b"DirettivaEmissioniGasMotociclo    ",
+    *b"AzionamentoFrenoStazionamento     ",
+    *b"PosAssiStaz                       ",
+];
+
+const NEW_BOOKING_LENGTHS: [u8; 12] = [
+    13, // TargaNominale
+    11, // TipoVeicolo
+    23, // CategoriaInternazionale
+    9, // CodiceCIC
+    12, // DataPrimaImm
+    15, // Alimentazione_1
+    5, // Turbo
+    19, // CorrettorePressione
+    32, // DirettivaEmissioniGasBenzinaAuto
+    30, // DirettivaEmissioniGasMotociclo
+    29, // AzionamentoFrenoStazionamento
+    11, // PosAssiStaz
+];
+
+const NEW_BOOKING_TAGS: [u8; 12] = [
+    188, // TargaNominale
+    172, // TipoVeicolo
+    251, // CategoriaInternazionale
+    139, // CodiceCIC
+    164, // DataPrimaImm
+    185, // Alimentazione_1
+    124, // Turbo
+    219, // CorrettorePressione
+    68, // DirettivaEmissioniGasBenzinaAuto
+    52, // DirettivaEmissioniGasMotociclo
+    41, // AzionamentoFrenoStazionamento
+    168, // PosAssiStaz
+];
+
+const OLD_BOOKING_ROWS: [Row; 6] = [
+    *b"TipoVeicolo                       ",
+    *b"DescrizioneVeicolo                ",
+    *b"AnnoPrimaImm                      ",
+    *b"Alimentazione_1                   ",
+    *b"FrenoStazionamento                ",
+    *b"NumAssiStazionamento              ",
+];
+
+const OLD_BOOKING_LENGTHS: [u8; 6] = [
+    11, // TipoVeicolo
+    18, // DescrizioneVeicolo
+    12, // AnnoPrimaImm
+    15, // Alimentazione_1
+    18, // FrenoStazionamento
+    20, // NumAssiStazionamento
+];
+
+const OLD_BOOKING_TAGS: [u8; 6] = [
+    172, // TipoVeicolo
+    212, // DescrizioneVeicolo
+    161, // AnnoPrimaImm
+    185, // Alimentazione_1
+    214, // FrenoStazionamento
+    238, // NumAssiStazionamento
+];
+
+const TESTER_ROWS: [Row; 20] = [
+    *b"Marca                             ",
+    *b"Tipo                              ",
+    *b"NumOmologa                        ",
+    *b"NumSerie                          ",
+    *b"DataScadenza                      ",
+    *b"NumVersioneSoftware               ",
+    *b"Note                              ",
+    *b"NumVersioneProtocollo             ",
+    *b"DataVersioneProtocollo            ",
+    *b"TipoCollegamento                  ",
+    *b"CircolareApplicata                ",
+    *b"CodErrore                         ",
+    *b"DataMisura                        ",
+    *b"InizioMisura                      ",
+    *b"FineMisura                        ",
+    *b"Operatore                         ",
+    *b"Deriva                            ",
+    *b"Aderenza%Sx                       ",
+    *b"Aderenza%Dx                       ",
+    *b"Differenza%                       ",
+];
+
+const TESTER_LENGTHS: [u8; 20] = [
+    5, // Marca
+    4, // Tipo
+    10, // NumOmologa
+    8, // NumSerie
+    12, // DataScadenza
+    19, // NumVersioneSoftware
+    4, // Note
+    21, // NumVersioneProtocollo
+    22, // DataVersioneProtocollo
+    16, // TipoCollegamento
+    18, // CircolareApplicata
+    9, // CodErrore
+    10, // DataMisura
+    12, // InizioMisura
+    10, // FineMisura
+    9, // Operatore
+    6, // Deriva
+    11, // Aderenza%Sx
+    11, // Aderenza%Dx
+    11, // Differenza%
+];
+
+const TESTER_TAGS: [u8; 20] = [
+    117, // Marca
+    116, // Tipo
+    158, // NumOmologa
+    142, // NumSerie
+    164, // DataScadenza
+    230, // NumVersioneSoftware
+    110, // Note
+    246, // NumVersioneProtocollo
+    244, // DataVersioneProtocollo
+    212, // TipoCollegamento
+    211, // CircolareApplicata
+    139, // CodErrore
+    148, // DataMisura
+    169, // InizioMisura
+    150, // FineMisura
+    151, // Operatore
+    116, // Deriva
+    153, // Aderenza%Sx
+    153, // Aderenza%Dx
+    156, // Differenza%
+];
+
+const GAS_ROWS: [Row; 53] = [
+    *b"MarcaAnalizzatore                 ",
+    *b"TipoAnalizzatore                  ",
+    *b"NumOmologaAnalizzatore            ",
+    *b"NumSerieAnalizzatore              ",
+    *b"NumVersSoftwareAnalizzatore       ",
+    *b"DataScadenzaAnalizzatore          ",
+    *b"MarcaContagiri                    ",
+    *b"TipoContagiri                     ",
+    *b"NumOmologaContagiri               ",
+    *b"NumSerieContagiri                 ",
+    *b"NumVersioneSoftwareContagiri      ",
+    *b"DataScadenzaContagiri             ",
+    *b"TipoCollegamentoContagiri         ",
+    *b"NumVersioneProtocolloContagiri    ",
+    *b"MarcaProvaVelocita                ",
+    *b"TipoProvaVelocita                 ",
+    *b"NumOmologaProvaVelocita           ",
+    *b"NumSerieProvaVelocita             ",
+    *b"NumVersioneSoftwareProvaVelocita  ",
+    *b"NumVersioneProtocolloProvaVelocita",
+    *b"DataScadenzaProvaVelocita         ",
+    *b"Note                              ",
+    *b"NumVersioneProtocollo             ",
+    *b"DataVersioneProtocollo            ",
+    *b"TipoCollegamento                  ",
+    *b"CircolareApplicata                ",
+    *b"IDChiaveRS                        ",
+    *b"DataRegChiaveRS                   ",
+    *b"IDChiaveContagiriRS               ",
+    *b"DataRegChiaveContagiriRS          ",
+    *b"IDChiaveProvaVelocitaRS           ",
+    *b"DataRegChiaveProvaVelocitaRS      ",
+    *b"ChecksumRS                        ",
+    *b"ModuloChiaveRS                    ",
+    *b"EsponenteChiaveRS                 ",
+    *b"ChecksumContagiriRS               ",
+    *b"ModuloChiaveContagiriRS           ",
+    *b"EsponenteChiaveContagiriRS        ",
+    *b"ChecksumProvaVelocitaRS           ",
+    *b"ModuloChiaveProvaVelocitaRS       ",
+    *b"EsponenteChiaveProvaVelocitaRS    ",
+    *b"CodErrore                         ",
+    *b"DataMisura                        ",
+    *b"InizioMisura                      ",
+    *b"FineMisura                        ",
+    *b"Operatore                         ",
+    *b"COMin                             ",
+    *b"COCorrettoMin                     ",
+    *b"CO2Min                            ",
+    *b"HCMin                             ",
+    *b"O2Min                             ",
+    *b"NumGiriMotoreMin                  ",
+    *b"COMinAcc                          ",
+];
+
+const GAS_LENGTHS: [u8; 53] = [
+    17, // MarcaAnalizzatore
+    16, // TipoAnalizzatore
+    22, // NumOmologaAnalizzatore
+    20, // NumSerieAnalizzatore
+    27, // NumVersSoftwareAnalizzatore
+    24, // DataScadenzaAnalizzatore
+    14, // MarcaContagiri
+    13, // TipoContagiri
+    19, // NumOmologaContagiri
+    17, // NumSerieContagiri
+    28, // NumVersioneSoftwareContagiri
+    21, // DataScadenzaContagiri
+    25, // TipoCollegamentoContagiri
+    30, // NumVersioneProtocolloContagiri
+    18, // MarcaProvaVelocita
+    17, // TipoProvaVelocita
+    23, // NumOmologaProvaVelocita
+    21, // NumSerieProvaVelocita
+    32, // NumVersioneSoftwareProvaVelocita
+    34, // NumVersioneProtocolloProvaVelocita
+    25, // DataScadenzaProvaVelocita
+    4, // Note
+    21, // NumVersioneProtocollo
+    22, // DataVersioneProtocollo
+    16, // TipoCollegamento
+    18, // CircolareApplicata
+    10, // IDChiaveRS
+    15, // DataRegChiaveRS
+    19, // IDChiaveContagiriRS
+    24, // DataRegChiaveContagiriRS
+    23, // IDChiaveProvaVelocitaRS
+    28, // DataRegChiaveProvaVelocitaRS
+    10, // ChecksumRS
+    14, // ModuloChiaveRS
+    17, // EsponenteChiaveRS
+    19, // ChecksumContagiriRS
+    23, // ModuloChiaveContagiriRS
+    26, // EsponenteChiaveContagiriRS
+    23, // ChecksumProvaVelocitaRS
+    27, // ModuloChiaveProvaVelocitaRS
+    30, // EsponenteChiaveProvaVelocitaRS
+    9, // CodErrore
+    10, // DataMisura
+    12, // InizioMisura
+    10, // FineMisura
+    9, // Operatore
+    5, // COMin
+    13, // COCorrettoMin
+    6, // CO2Min
+    5, // HCMin
+    5, // O2Min
+    16, // NumGiriMotoreMin
+    8, // COMinAcc
+];
+
+const GAS_TAGS: [u8; 53] = [
+    213, // MarcaAnalizzatore
+    212, // TipoAnalizzatore
+    254, // NumOmologaAnalizzatore
+    238, // NumSerieAnalizzatore
+    38, // NumVersSoftwareAnalizzatore
+    4, // DataScadenzaAnalizzatore
+    189, // MarcaContagiri
+    188, // TipoContagiri
+    230, // NumOmologaContagiri
+    214, // NumSerieContagiri
+    46, // NumVersioneSoftwareContagiri
+    236, // DataScadenzaContagiri
+    28, // TipoCollegamentoContagiri
+    62, // NumVersioneProtocolloContagiri
+    221, // MarcaProvaVelocita
+    220, // TipoProvaVelocita
+    6, // NumOmologaProvaVelocita
+    246, // NumSerieProvaVelocita
+    78, // NumVersioneSoftwareProvaVelocita
+    94, // NumVersioneProtocolloProvaVelocita
+    12, // DataScadenzaProvaVelocita
+    110, // Note
+    246, // NumVersioneProtocollo
+    244, // DataVersioneProtocollo
+    212, // TipoCollegamento
+    211, // CircolareApplicata
+    153, // IDChiaveRS
+    188, // DataRegChiaveRS
+    225, // IDChiaveContagiriRS
+    4, // DataRegChiaveContagiriRS
+    1, // IDChiaveProvaVelocitaRS
+    36, // DataRegChiaveProvaVelocitaRS
+    147, // ChecksumRS
+    189, // ModuloChiaveRS
+    205, // EsponenteChiaveRS
+    219, // ChecksumContagiriRS
+    5, // ModuloChiaveContagiriRS
+    21, // EsponenteChiaveContagiriRS
+    251, // ChecksumProvaVelocitaRS
+    37, // ModuloChiaveProvaVelocitaRS
+    53, // EsponenteChiaveProvaVelocitaRS
+    139, // CodErrore
+    148, // DataMisura
+    169, // InizioMisura
+    150, // FineMisura
+    151, // Operatore
+    107, // COMin
+    171, // COCorrettoMin
+    115, // CO2Min
+    112, // HCMin
+    119, // O2Min
+    206, // NumGiriMotoreMin
+    131, // COMinAcc
+];
+
+pub fn new_booking_rows() -> [Row; 12]
+    ensures { λ r. ⌜ r ≡ map inRow (names newBooking) ⌝ }
+{
+    NEW_BOOKING_ROWS
+}
+
+pub fn new_booking_lengths() -> [u8; 12]
+    ensures { λ r. ⌜ r ≡ map length (names newBooking) ⌝ }
+{
+    NEW_BOOKING_LENGTHS
+}
+
+pub fn new_booking_tags() -> [u8; 12]
+    ensures { λ r. ⌜ r ≡ map tagOf (names newBooking) ⌝ }
+{
+    NEW_BOOKING_TAGS
+}
+
+pub fn old_booking_rows() -> [Row; 6]
+    ensures { λ r. ⌜ r ≡ map inRow (names oldBooking) ⌝ }
+{
+    OLD_BOOKING_ROWS
+}
+
+pub fn old_booking_lengths() -> [u8; 6]
+    ensures { λ r. ⌜ r ≡ map length (names oldBooking) ⌝ }
+{
+    OLD_BOOKING_LENGTHS
+}
+
+pub fn old_booking_tags() -> [u8; 6]
+    ensures { λ r. ⌜ r ≡ map tagOf (names oldBooking) ⌝ }
+{
+    OLD_BOOKING_TAGS
+}
+
+pub fn tester_rows() -> [Row; 20]
+    ensures { λ r. ⌜ r ≡ map inRow (names testers) ⌝ }
+{
+    TESTER_ROWS
+}
+
+pub fn tester_lengths() -> [u8; 20]
+    ensures { λ r. ⌜ r ≡ map length (names testers) ⌝ }
+{
+    TESTER_LENGTHS
+}
+
+pub fn tester_tags() -> [u8; 20]
+    ensures { λ r. ⌜ r ≡ map tagOf (names testers) ⌝ }
+{
+    TESTER_TAGS
+}
+
+pub fn gas_rows() -> [Row; 53]
+    ensures { λ r. ⌜ r ≡ map inRow (names gasEntries) ⌝ }
+{
+    GAS_ROWS
+}
+
+pub fn gas_lengths() -> [u8; 53]
+    ensures { λ r. ⌜ r ≡ map length (names gasEntries) ⌝ }
+{
+    GAS_LENGTHS
+}
+
+pub fn gas_tags() -> [u8; 53]
+    ensures { λ r. ⌜ r ≡ map tagOf (names gasEntries) ⌝ }
+{
+    GAS_TAGS
+}
