@@ -1,19 +1,16 @@
 -- Values at pairs that lie within their text, and what AC2's and gas's say. Assumes nothing.
-use Prim.Native.Nat.{ℕ, zero, suc, _+_, _-_, _*_, _≤_, _<_}
-use native.Mathlib.Omega.{arith}
-use native.Mathlib.Nat.{add-sub-cancel-left}
+use Prim.Native.Nat.{ℕ}
 use mathlib.Core.Path.{_≡_, refl, ap, ap₂, sym}
-use mathlib.Core.Bool.{Bool, false, _&&_}
+use mathlib.Core.Bool.{Bool, _&&_}
 use mathlib.Core.List.{List, [], _∷_, map}
 use lib.Dec.{eqb, leb, ltb}
-use lib.ListN.{length, take, drop, length-drop}
-use lib.Seq.{length-take-le}
+use lib.ListN.{length}
 use Rattle.lines.specs.Bytes.{sameBytes}
 use Rattle.lines.specs.Text.{bytes}
 use Rattle.kinds.specs.Kind.{words}
 use Rattle.kinds.specs.Value.{wordIndex, isWord, wordsOf, numberedLists}
-use Rattle.places.specs.Places.{Pair, startOf, lengthOf, pairsAt, valueAt, valueOf, valuesAt, Within}
-use Rattle.places.proofs.Values.{value-length, within-at}
+use Rattle.places.specs.Places.{Pair, pairsAt, valueAt, valueOf, Within}
+use Rattle.places.proofs.Values.{value-length}
 use Rattle.tables.specs.Section.{entriesOf}
 use Rattle.tables.specs.Entries.{
   newBooking,

@@ -2,7 +2,7 @@
 use Prim.Native.Nat.{ℕ}
 use Prim.Native.String.{String}
 use mathlib.Core.Bool.{Bool, true, false, cond, _&&_}
-use mathlib.Core.List.{List, [], _∷_, map}
+use mathlib.Core.List.{List, [], map}
 use lib.Dec.{eqb, leb}
 use lib.ListN.{length, getD}
 use Rattle.lines.specs.Bytes.{sameBytes}

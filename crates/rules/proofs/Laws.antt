@@ -21,7 +21,7 @@ use Rattle.tables.specs.File.{File, ac2, acc}
 use Rattle.tables.specs.Value.{of}
 use Rattle.due.specs.Booking.{isL, isPetrol, fuelIn, bookingIn}
 use Rattle.due.specs.declared.Fuel.the-variants.{Petrol, Diesel, OtherFuel}
-use Rattle.rules.specs.Rule.{Rule, broken, allHold, firstBroken}
+use Rattle.rules.specs.Rule.{Rule, allHold, firstBroken}
 use Rattle.rules.specs.Bookings.{parkingBrakeFits, descriptionsOf, descriptions, yearFits, directiveOf, periodAt, periodOf, petrolWord, petrolFits, dieselFits, fuelFits, oldBrakeFits, numberIs, countOf, parkingAxlesFit, oldRules}
 use Rattle.rules.specs.Differences.{difference, differenceFits}
 use Rattle.rules.specs.Identification.{sameFields}

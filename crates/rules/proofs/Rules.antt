@@ -4,11 +4,9 @@ use native.Mathlib.Omega.{arith}
 use mathlib.Core.Path.{_≡_, refl}
 use mathlib.Core.Bool.{false, cond}
 use mathlib.Core.List.{List, [], _∷_}
-use lib.Dec.{ltb, lit<}
+use lib.Dec.{ltb}
 use lib.ListN.{length, getD}
 use Rattle.lines.specs.Bytes.{sameBytes}
-use Rattle.lines.specs.Text.{bytes}
-use Rattle.kinds.specs.Kind.{words, categories}
 use Rattle.kinds.specs.Value.{wordIndex, isWord}
 use Rattle.places.specs.Places.{startOf, lengthOf, pairsAt, valueOf}
 use Rattle.tables.specs.Section.{entriesOf}
