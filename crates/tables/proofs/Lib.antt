@@ -8,3 +8,4 @@ pub mod Rows
 pub mod Axles
 pub mod Numbers
 pub mod Tests
+pub mod Distinct

@@ -171,8 +171,42 @@ pub fn row_count(file: u32) -> usize
     of_file(&[0, 13, 7, 35, 53, 55], file)
 }
 
-// The section of a heading; the number of sections where it is none of the file's.
+// The section that a heading is likely to be: the digit before its `]`, which is an axle's number, else the first.
+// Which one is left open.
+fn likely_section(part: &[u8]) -> usize {
+    if part.len() < 2 {
+        return 0;
+    }
+    match part[part.len() - 2] {
+        b'1' => 1,
+        b'2' => 2,
+        b'3' => 3,
+        b'4' => 4,
+        b'5' => 5,
+        b'6' => 6,
+        b'7' => 7,
+        b'8' => 8,
+        b'9' => 9,
+        _ => 0,
+    }
+}
+
+// The section of a heading; the number of sections where it is none of the file's. No two have the same heading, so
+// where the likely one has it the others are not looked at.
 pub fn find_section(file: u32, part: &[u8]) -> usize
+    ensures { λ r. ⌜ r ≡ sectionOf (tableOf file) (now (part .entry)) ⌝ }
+{
+    let likely = likely_section(part);
+    if likely < section_count(file) {
+        if compare::is_heading(file, likely, part) {
+            return likely;
+        }
+    }
+    search_section(file, part)
+}
+
+// Likewise, looked for among all sections of the file.
+fn search_section(file: u32, part: &[u8]) -> usize
     ensures { λ r. ⌜ r ≡ sectionOf (tableOf file) (now (part .entry)) ⌝ }
 {
     let count = section_count(file);
