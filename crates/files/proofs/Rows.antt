@@ -7,37 +7,28 @@ use mathlib.Core.Option.{Option, none, some}
 use mathlib.Core.List.{List, map}
 use lib.ListN.{length, getD, take, drop, length-take, length-drop, length-map}
 use lib.Seq.{getD-take, length-take-le}
-use borrow.Author.Tests.{ne-eqb, lt-ltb, le-ltb}
-use Rattle.kinds.specs.Kind.{Kind, numbered, kindOf}
+use borrow.Author.Tests.{ne-eqb}
+use Rattle.kinds.specs.Kind.{Kind, kindOf}
 use Rattle.kinds.specs.Value.{kindOk, kindKept}
 use Rattle.places.specs.Places.{valueAt}
 use Rattle.reading.specs.Reading.{Slots, ownerRow, keptRow, isWrong}
 use Rattle.tables.specs.Section.{Section}
-use Rattle.tables.specs.Row.{rowCount, rowsBefore}
-use Rattle.reading.proofs.Lookup.{rows-le, rows-next}
-use Rattle.rows.specs.Rows.{rowKind}
-use Rattle.rows.proofs.Laws.{number-at}
-
-pub heading-row : (n : ℕ) → 28 ≤ n → rowKind n ≡ none
-unfolding rowKind numbered
-heading-row n h = rw (le-ltb n 28 h)
-
-pub entry-row : (n : ℕ) → n < 28 → rowKind n ≡ some (kindOf n)
-unfolding rowKind numbered
-entry-row n h = rw (lt-ltb n 28 h)
+use Rattle.tables.specs.Row.{rowCount, rowsBefore, rowKind}
+use Rattle.tables.proofs.Rows.{rows-le, kindCount, heading-row, entry-row, number-at}
+use Rattle.reading.proofs.Lookup.{rows-next}
 
 -- the kind of row r, by the numbers of the rows
 module _ (ns : List ℕ) (r : ℕ) (l : r < length ns) where
-  pub heading-at : 28 ≤ getD ns r 0 → getD (map rowKind ns) r none ≡ none
-  heading-at h = sym (number-at ns (map rowKind ns) r refl l) ∙ heading-row (getD ns r 0) h
+  pub heading-at : kindCount ≤ getD ns r 0 → getD (map rowKind ns) r none ≡ none
+  heading-at h = sym (number-at ns r l) ∙ heading-row (getD ns r 0) h
 
-  pub entry-at : getD ns r 0 < 28 → getD (map rowKind ns) r none ≡ some (kindOf (getD ns r 0))
-  entry-at h = sym (number-at ns (map rowKind ns) r refl l) ∙ entry-row (getD ns r 0) h
+  pub entry-at : getD ns r 0 < kindCount → getD (map rowKind ns) r none ≡ some (kindOf (getD ns r 0))
+  entry-at h = sym (number-at ns r l) ∙ entry-row (getD ns r 0) h
 
   pub wrong-row : (s : List ℕ) (a : Slots) (b : Bool) → b ≡ keptRow (rowKind (getD ns r 0)) (valueAt s (getD (a .starts) r 0, getD (a .lengths) r 0))
       → isWrong (map rowKind ns) s a r ≡ not b
   wrong-row s a b e =
-      ap (λ (o : Option Kind). not (keptRow o (valueAt s (getD (a .starts) r 0, getD (a .lengths) r 0)))) (sym (number-at ns (map rowKind ns) r refl l)) ∙ ap not (sym e)
+      ap (λ (o : Option Kind). not (keptRow o (valueAt s (getD (a .starts) r 0, getD (a .lengths) r 0)))) (sym (number-at ns r l)) ∙ ap not (sym e)
 
 -- the same of the first n rows
 module _ (ns : List ℕ) (n : ℕ) (m : n ≤ length ns) where
@@ -45,10 +36,10 @@ module _ (ns : List ℕ) (n : ℕ) (m : n ≤ length ns) where
   first-count = length-take-le n (map rowKind ns) (omega (arith, length-map ns rowKind))
 
   module _ (r : ℕ) (l : r < n) where
-    pub first-heading : 28 ≤ getD ns r 0 → getD (take n (map rowKind ns)) r none ≡ none
+    pub first-heading : kindCount ≤ getD ns r 0 → getD (take n (map rowKind ns)) r none ≡ none
     first-heading h = getD-take n (map rowKind ns) r none l ∙ heading-at ns r (omega arith) h
 
-    pub first-entry : getD ns r 0 < 28 → getD (take n (map rowKind ns)) r none ≡ some (kindOf (getD ns r 0))
+    pub first-entry : getD ns r 0 < kindCount → getD (take n (map rowKind ns)) r none ≡ some (kindOf (getD ns r 0))
     first-entry h = getD-take n (map rowKind ns) r none l ∙ entry-at ns r (omega arith) h
 
 -- the heading that a row stands under, from row r upwards

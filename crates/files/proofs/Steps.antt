@@ -11,17 +11,15 @@ use Rattle.kinds.specs.Kind.{Kind}
 use Rattle.places.specs.Places.{placeSize}
 use Rattle.tables.specs.Section.{Entry, Section, entriesOf}
 use Rattle.tables.specs.File.{File, ac2, acc, drift, suspension, gas, ofNumber, tableOf, firstPair, leastSections, leastPlaces, room, entries, allSections, pairCount}
-use Rattle.tables.specs.Row.{rowCount, rowsBefore}
+use Rattle.tables.specs.Row.{rowCount, rowsBefore, rowKinds, rowKind}
 use Rattle.tables.proofs.Numbers.{room-in}
-use Rattle.tables.proofs.Rows.{rows-few}
+use Rattle.tables.proofs.Rows.{rows-few, kinds-count, rows-le}
 use Rattle.orders.specs.AnyOrder.{zip}
-use Rattle.reading.specs.Reading.{rowKinds, checkAbsent, checkKinds, ofEntries, Slots, slots, emptySlots, refused, read, readText}
+use Rattle.reading.specs.Reading.{checkAbsent, checkKinds, ofEntries, Slots, slots, emptySlots, refused, read, readText}
 use Rattle.reading.specs.Scanning.{Ready, Scanned}
-use Rattle.reading.proofs.Lookup.{kinds-count, rows-le}
 use Rattle.reading.proofs.Sections.{kinds-take}
 use Rattle.reading.proofs.Shape.{entries-length}
 use Rattle.reading.proofs.Judging.{scan-refused, scan-judged}
-use Rattle.rows.specs.Rows.{rowKind}
 use Rattle.files.specs.Files.{readBy, readNumbered}
 use Rattle.files.specs.Steps.{KindsOf, scanIs, checkIs, ValuesReady, JudgesSlots, RowsReady, WriteReady, WritesRows, WritesRead, ReadsSlots, ReadsText}
 use Rattle.files.specs.declared.Fault.{Fault}

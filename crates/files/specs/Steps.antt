@@ -11,12 +11,11 @@ use Rattle.refusals.specs.declared.RefusalKind.{RefusalKind}
 use Rattle.kinds.specs.Kind.{Kind}
 use Rattle.places.specs.Places.{Pair, setPairs, placeSize, valueAt}
 use Rattle.tables.specs.Section.{Section, entriesOf}
-use Rattle.tables.specs.Row.{rowCount}
+use Rattle.tables.specs.Row.{rowCount, rowKinds, rowKind}
 use Rattle.orders.specs.AnyOrder.{zip}
 use Rattle.reading.specs.Scanning.{Ready}
 use Rattle.tables.specs.File.{firstPair, leastSections, ofNumber, tableOf}
-use Rattle.reading.specs.Reading.{Slots, Scan, stopped, scanned, Check, passes, fails, Reading, refused, read, readSlots, judgeSlots, sectionsFound, rowKinds, ofEntries, readText}
-use Rattle.rows.specs.Rows.{rowKind}
+use Rattle.reading.specs.Reading.{Slots, Scan, stopped, scanned, Check, passes, fails, Reading, refused, read, readSlots, judgeSlots, sectionsFound, ofEntries, readText}
 use Rattle.files.specs.Files.{readNumbered}
 use Rattle.files.specs.declared.Outcome.{Outcome}
 use Rattle.files.specs.declared.Outcome.the-variants.{Passed, Failed}

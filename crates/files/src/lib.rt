@@ -7,20 +7,21 @@ ghost use Rattle.lines.specs.Bytes.{allPrintable};
 ghost use Rattle.places.specs.Places.{valueAt};
 ghost use mathlib.Core.Bool.{true};
 ghost use Rattle.tables.specs.File.{tableOf, isFile, ofNumber, leastSections, leastPlaces};
-ghost use Rattle.tables.specs.Row.{names as namesOf, rowCount};
+ghost use Rattle.tables.specs.Row.{names as namesOf, rowCount, rowKind};
 ghost use Rattle.tables.specs.Groups.{groupOf, Lent};
 ghost use Rattle.reading.specs.Reading.{slots, emptySlots, sectionsFound, checkGap, checkAbsent, checkKinds, keptRow, ownerRow};
 ghost use Rattle.reading.specs.Scanning.{Took, Ready, Scanned};
-ghost use Rattle.rows.specs.Rows.{rowKind};
 ghost use Rattle.files.specs.Steps.{KindsOf, ValuesReady, RowsReady, WritesRows, failure, scanIs, checkIs, JudgesSlots, WriteReady, WritesRead, ReadsSlots, ReadsText};
 ghost use Rattle.files.specs.Alone.{refusedAs, ReadsCleared, ReadsAlone};
+use kinds::numbers::KIND_COUNT;
 use lines::Cursor;
 use lines::LineRead;
 use refusals::Refusal;
 use refusals::RefusalKind;
-use rows::HEADING;
 use tables::groups;
 use tables::groups::Row;
+use tables::row_kinds;
+use tables::row_kinds::HEADING;
 
 // What an accepted file says: its axle count, 0 for a file without axles.
 pub struct FileAcceptance {
@@ -163,7 +164,7 @@ fn scan_text(
     ensures { λ r. ⌜ Scanned (tableOf file) (now (text .entry)) (slots (now (numbers .entry)) (now (starts .entry)) (now (lengths .entry))) (slots (now (numbers .exit)) (now (starts .exit)) (now (lengths .exit))) (scanIs r (slots (now (numbers .exit)) (now (starts .exit)) (now (lengths .exit)))) ⌝ }
 {
     match file {
-        2 => scan_lines(
+        tables::ACC => scan_lines(
             file,
             &groups::old_booking_rows(),
             &groups::old_booking_lengths(),
@@ -173,7 +174,7 @@ fn scan_text(
             starts,
             lengths,
         ),
-        3 => scan_lines(
+        tables::DRIFT => scan_lines(
             file,
             &groups::tester_rows(),
             &groups::tester_lengths(),
@@ -183,7 +184,7 @@ fn scan_text(
             starts,
             lengths,
         ),
-        4 => scan_lines(
+        tables::SUSPENSION => scan_lines(
             file,
             &groups::tester_rows(),
             &groups::tester_lengths(),
@@ -193,7 +194,7 @@ fn scan_text(
             starts,
             lengths,
         ),
-        5 => scan_lines(
+        tables::GAS => scan_lines(
             file,
             &groups::gas_rows(),
             &groups::gas_lengths(),
@@ -257,7 +258,7 @@ fn owner_row(kinds: &[u8], row: usize) -> usize
 {
     let mut r = row;
     while 0 < r {
-        if HEADING <= kinds[r] {
+        if KIND_COUNT <= kinds[r] {
             return r;
         }
         r -= 1;
@@ -292,7 +293,7 @@ fn row_kept(kind: u8, text: &[u8], start: u32, size: u32) -> bool
     if size == 0 {
         return true;
     }
-    if HEADING <= kind {
+    if KIND_COUNT <= kind {
         return true;
     }
     let a = start as usize;
@@ -375,7 +376,7 @@ fn write_rows(
     let mut e = 0;
     let mut r = 0;
     while r < rows {
-        if HEADING <= kinds[r] {
+        if KIND_COUNT <= kinds[r] {
             r += 1;
         } else {
             places::set_pair(places, pair, starts[r], lengths[r]);
@@ -461,7 +462,7 @@ pub fn read_text(file: u32, text: &[u8], places: &mut [u32], lines: &mut [u32]) 
     let mut starts = [0u32; 64];
     let mut lengths = [0u32; 64];
     let mut kinds = [HEADING; 64];
-    rows::write_kinds(file, &mut kinds);
+    row_kinds::write_kinds(file, &mut kinds);
     let n = tables::row_count(file);
     read_into(
         file,

@@ -6,16 +6,16 @@ use Prim.Native.Nat.{ℕ, zero, suc, _+_, _-_, _*_, _<_, _≤_, _^_, zero-le}
 use native.Mathlib.Omega.{arith}
 use native.Mathlib.Nat.{pow-suc, pow-le-pow-right, le-of-suc-le-suc, le-refl, add-zero}
 use native.Mathlib.Numerals.{add-one}
-use borrow.Author.Tests.{leb-true, eqb-true, le-leb, eq-eqb, ne-eqb}
+use borrow.Author.Tests.{leb-true, eqb-true, le-leb, lt-leb, eq-eqb, ne-eqb}
 use lib.Dec.{leb, eqb, lit<}
 use lib.ListN.{length, getD, take, drop, length-take, length-drop, drop-of-length-le, List·getD-eq-default}
 use lib.Seq.{drop-cons, take-all}
 use Rattle.lines.specs.Bytes.{allPrintable, sameBytes}
-use Rattle.lines.proofs.Bools.{clash, and-left, and-right}
+use Rattle.lines.proofs.Bools.{clash, and-left, and-right, and-false}
 use Rattle.lines.proofs.Bytes.{same-is, same-refl}
 use Rattle.kinds.specs.Digits.{isDigit, allDigits, number, numberFrom}
 use Rattle.kinds.specs.Value.{isSorN, allSorN, isFixed, areDigits, pointPlace, isWordAt, wordIndex, wordsOf, numberedLists, startsWith, isString, isExact, isNumber, kindOk}
-use Rattle.kinds.specs.Kind.{NoKind, kindOf, numbered}
+use Rattle.kinds.specs.Kind.{Kind, S, C, NoKind, kindOf, numbered}
 
 pub all-step : (s : List ℕ) (i : ℕ) → i < length s → allDigits (drop i s) ≡ (isDigit (getD s i 0) && allDigits (drop (i + 1) s))
 unfolding allDigits
@@ -123,6 +123,15 @@ pub past : (n k : ℕ) → NoneOf n k → n ≤ k
 past zero k t = zero-le
 past (suc n) k t = let h : n ≤ k = past n k (t .0) in let d : k ≡ n → ⊥ = t .1 in omega arith
 
+-- likewise from m on
+abbrev pub NoneAfter : ℕ → ℕ → ℕ → Type 0
+NoneAfter m zero k = Unit {0}
+NoneAfter m (suc n) k = NoneAfter m n k × (k ≡ m + n → ⊥)
+
+pub past-after : (m n k : ℕ) → m ≤ k → NoneAfter m n k → m + n ≤ k
+past-after m zero k l t = omega arith
+past-after m (suc n) k l t = let h : m + n ≤ k = past-after m n k l (t .0) in let d : k ≡ m + n → ⊥ = t .1 in omega arith
+
 -- past a list's end there is no word
 pub no-word : (ws : List (List ℕ)) (k : ℕ) (v : List ℕ) → length ws ≤ k → isWordAt ws k v ≡ false
 unfolding isWordAt
@@ -195,6 +204,32 @@ string-length w v h p = simp (le-leb 1 (length v) h, p) (sym (and-true (leb (len
 pub exact-length : (w : ℕ) (v : List ℕ) → 1 ≤ length v → allPrintable v ≡ true → eqb (length v) w ≡ isExact w v
 unfolding isExact
 exact-length w v h p = simp (le-leb 1 (length v) h, p) (sym (and-true (eqb (length v) w)))
+
+-- what holds of every S and C holds of the kinds of the first numbers
+by-text : (P : Kind → Type 0) → ((w : ℕ) → P (S w)) → ((w : ℕ) → P (C w)) → (k : ℕ) → k ≤ 6 → P (kindOf k)
+unfolding kindOf numbered
+by-text P s c zero l = s 10
+by-text P s c (suc zero) l = s 64
+by-text P s c (suc (suc zero)) l = s 92
+by-text P s c (suc (suc (suc zero))) l = s 320
+by-text P s c (suc (suc (suc (suc zero)))) l = c 4
+by-text P s c (suc (suc (suc (suc (suc zero))))) l = c 5
+by-text P s c (suc (suc (suc (suc (suc (suc zero)))))) l = c 172
+by-text P s c (suc (suc (suc (suc (suc (suc (suc k))))))) l = absurd (omega arith)
+
+-- S and C let in neither an empty value nor one with a byte that is not printable
+module _ (k : ℕ) (v : List ℕ) (h : k ≤ 6) where
+  pub text-empty : length v < 1 → kindOk (kindOf k) v ≡ false
+  unfolding kindOk isString isExact
+  text-empty l = let e : leb 1 (length v) ≡ false = lt-leb 1 (length v) l in by-text (λ x. kindOk x v ≡ false) (λ w. rw e) (λ w. rw e) k h
+
+  pub text-unprintable : allPrintable v ≡ false → kindOk (kindOf k) v ≡ false
+  unfolding kindOk isString isExact
+  text-unprintable p =
+      by-text (λ x. kindOk x v ≡ false)
+      (λ w. rw (p, and-false (leb (length v) w)) (and-false (leb 1 (length v))))
+      (λ w. rw (p, and-false (eqb (length v) w)) (and-false (leb 1 (length v))))
+      k h
 
 -- a number that no kind has lets no value in
 pub no-kind : (n : ℕ) (v : List ℕ) → 28 ≤ n → kindOk (kindOf n) v ≡ false

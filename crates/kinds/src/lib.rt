@@ -1,4 +1,6 @@
 // Kinds of value (01, Kinds of value): judges and readers of a value's own bytes.
+pub mod numbers; // numbers.rt: the numbers of the kinds and of the lists of words
+
 ghost use mathlib.Core.Path.{_≡_};
 ghost use mathlib.Core.Bool.{true};
 ghost use Prim.Native.Nat.{_+_, _≤_, _<_, _^_};
@@ -6,7 +8,7 @@ ghost use lib.ListN.{length, take, drop};
 ghost use Rattle.lines.specs.Bytes.{allPrintable};
 ghost use Rattle.kinds.specs.Kind.{kindOf, words, vehicleTypes, categories, yesNo, petrolDirectives, brakeControls, links, gasLinks, counterLinks};
 ghost use Rattle.kinds.specs.Digits.{isDigit, allDigits, number as Digits·number};
-ghost use Rattle.kinds.specs.Value.{isString, isExact, isNumber, isFixed, isLeap, daysIn, isYear, isGregorian, areDigits, isDay, isTime, wordIndex, isWordAt, isWord, wordsOf, startsWith, isDrift, isRevs, isFirstDate, isFirstDay, isSorN, allSorN, isPositions, kindOk, kindKept};
+ghost use Rattle.kinds.specs.Value.{isNumber, isFixed, isLeap, daysIn, isYear, isGregorian, areDigits, isDay, isTime, wordIndex, isWordAt, isWord, wordsOf, startsWith, isDrift, isRevs, isFirstDate, isFirstDay, isSorN, allSorN, isPositions, kindOk, kindKept};
 ghost use Rattle.kinds.specs.Meaning.{numberRead, hundredths as Meaning·hundredths, signed as Meaning·signed, signedRead, driftRead, unmarkedRead, revsRead, dayNumber, dayRead};
 
 // A number, or that the value is no such number.
@@ -64,32 +66,6 @@ fn number(part: &[u8]) -> u32
         i += 1;
     }
     n
-}
-
-// S w
-pub fn is_string(value: &[u8], width: usize) -> bool
-    ensures { λ r. ⌜ r ≡ isString width (now (value .entry)) ⌝ }
-{
-    if value.len() < 1 {
-        return false;
-    }
-    if value.len() > width {
-        return false;
-    }
-    lines::all_printable(value)
-}
-
-// C w
-pub fn is_exact(value: &[u8], width: usize) -> bool
-    ensures { λ r. ⌜ r ≡ isExact width (now (value .entry)) ⌝ }
-{
-    if value.len() < 1 {
-        return false;
-    }
-    if value.len() != width {
-        return false;
-    }
-    lines::all_printable(value)
 }
 
 // N w
@@ -426,14 +402,14 @@ fn is_word_at(list: u8, k: usize, value: &[u8]) -> bool
     ensures { λ r. ⌜ r ≡ isWordAt (wordsOf list) k (now (value .entry)) ⌝ }
 {
     match list {
-        0 => is_vehicle_type_at(k, value),
-        1 => is_category_at(k, value),
-        2 => is_yes_no_at(k, value),
-        3 => is_petrol_directive_at(k, value),
-        4 => is_brake_control_at(k, value),
-        5 => is_link_at(k, value),
-        6 => is_gas_link_at(k, value),
-        7 => is_counter_link_at(k, value),
+        numbers::VEHICLE_TYPES => is_vehicle_type_at(k, value),
+        numbers::CATEGORIES => is_category_at(k, value),
+        numbers::YES_NO_WORDS => is_yes_no_at(k, value),
+        numbers::PETROL_DIRECTIVES => is_petrol_directive_at(k, value),
+        numbers::BRAKE_CONTROLS => is_brake_control_at(k, value),
+        numbers::LINKS => is_link_at(k, value),
+        numbers::GAS_LINKS => is_gas_link_at(k, value),
+        numbers::COUNTER_LINKS => is_counter_link_at(k, value),
         _ => false,
     }
 }
@@ -442,14 +418,14 @@ fn word_count(list: u8) -> usize
     ensures { λ r. ⌜ r ≡ length (wordsOf list) ⌝ }
 {
     match list {
-        0 => 3,
-        1 => 17,
-        2 => 2,
-        3 => 4,
-        4 => 4,
-        5 => 2,
-        6 => 3,
-        7 => 2,
+        numbers::VEHICLE_TYPES => 3,
+        numbers::CATEGORIES => 17,
+        numbers::YES_NO_WORDS => 2,
+        numbers::PETROL_DIRECTIVES => 4,
+        numbers::BRAKE_CONTROLS => 4,
+        numbers::LINKS => 2,
+        numbers::GAS_LINKS => 3,
+        numbers::COUNTER_LINKS => 2,
         _ => 0,
     }
 }
@@ -476,56 +452,66 @@ pub fn is_word(list: u8, value: &[u8]) -> bool
     word_index(list, value) < word_count(list)
 }
 
-// The judge of a value by the number of its kind; a number that no kind has lets no value in.
-pub fn kind_ok(kind: u8, value: &[u8]) -> bool
-    ensures { λ r. ⌜ r ≡ kindOk (kindOf kind) (now (value .entry)) ⌝ }
-{
-    match kind {
-        0 => is_string(value, 10),
-        1 => is_string(value, 64),
-        2 => is_string(value, 92),
-        3 => is_string(value, 320),
-        4 => is_exact(value, 4),
-        5 => is_exact(value, 5),
-        6 => is_exact(value, 172),
-        7 => is_number(value, 1),
-        8 => is_number(value, 2),
-        9 => is_number(value, 3),
-        10 => is_number(value, 5),
-        11 => is_fixed(value, 3, 5),
-        12 => is_fixed(value, 2, 5),
-        13 => is_day(value),
-        14 => is_time(value),
-        15 => is_drift(value),
-        16 => is_revs(value),
-        17 => is_first_day(value),
-        18 => are_digits(value, 4),
-        19 => is_positions(value),
-        20 => is_word(0, value),
-        21 => is_word(1, value),
-        22 => is_word(2, value),
-        23 => is_word(3, value),
-        24 => is_word(4, value),
-        25 => is_word(5, value),
-        26 => is_word(6, value),
-        27 => is_word(7, value),
-        _ => false,
-    }
-}
-
 // S and C of a filled value of printable bytes: only the length is left to test.
 fn length_ok(kind: u8, value: &[u8]) -> bool
     requires { ⌜ (kind ≤ 6) × (1 ≤ length (now value)) × (allPrintable (now value) ≡ true) ⌝ }
     ensures { λ r. ⌜ r ≡ kindOk (kindOf kind) (now (value .entry)) ⌝ }
 {
     match kind {
-        0 => value.len() <= 10,
-        1 => value.len() <= 64,
-        2 => value.len() <= 92,
-        3 => value.len() <= 320,
-        4 => value.len() == 4,
-        5 => value.len() == 5,
+        numbers::S_10 => value.len() <= 10,
+        numbers::S_64 => value.len() <= 64,
+        numbers::S_92 => value.len() <= 92,
+        numbers::S_320 => value.len() <= 320,
+        numbers::C_4 => value.len() == 4,
+        numbers::C_5 => value.len() == 5,
         _ => value.len() == 172,
+    }
+}
+
+// S and C.
+fn is_text(kind: u8, value: &[u8]) -> bool
+    requires { ⌜ kind ≤ 6 ⌝ }
+    ensures { λ r. ⌜ r ≡ kindOk (kindOf kind) (now (value .entry)) ⌝ }
+{
+    if value.len() < 1 {
+        return false;
+    }
+    if !lines::all_printable(value) {
+        return false;
+    }
+    length_ok(kind, value)
+}
+
+// The judge of a value by the number of its kind; a number that no kind has lets no value in.
+pub fn kind_ok(kind: u8, value: &[u8]) -> bool
+    ensures { λ r. ⌜ r ≡ kindOk (kindOf kind) (now (value .entry)) ⌝ }
+{
+    if kind <= numbers::C_172 {
+        return is_text(kind, value);
+    }
+    match kind {
+        numbers::N_1 => is_number(value, 1),
+        numbers::N_2 => is_number(value, 2),
+        numbers::N_3 => is_number(value, 3),
+        numbers::N_5 => is_number(value, 5),
+        numbers::FIXED_3_5 => is_fixed(value, 3, 5),
+        numbers::FIXED_2_5 => is_fixed(value, 2, 5),
+        numbers::D => is_day(value),
+        numbers::H => is_time(value),
+        numbers::DERIVA => is_drift(value),
+        numbers::REVS => is_revs(value),
+        numbers::DATA_PRIMA_IMM => is_first_day(value),
+        numbers::ANNO_PRIMA_IMM => are_digits(value, 4),
+        numbers::POS_ASSI_STAZ => is_positions(value),
+        numbers::VEHICLE_TYPE => is_word(numbers::VEHICLE_TYPES, value),
+        numbers::CATEGORY => is_word(numbers::CATEGORIES, value),
+        numbers::YES_NO => is_word(numbers::YES_NO_WORDS, value),
+        numbers::PETROL_DIRECTIVE => is_word(numbers::PETROL_DIRECTIVES, value),
+        numbers::BRAKE_CONTROL => is_word(numbers::BRAKE_CONTROLS, value),
+        numbers::LINK => is_word(numbers::LINKS, value),
+        numbers::GAS_LINK => is_word(numbers::GAS_LINKS, value),
+        numbers::COUNTER_LINK => is_word(numbers::COUNTER_LINKS, value),
+        _ => false,
     }
 }
 
@@ -534,7 +520,7 @@ pub fn printable_kind_ok(kind: u8, value: &[u8]) -> bool
     requires { ⌜ (1 ≤ length (now value)) × (allPrintable (now value) ≡ true) ⌝ }
     ensures { λ r. ⌜ r ≡ kindOk (kindOf kind) (now (value .entry)) ⌝ }
 {
-    if 6 < kind {
+    if numbers::C_172 < kind {
         return kind_ok(kind, value);
     }
     length_ok(kind, value)

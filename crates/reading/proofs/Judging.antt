@@ -10,9 +10,9 @@ use borrow.Author.Tests.{le-leb, lt-leb}
 use Rattle.kinds.specs.Value.{kindKept}
 use Rattle.places.specs.Places.{valueAt}
 use Rattle.tables.specs.Section.{Section}
-use Rattle.tables.specs.Row.{entriesIn, entryAt, rowCount, rowsBefore}
+use Rattle.tables.specs.Row.{entriesIn, entryAt, rowCount, rowsBefore, rowKinds}
 use Rattle.reading.specs.Tables.{mostBytes}
-use Rattle.reading.specs.Reading.{rowKinds, Slots, emptySlots, stopped, scanned, passes, fails, sectionsFound, checkGap, checkAbsent, isWrong, checkKinds, Reading, refused, readSlots, judgeSlots, readScan, readText}
+use Rattle.reading.specs.Reading.{Slots, emptySlots, stopped, scanned, passes, fails, sectionsFound, checkGap, checkAbsent, isWrong, checkKinds, Reading, refused, readSlots, judgeSlots, readScan, readText}
 use Rattle.reading.specs.Scanning.{Ready, Scanned}
 use Rattle.reading.proofs.Lookup.{heading-kind, entry-kind}
 use Rattle.lines.specs.Bytes.{allPrintable}

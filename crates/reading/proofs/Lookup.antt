@@ -14,7 +14,8 @@ use Rattle.lines.proofs.Bools.{clash}
 use Rattle.kinds.specs.Kind.{Kind}
 use Rattle.kinds.specs.Value.{wordIndex}
 use Rattle.tables.specs.Section.{Entry, Section}
-use Rattle.tables.specs.Row.{noEntry, noSection, headings, names, headingAt, entriesIn, entryAt, indexOf, sectionOf, entryIn, rowCount, rowsBefore, rowAt}
+use Rattle.tables.specs.Row.{noEntry, noSection, headings, names, headingAt, entriesIn, entryAt, indexOf, sectionOf, entryIn, rowCount, rowsBefore, rowAt, rowKinds}
+use Rattle.tables.proofs.Rows.{kinds-count, rows-le}
 use Rattle.orders.specs.AnyOrder.{Name}
 use Rattle.orders.specs.Rows.{Row, headingRow, entryRow, rows, rowNumber}
 use Rattle.orders.proofs.Rows.{Case, case-bytes, Apart, Distinct}
@@ -22,7 +23,7 @@ use Rattle.orders.proofs.Assign.{number-past}
 use Rattle.orders.proofs.Sound.{distinct-headings}
 use Rattle.orders.proofs.Places.{number-at, entryPlace, headingOf, namesOf, rows-entry, number-apart, no-name, rows-append}
 use Rattle.reading.specs.Fitting.{nameTable}
-use Rattle.reading.specs.Reading.{rowKinds, headingRowOf, entryRowOf, lastOf, ownerRow}
+use Rattle.reading.specs.Reading.{headingRowOf, entryRowOf, lastOf, ownerRow}
 
 -- ---- the place of a name
 
@@ -64,11 +65,6 @@ unfolding rowCount
 rows-count [] = refl
 rows-count (x ∷ t) = let i = rows-count t in simp (length-append, length-map) (omega arith)
 
-pub kinds-count : (t : List Section) → length (rowKinds t) ≡ rowCount t
-unfolding rowCount
-kinds-count [] = refl
-kinds-count (x ∷ t) = let i = kinds-count t in simp (length-append, length-map) (omega arith)
-
 pub kinds-append : (t r : List Section) → rowKinds (t ++ r) ≡ rowKinds t ++ rowKinds r
 kinds-append [] r = refl
 kinds-append (x ∷ t) r = rw (kinds-append t r, append-assoc (map (λ e. some (e .kind)) (x .entries)) (rowKinds t) (rowKinds r))
@@ -80,9 +76,6 @@ pub rows-split : (t : List Section) (c : ℕ) → tableRows t ≡ tableRows (tak
 rows-split t c =
     ap tableRows (sym (take-append-drop c t)) ∙ ap rows (map-append (λ s. (s .heading, names (s .entries))) (take c t) (drop c t))
     ∙ rows-append (nameTable (take c t)) (nameTable (drop c t))
-
-pub rows-le : (t : List Section) (c : ℕ) → rowsBefore t c ≤ rowCount t
-rows-le t c = omega (arith, ap length (kinds-first t c), length-append (rowKinds (take c t)) (rowKinds (drop c t)), kinds-count t, kinds-count (take c t))
 
 pub rows-less : (t : List Section) (j c : ℕ) → j < c → c ≤ length t → rowsBefore t j < rowsBefore t c
 unfolding rowCount

@@ -8,9 +8,9 @@ use lib.ListN.{length, take, drop, length-append}
 use lib.Seq.{take-at}
 use Rattle.kinds.specs.Kind.{Kind}
 use Rattle.tables.specs.Section.{Section, entriesOf}
-use Rattle.tables.specs.Row.{rowCount, rowsBefore}
-use Rattle.reading.specs.Reading.{rowKinds}
-use Rattle.reading.proofs.Lookup.{kinds-count, kinds-first}
+use Rattle.tables.specs.Row.{rowCount, rowsBefore, rowKinds}
+use Rattle.tables.proofs.Rows.{kinds-count}
+use Rattle.reading.proofs.Lookup.{kinds-first}
 
 -- the rows of the first c sections are the table's first rows
 pub kinds-take : (t : List Section) (c : ℕ) → rowKinds (take c t) ≡ take (rowsBefore t c) (rowKinds t)

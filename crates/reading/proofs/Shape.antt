@@ -10,12 +10,13 @@ use Rattle.lines.proofs.Bools.{clash}
 use Rattle.kinds.specs.Kind.{Kind}
 use Rattle.places.specs.Places.{Pair, valueAt}
 use Rattle.tables.specs.Section.{Entry, Section, entriesOf}
-use Rattle.tables.specs.Row.{names, rowCount}
+use Rattle.tables.specs.Row.{names, rowCount, rowKinds}
 use Rattle.orders.specs.AnyOrder.{Name, Value, zip}
 use Rattle.orders.specs.Rows.{Row, headingRow, entryRow, Found, bySection}
 use Rattle.reading.specs.Fitting.{joined, nameTable, EachKept, headed}
-use Rattle.reading.specs.Reading.{rowKinds, keptRow, ofEntries}
-use Rattle.reading.proofs.Lookup.{tableRows, kinds-count}
+use Rattle.reading.specs.Reading.{keptRow, ofEntries}
+use Rattle.tables.proofs.Rows.{kinds-count}
+use Rattle.reading.proofs.Lookup.{tableRows}
 use Rattle.reading.proofs.Reduce.{seen, seenAll}
 
 -- ---- the first n rows found and the other j not

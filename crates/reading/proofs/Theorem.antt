@@ -16,7 +16,7 @@ use Rattle.lines.proofs.Texts.{text-is, text-reads}
 use Rattle.kinds.specs.Kind.{Kind}
 use Rattle.places.specs.Places.{Pair, valueAt, Within}
 use Rattle.tables.specs.Section.{Section, entriesOf}
-use Rattle.tables.specs.Row.{rowCount, rowsBefore}
+use Rattle.tables.specs.Row.{rowCount, rowsBefore, rowKinds}
 use Rattle.orders.specs.AnyOrder.{Value, Values, AnyOrder, zip}
 use Rattle.orders.specs.Rows as O
 use Rattle.orders.specs.Rows.{Row, Found, then, run, rowValues, bySection}
@@ -27,9 +27,10 @@ use Rattle.orders.proofs.Complete.{order-sections, order-length}
 use Rattle.orders.proofs.Sound as S
 use Rattle.reading.specs.Fitting.{joined, nameTable, headed, EachKept}
 use Rattle.reading.specs.Tables.{distinctRows, cleanTable}
-use Rattle.reading.specs.Reading.{rowKinds, Slots, emptySlots, Scan, stopped, scanned, scanText, Check, passes, fails, sectionsFound, checkLeast, isFound, checkGap, isAbsent, ownerRow, checkAbsent, keptRow, isWrong, checkKinds, ofEntries, Reading, read, unless, readSlots, judgeSlots, readScan, readText}
+use Rattle.reading.specs.Reading.{Slots, emptySlots, Scan, stopped, scanned, scanText, Check, passes, fails, sectionsFound, checkLeast, isFound, checkGap, isAbsent, ownerRow, checkAbsent, keptRow, isWrong, checkKinds, ofEntries, Reading, read, unless, readSlots, judgeSlots, readScan, readText}
 use Rattle.reading.specs.Theorem.{IsText, ReadRight}
-use Rattle.reading.proofs.Lookup.{tableRows, noRow, rows-count, kinds-count, kinds-first, rows-split, rows-le, rows-less}
+use Rattle.tables.proofs.Rows.{kinds-count, rows-le}
+use Rattle.reading.proofs.Lookup.{tableRows, noRow, rows-count, kinds-first, rows-split, rows-less}
 use Rattle.reading.proofs.Reduce.{pairsIn, zip-length, zip-at, view, Sized, pairs-sized, empty-sized, forget, whole-scan, scan-sized}
 use Rattle.reading.proofs.Checks.{none-wrong, wrong-none, absent-le, absent-is}
 use Rattle.reading.proofs.Shape.{shape, Shaped, unshape, entries-take, entries-map, entries-length, entries-zip, joined-rows, KeptRows, kept-entries, kept-rows, each-entry}

@@ -11,15 +11,10 @@ use Rattle.kinds.specs.Kind.{Kind}
 use Rattle.kinds.specs.Value.{kindKept}
 use Rattle.places.specs.Places.{Pair, valueAt}
 use Rattle.tables.specs.Section.{Section}
-use Rattle.tables.specs.Row.{sectionOf, entryIn, rowCount, rowsBefore, rowAt}
+use Rattle.tables.specs.Row.{sectionOf, entryIn, rowCount, rowsBefore, rowAt, rowKinds}
 use Rattle.orders.specs.AnyOrder.{Name, Value, zip}
 
 -- ---- the rows of a table: each section's heading, then its entries
-
--- the kind of each row; a heading has none
-abbrev pub rowKinds : List Section → List (Option Kind)
-rowKinds [] = []
-rowKinds (s ∷ t) = none ∷ (map (λ e. some (e .kind)) (s .entries) ++ rowKinds t)
 
 -- the row of a heading, and of an entry of section c; the number of rows where the table has none
 abbrev pub headingRowOf : List Section → Name → ℕ

@@ -3,9 +3,9 @@ use Prim.Native.Nat.{ℕ, zero, suc}
 use mathlib.Core.Path.{_≡_, refl, sym}
 use mathlib.Core.Bool.{true, false≢true}
 use mathlib.Core.Option.{none, some}
-use mathlib.Core.List.{[], _∷_, map}
+use mathlib.Core.List.{[], map}
 use lib.ListN.{List·getD-map}
-use Rattle.tables.specs.File.{File, ac2, acc, drift, suspension, gas, files, fileNumber, fileOf, isFile, ofNumber, tableOf, allSections}
+use Rattle.tables.specs.File.{File, ac2, acc, drift, suspension, gas, numberedFiles, fileNumber, orElse, fileOf, isFile, ofNumber, tableOf, allSections}
 
 -- what is said of a number that a file has
 pub of-file : {A : Type 0} (d : A) (g : File → A) (f : File) → ofNumber d g (fileNumber f) ≡ g f
@@ -44,7 +44,7 @@ of-any d g P p q (suc (suc (suc (suc (suc (suc n)))))) = p
 -- a function of what is said of a file is said of the file
 pub of-map : {A B : Type 0} (h : A → B) (d : A) (g : File → A) (n : ℕ) → h (ofNumber d g n) ≡ ofNumber (h d) (λ f. h (g f)) n
 unfolding ofNumber
-of-map h d g n = sym (List·getD-map h (d ∷ map g files) n d)
+of-map h d g n = sym (List·getD-map h (map (orElse d g) numberedFiles) n d)
 
 pub table-of : (f : File) → tableOf (fileNumber f) ≡ allSections f
 unfolding tableOf

@@ -94,11 +94,11 @@ module _ (tags : List ℕ) (t a r : ℕ) (n : NoneFrom tags t a r) where
       (getD-take 8 (drop r tags) (k - r) 0 j ∙ getD-drop r tags (k - r) 0 ∙ ap (λ (i : ℕ). getD tags i 0) s ∙ p))
 
 -- from a later row on
-pub passes-from : {tags : List ℕ} {t a b r : ℕ} → a ≤ b → NoneFrom tags t a b → PassesTo tags t b r → PassesTo tags t a r
-passes-from {tags} {t} {a} {b} {r} h n p =
+pub passes-from : {tags : List ℕ} {t a b e r : ℕ} → a ≤ b → NoneFrom tags t a b → PassesTo tags t b e r → PassesTo tags t a e r
+passes-from {tags} {t} {a} {b} {e} {r} h n p =
     record {
       on = omega (arith, p .on);
-      in-tags = p .in-tags;
+      within = p .within;
       passed = λ k x y. by-test (ltb k b) (λ q. n k x (ltb-true _ _ q)) (λ q. p .passed k (ltb-false _ _ q) y);
       found = p .found;
     }

@@ -4,6 +4,7 @@ pub mod Sections
 pub mod Find
 pub mod Headings
 pub mod NameRows
+pub mod Listed
 pub mod Rows
 pub mod Axles
 pub mod Numbers

@@ -109,25 +109,9 @@ module _ {ns : List (List ℕ)} {rows : List (List ℕ)} {lengths tags : List �
       let n = getD ns k [] in
       rw (length-at k, row-at k h) (take-at n (replicate (34 - length n) 32) (length n) refl)
 
-  -- some of them are lent
-  lent-part : (s m : ℕ) → Lent (take m (drop s ns)) (take m (drop s rows)) (take m (drop s lengths)) (take m (drop s tags))
-  lent-part s m =
-      record {
-        rows-are = rw (l .rows-are) (map-part inRow s m ns);
-        lengths-are = rw (l .lengths-are) (map-part length s m ns);
-        tags-are = rw (l .tags-are) (map-part tagOf s m ns);
-      }
-
 -- ---- a section in its group
 
 module _ {n c s : ℕ} (h : StandsAt n c s) where
-  -- of a group's rows those of the section
-  pub lent-section : {rows : List (List ℕ)} {lengths tags : List ℕ} (m : ℕ) → m ≡ length (entriesIn (tableOf n) c) → Lent (names (groupOf n)) rows lengths tags
-      → Lent (names (entriesIn (tableOf n) c)) (take m (drop s rows)) (take m (drop s lengths)) (take m (drop s tags))
-  lent-section {rows} {lengths} {tags} m e l =
-      let part : take m (drop s (names (groupOf n))) ≡ names (entriesIn (tableOf n) c) = rw e (map-part (λ x. x .name) s (length (entriesIn (tableOf n) c)) (groupOf n) ∙ ap names (h .are)) in
-      rw part at (lent-part l s m)
-
   pub listed-at : (i : ℕ) → i < length (entriesIn (tableOf n) c) → nameIn (groupOf n) (s + i) ≡ nameIn (entriesIn (tableOf n) c) i
   unfolding nameIn
   listed-at i l =

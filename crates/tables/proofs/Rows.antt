@@ -1,8 +1,14 @@
 -- Rows of a table. Assumes nothing.
 use Prim.Native.Nat.{ℕ, zero, suc, _+_, _≤_, _<_}
 use native.Mathlib.Omega.{arith}
-use mathlib.Core.List.{List, [], _∷_}
-use lib.ListN.{length}
+use native.Mathlib.Numerals.{add-one}
+use mathlib.Core.Path.{_≡_, refl, ap, sym, _∙_}
+use mathlib.Core.Option.{Option, none, some}
+use mathlib.Core.List.{List, [], _∷_, map}
+use lib.ListN.{length, getD, set, take, length-append, length-map, List·getD-eq-default}
+use lib.Seq.{take-suc, take-suc-set, take-all}
+use borrow.Author.Tests.{le-ltb, lt-ltb}
+use Rattle.kinds.specs.Kind.{Kind, numbered, kindOf}
 use Rattle.tables.specs.Section.{Section}
 use Rattle.tables.specs.Entries.{
   newBooking,
@@ -28,6 +34,7 @@ use Rattle.tables.specs.File.{
   drift,
   suspension,
   gas,
+  fileNumber,
   tableOf,
   allSections,
   sections,
@@ -36,8 +43,9 @@ use Rattle.tables.specs.File.{
   axlesFrom,
   axleEntries,
 }
-use Rattle.tables.specs.Row.{entriesIn, rowCount, rowsBefore}
+use Rattle.tables.specs.Row.{entriesIn, rowCount, rowsBefore, rowKinds, rowKind}
 use Rattle.tables.proofs.Files.{of-any}
+use Rattle.tables.proofs.Sections.{at-file}
 
 pub rows-le : (t : List Section) (c : ℕ) → rowsBefore t c ≤ rowCount t
 unfolding rowCount
@@ -70,3 +78,50 @@ few gas = omega arith
 pub rows-few : (n : ℕ) → rowCount (tableOf n) ≤ 64
 unfolding tableOf
 rows-few n = of-any [] allSections (λ t. rowCount t ≤ 64) few-none few n
+
+pub kinds-count : (t : List Section) → length (rowKinds t) ≡ rowCount t
+unfolding rowCount
+kinds-count [] = refl
+kinds-count (x ∷ t) = let i = kinds-count t in simp (length-append, length-map) (omega arith)
+
+-- ---- the numbers of rows
+
+-- as many kinds as have a number
+abbrev pub kindCount : ℕ
+kindCount = 28
+
+pub heading-row : (n : ℕ) → kindCount ≤ n → rowKind n ≡ none
+unfolding rowKind numbered
+heading-row n h = rw (le-ltb n kindCount h)
+
+pub entry-row : (n : ℕ) → n < kindCount → rowKind n ≡ some (kindOf n)
+unfolding rowKind numbered
+entry-row n h = rw (lt-ltb n kindCount h)
+
+-- a row's number is that of its kind; past the rows, of none
+pub number-at : (ns : List ℕ) (r : ℕ) → r < length ns → rowKind (getD ns r 0) ≡ getD (map rowKind ns) r none
+number-at [] r l = absurd (omega arith)
+number-at (n ∷ ns) zero l = refl
+number-at (n ∷ ns) (suc r) l = number-at ns r (omega arith)
+
+pub past-rows : (ns : List ℕ) (r : ℕ) → length ns ≤ r → rowKind 255 ≡ getD (map rowKind ns) r none
+past-rows ns r l = heading-row 255 (omega arith) ∙ sym (List·getD-eq-default (map rowKind ns) none (omega (arith, length-map ns rowKind)))
+
+-- the numbers of a file's rows
+module _ (f : File) (n : ℕ) (t : n ≡ fileNumber f) (ns : List ℕ) (k : map rowKind ns ≡ rowKinds (allSections f)) where
+  pub numbers-many : rowCount (tableOf n) ≡ length ns
+  numbers-many = ap rowCount (at-file f t) ∙ sym (kinds-count (allSections f)) ∙ sym (ap length k) ∙ length-map ns rowKind
+
+  -- once they are put, they are the kinds of the table's rows
+  pub numbers-put : (ks : List ℕ) → take (length ns) ks ≡ ns → map rowKind (take (rowCount (tableOf n)) ks) ≡ rowKinds (tableOf n)
+  numbers-put ks e = ap (λ (m : ℕ). map rowKind (take m ks)) numbers-many ∙ ap (map rowKind) e ∙ k ∙ ap rowKinds (sym (at-file f t))
+
+  pub kind-of-row : (x r : ℕ) → rowKind x ≡ getD (map rowKind ns) r none → rowKind x ≡ getD (rowKinds (tableOf n)) r none
+  kind-of-row x r e = e ∙ ap (λ (ks : List (Option Kind)). getD ks r none) (k ∙ ap rowKinds (sym (at-file f t)))
+
+-- numbers that are put one by one
+pub put-next : (ns ks : List ℕ) (r : ℕ) → take r ks ≡ take r ns → r < length ns → r < length ks → take (r + 1) (set ks r (getD ns r 0)) ≡ take (r + 1) ns
+put-next ns ks r e l m = rw (add-one r, take-suc-set ks r (getD ns r 0) m, take-suc ns r 0 l, e)
+
+pub put-end : (ns ks : List ℕ) (r : ℕ) → take r ks ≡ take r ns → r ≡ length ns → take (length ns) ks ≡ ns
+put-end ns ks r e l = ap (λ (m : ℕ). take m ks) (sym l) ∙ e ∙ take-all r ns (omega arith)

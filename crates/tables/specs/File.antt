@@ -1,10 +1,11 @@
 -- The files, their sections, and the pairs of each (01, Bookings, Results and Judging).
-use Prim.Native.Nat.{ℕ, zero, suc, _+_, _*_, _-_}
+use Prim.Native.Nat.{ℕ, zero, suc, _+_, _*_}
 use Prim.Native.String.{String}
 use mathlib.Core.List.{List, [], _∷_, _++_, map}
-use mathlib.Core.Bool.{Bool, true, false}
+use mathlib.Core.Bool.{Bool, true, false, cond}
 use mathlib.Core.Option.{Option, none, some}
-use lib.ListN.{length, getD, take}
+use lib.Dec.{eqb}
+use lib.ListN.{length, getD}
 use Rattle.lines.specs.Text.{bytes}
 use Rattle.places.specs.Places.{placeSize}
 use Rattle.tables.specs.Section.{Entry, Section, entriesOf}
@@ -14,9 +15,13 @@ use Rattle.tables.specs.Entries.{newBooking, oldBooking, sixteen, driftA
 pub data File : Type 0 where
   ac2 acc drift suspension gas : File
 
--- all of them, by number from 1 on
+-- all of them, in the order of their pairs
 abbrev pub files : List File
 files = ac2 ∷ acc ∷ drift ∷ suspension ∷ gas ∷ []
+
+-- the file of each number, from 0 on
+abbrev pub numberedFiles : List (Option File)
+numberedFiles = none ∷ some ac2 ∷ some acc ∷ some drift ∷ some suspension ∷ some gas ∷ []
 
 abbrev pub fileNumber : File → ℕ
 fileNumber ac2 = 1
@@ -25,9 +30,13 @@ fileNumber drift = 3
 fileNumber suspension = 4
 fileNumber gas = 5
 
+abbrev pub orElse : {A : Type 0} → A → (File → A) → Option File → A
+orElse d g none = d
+orElse d g (some f) = g f
+
 -- what g says of the file of number n; d where no file has it
 unfoldable pub ofNumber : {A : Type 0} → A → (File → A) → ℕ → A
-ofNumber d g n = getD (d ∷ map g files) n d
+ofNumber d g n = getD (map (orElse d g) numberedFiles) n d
 
 abbrev pub fileOf : ℕ → Option File
 fileOf n = ofNumber none some n
@@ -110,9 +119,14 @@ unfoldable pub rooms : List File → ℕ
 rooms [] = 0
 rooms (f ∷ fs) = room f + rooms fs
 
+-- those of several files that stand before f
+abbrev pub filesBefore : File → List File → List File
+filesBefore f [] = []
+filesBefore f (g ∷ fs) = cond (eqb (fileNumber g) (fileNumber f)) [] (g ∷ filesBefore f fs)
+
 -- 01, Judging: "files' first pairs": the rooms of the files before it
 unfoldable pub firstPair : File → ℕ
-firstPair f = rooms (take (fileNumber f - 1) files)
+firstPair f = rooms (filesBefore f files)
 
 -- the pairs of all files
 unfoldable pub pairCount : ℕ

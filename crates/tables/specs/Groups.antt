@@ -7,7 +7,7 @@ use Rattle.tables.specs.Section.{Entry}
 use Rattle.tables.specs.declared.SectionPlace.{SectionPlace}
 use Rattle.tables.specs.Entries.{newBooking, oldBooking, sixteen, driftAxle, suspensionAxle, analysis, fuelAnalysis}
 use Rattle.tables.specs.File.{File, ac2, acc, drift, suspension, gas, ofNumber, tableOf}
-use Rattle.tables.specs.Row.{entriesIn, rowsBefore}
+use Rattle.tables.specs.Row.{names, entriesIn, rowsBefore}
 
 -- drift and suspension: what both have, then the axles of each
 unfoldable pub testers : List Entry
@@ -35,12 +35,12 @@ inRow n = n ++ replicate (34 - length n) 32
 unfoldable pub tagOf : List ℕ → ℕ
 tagOf s = (length s % 32 * 8 + getD s 0 0) % 256
 
--- from row a on, r is the first with the tag t, or the number of rows where none has it
-pub record PassesTo (tags : List ℕ) (t a r : ℕ) : Type 0 where
+-- of the rows from a to e, r is the first with the tag t; e where none has it
+pub record PassesTo (tags : List ℕ) (t a e r : ℕ) : Type 0 where
   pub on : a ≤ r
-  pub in-tags : r ≤ length tags
+  pub within : r ≤ e
   pub passed : (k : ℕ) → a ≤ k → k < r → getD tags k 0 ≡ t → ⊥
-  pub found : r < length tags → getD tags r 0 ≡ t
+  pub found : r < e → getD tags r 0 ≡ t
 
 -- rows, lengths and tags are those of the names ns
 pub record Lent (ns : List (List ℕ)) (rows : List (List ℕ)) (lengths tags : List ℕ) : Type 0 where
@@ -62,6 +62,12 @@ rowName rows lengths k = take (getD lengths k 0) (getD rows k [])
 pub record StandsAt (n c s : ℕ) : Type 0 where
   pub are : take (length (entriesIn (tableOf n) c)) (drop s (groupOf n)) ≡ entriesIn (tableOf n) c
   pub within : s + length (entriesIn (tableOf n) c) ≤ length (groupOf n)
+
+-- the names of the group of file n are lent, and those of its section c stand there from row s to row e
+pub record SectionLent (n c s e : ℕ) (rows : List (List ℕ)) (lengths tags : List ℕ) : Type 0 where
+  pub lent : Lent (names (groupOf n)) rows lengths tags
+  pub stands : StandsAt n c s
+  pub end-is : e ≡ s + length (entriesIn (tableOf n) c)
 
 -- p is the place of section c of the file of number n
 pub record IsPlaceOf (n c : ℕ) (p : SectionPlace) : Type 0 where

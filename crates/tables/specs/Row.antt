@@ -1,10 +1,11 @@
 -- Sections and entries of a table by number and by name. A number that none has stands for nothing.
 use Prim.Native.Nat.{ℕ, zero, suc, _+_}
-use mathlib.Core.List.{List, [], _∷_, map}
+use mathlib.Core.List.{List, [], _∷_, _++_, map}
+use mathlib.Core.Option.{Option, none, some}
 use mathlib.Core.Bool.{cond}
 use lib.Dec.{ltb}
 use lib.ListN.{length, getD, take}
-use Rattle.kinds.specs.Kind.{NoKind}
+use Rattle.kinds.specs.Kind.{Kind, NoKind, numbered, kindOf}
 use Rattle.kinds.specs.Value.{wordIndex}
 use Rattle.tables.specs.Section.{Entry, Section}
 
@@ -64,3 +65,12 @@ rowsBefore t c = rowCount (take c t)
 -- the row of entry i of section c; the number of rows where it has none
 unfoldable pub rowAt : List Section → ℕ → ℕ → ℕ
 rowAt t c i = cond (ltb i (length (entriesIn t c))) (rowsBefore t c + 1 + i) (rowCount t)
+
+-- the kind of each row; a heading has none
+abbrev pub rowKinds : List Section → List (Option Kind)
+rowKinds [] = []
+rowKinds (s ∷ t) = none ∷ (map (λ e. some (e .kind)) (s .entries) ++ rowKinds t)
+
+-- the kind of a row by the number that the code has for it: a number that is no kind's is a heading's
+unfoldable pub rowKind : ℕ → Option Kind
+rowKind n = cond (ltb n (length numbered)) (some (kindOf n)) none

@@ -1,4 +1,9 @@
 // Headings compared, each a byte string. What has no section has the empty heading.
+use crate::AC2;
+use crate::ACC;
+use crate::DRIFT;
+use crate::GAS;
+use crate::SUSPENSION;
 ghost use mathlib.Core.Path.{_≡_};
 ghost use mathlib.Core.List.{_∷_, _++_};
 ghost use Prim.Native.Nat.{_+_, _≤_};
@@ -73,11 +78,11 @@ pub fn is_heading(file: u32, section: usize, part: &[u8]) -> bool
     ensures { λ r. ⌜ r ≡ sameBytes (now (part .entry)) (headingAt (tableOf file) section) ⌝ }
 {
     match file {
-        1 => is_booking_heading(section, part),
-        2 => is_booking_heading(section, part),
-        3 => is_drift_heading(section, part),
-        4 => is_suspension_heading(section, part),
-        5 => is_gas_heading(section, part),
+        AC2 => is_booking_heading(section, part),
+        ACC => is_booking_heading(section, part),
+        DRIFT => is_drift_heading(section, part),
+        SUSPENSION => is_suspension_heading(section, part),
+        GAS => is_gas_heading(section, part),
         _ => lines::equal(part, b""),
     }
 }

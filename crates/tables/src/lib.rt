@@ -3,6 +3,7 @@
 mod compare; // compare.rt: headings compared
 pub mod groups; // groups.rt: the names of the entries, with their lengths and tags
 pub mod pairs; // pairs.rt: the pairs of entries that conditions and rules look at
+pub mod row_kinds; // row_kinds.rt: the kinds of the rows
 mod write; // write.rt: lines of headings written
 
 use groups::Row;
@@ -14,7 +15,18 @@ ghost use Rattle.lines.specs.Line.{heading as headingLine, entry as entryLine, 
 ghost use Rattle.lines.specs.Writing.{Wrote};
 ghost use Rattle.tables.specs.File.{tableOf, ofNumber, isFile, leastSections, fixedSections, firstPair, room};
 ghost use Rattle.tables.specs.Row.{entriesIn, names, nameIn, nameAt, headingAt, sectionOf, entryIn, rowsBefore, rowCount, rowAt};
-ghost use Rattle.tables.specs.Groups.{groupOf, tagOf, PassesTo, Lent, InRow, rowName, StandsAt, IsPlaceOf};
+ghost use Rattle.tables.specs.Groups.{groupOf, tagOf, PassesTo, Lent, SectionLent, InRow, rowName, StandsAt, IsPlaceOf};
+
+// The numbers of the files (01, the set).
+pub const AC2: u32 = 1;
+
+pub const ACC: u32 = 2;
+
+pub const DRIFT: u32 = 3;
+
+pub const SUSPENSION: u32 = 4;
+
+pub const GAS: u32 = 5;
 
 // Where a section stands: the row of its first entry in its group, how many entries it has, and the rows of its table
 // before it.
@@ -90,25 +102,25 @@ pub fn entry_count(file: u32, section: usize) -> usize
     ensures { λ r. ⌜ r ≡ length (entriesIn (tableOf file) section) ⌝ }
 {
     match file {
-        1 => match section {
+        AC2 => match section {
             0 => 12,
             _ => 0,
         },
-        2 => match section {
+        ACC => match section {
             0 => 6,
             _ => 0,
         },
-        3 => match section {
+        DRIFT => match section {
             0 => 16,
             1..=9 => 1,
             _ => 0,
         },
-        4 => match section {
+        SUSPENSION => match section {
             0 => 16,
             1..=9 => 3,
             _ => 0,
         },
-        5 => match section {
+        GAS => match section {
             0 => 46,
             1 => 7,
             _ => 0,
@@ -125,9 +137,9 @@ fn section_start(file: u32, section: usize) -> usize
         return 0;
     }
     match file {
-        3 => 16,
-        4 => 17,
-        5 => 46,
+        DRIFT => 16,
+        SUSPENSION => 17,
+        GAS => 46,
         _ => 0,
     }
 }
@@ -137,25 +149,25 @@ pub fn rows_before(file: u32, section: usize) -> usize
     ensures { λ r. ⌜ r ≡ rowsBefore (tableOf file) section ⌝ }
 {
     match file {
-        1 => match section {
+        AC2 => match section {
             0 => 0,
             _ => 13,
         },
-        2 => match section {
+        ACC => match section {
             0 => 0,
             _ => 7,
         },
-        3 => match section {
+        DRIFT => match section {
             0 => 0,
             1..=9 => 17 + (section - 1) * 2,
             _ => 35,
         },
-        4 => match section {
+        SUSPENSION => match section {
             0 => 0,
             1..=9 => 17 + (section - 1) * 4,
             _ => 53,
         },
-        5 => match section {
+        GAS => match section {
             0 => 0,
             1 => 47,
             _ => 55,
@@ -257,13 +269,13 @@ fn write_row(
     lines::write_entry(out, at, &name[..n], value)
 }
 
-// The first row from `from` on with that tag, one by one; the number of rows where none has it.
-fn next_row(tags: &[u8], from: usize, tag: u8) -> usize
-    requires { ⌜ from ≤ length (now tags) ⌝ }
-    ensures { λ r. ⌜ PassesTo (now (tags .entry)) tag from r ⌝ }
+// The first row from `from` on with that tag, one by one; `end` where none before it has it.
+fn next_row(tags: &[u8], from: usize, end: usize, tag: u8) -> usize
+    requires { ⌜ (from ≤ end) × (end ≤ length (now tags)) ⌝ }
+    ensures { λ r. ⌜ PassesTo (now (tags .entry)) tag from end r ⌝ }
 {
     let mut row = from;
-    while row < tags.len() {
+    while row < end {
         if tags[row] == tag {
             return row;
         }
@@ -273,42 +285,44 @@ fn next_row(tags: &[u8], from: usize, tag: u8) -> usize
 }
 
 // Likewise, passing over eight rows at a time while none of the eight has that tag, then one by one.
-fn pass_over(tags: &[u8], from: usize, tag: u8) -> usize
-    requires { ⌜ from ≤ length (now tags) ⌝ }
-    ensures { λ r. ⌜ PassesTo (now (tags .entry)) tag from r ⌝ }
+fn pass_over(tags: &[u8], from: usize, end: usize, tag: u8) -> usize
+    requires { ⌜ (from ≤ end) × (end ≤ length (now tags)) ⌝ }
+    ensures { λ r. ⌜ PassesTo (now (tags .entry)) tag from end r ⌝ }
 {
     let mut row = from;
-    while 8 <= tags.len() - row {
+    while 8 <= end - row {
         if !lines::lacks(tags, row, tag) {
-            return next_row(tags, row, tag);
+            return next_row(tags, row, end, tag);
         }
         row += 8;
     }
-    next_row(tags, row, tag)
+    next_row(tags, row, end, tag)
 }
 
-// The entry of a name in a section whose names are lent, looked for in table order; the number of entries where it is
-// none of the section's. A name is compared only where its tag is the part's.
-fn find_entry(
+// The row of a name among those of a section that stand in its group from `start` to `end`, looked for in table order;
+// `end` where it is none of the section's. A name is compared only where its tag is the part's.
+fn find_listed(
     file: u32,
     section: usize,
+    start: usize,
+    end: usize,
     rows: &[Row],
     lengths: &[u8],
     tags: &[u8],
     part: &[u8],
 ) -> usize
-    requires { ⌜ Lent (names (entriesIn (tableOf file) section)) (now rows) (now lengths) (now tags) ⌝ }
-    ensures { λ r. ⌜ r ≡ entryIn (tableOf file) section (now (part .entry)) ⌝ }
+    requires { ⌜ SectionLent file section start end (now rows) (now lengths) (now tags) ⌝ }
+    ensures { λ r. ⌜ r ≡ start + entryIn (tableOf file) section (now (part .entry)) ⌝ }
 {
     let tag = tag_of(part);
-    let mut entry = pass_over(tags, 0, tag);
-    while entry < tags.len() {
-        if is_row(rows, lengths, entry, part) {
-            return entry;
+    let mut row = pass_over(tags, start, end, tag);
+    while row < end {
+        if is_row(rows, lengths, row, part) {
+            return row;
         }
-        entry = pass_over(tags, entry + 1, tag);
+        row = pass_over(tags, row + 1, end, tag);
     }
-    entry
+    row
 }
 
 // The place of a section, for all look-ups under its heading. Of a section that there is not, it is left open where
@@ -341,18 +355,10 @@ pub fn find_row(
     ensures { λ r. ⌜ r ≡ rowAt (tableOf file) section (entryIn (tableOf file) section (now (part .entry))) ⌝ }
 {
     let start = place.start;
-    let size = place.size;
-    let end = start + size;
-    let entry = find_entry(
-        file,
-        section,
-        &rows[start..end],
-        &lengths[start..end],
-        &tags[start..end],
-        part,
-    );
-    if entry < size {
-        place.before + 1 + entry
+    let end = start + place.size;
+    let row = find_listed(file, section, start, end, rows, lengths, tags, part);
+    if row < end {
+        place.before + 1 + (row - start)
     } else {
         row_count(file)
     }
@@ -372,7 +378,7 @@ fn write_listed(file: u32, row: usize, value: &[u8], out: &mut [u8], at: usize) 
     ensures { λ r. ⌜ Wrote (now (out .entry)) at (writtenLine (entryLine (nameIn (groupOf file) row) (now (value .entry)))) (now (out .exit)) r ⌝ }
 {
     match file {
-        2 => write_row(
+        ACC => write_row(
             &groups::old_booking_rows(),
             &groups::old_booking_lengths(),
             row,
@@ -380,7 +386,7 @@ fn write_listed(file: u32, row: usize, value: &[u8], out: &mut [u8], at: usize) 
             out,
             at,
         ),
-        3 => write_row(
+        DRIFT => write_row(
             &groups::tester_rows(),
             &groups::tester_lengths(),
             row,
@@ -388,7 +394,7 @@ fn write_listed(file: u32, row: usize, value: &[u8], out: &mut [u8], at: usize) 
             out,
             at,
         ),
-        4 => write_row(
+        SUSPENSION => write_row(
             &groups::tester_rows(),
             &groups::tester_lengths(),
             row,
@@ -396,7 +402,7 @@ fn write_listed(file: u32, row: usize, value: &[u8], out: &mut [u8], at: usize) 
             out,
             at,
         ),
-        5 => write_row(
+        GAS => write_row(
             &groups::gas_rows(),
             &groups::gas_lengths(),
             row,

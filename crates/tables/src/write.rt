@@ -1,4 +1,9 @@
 // Lines of headings written. What has no section has the empty heading.
+use crate::AC2;
+use crate::ACC;
+use crate::DRIFT;
+use crate::GAS;
+use crate::SUSPENSION;
 ghost use mathlib.Core.List.{_∷_, _++_};
 ghost use Prim.Native.Nat.{_+_, _≤_};
 ghost use lib.ListN.{length};
@@ -75,11 +80,11 @@ pub fn write_heading(file: u32, section: usize, out: &mut [u8], at: usize) -> us
     ensures { λ r. ⌜ Wrote (now (out .entry)) at (writtenLine (headingLine (headingAt (tableOf file) section))) (now (out .exit)) r ⌝ }
 {
     match file {
-        1 => write_booking_heading(section, out, at),
-        2 => write_booking_heading(section, out, at),
-        3 => write_drift_heading(section, out, at),
-        4 => write_suspension_heading(section, out, at),
-        5 => write_gas_heading(section, out, at),
+        AC2 => write_booking_heading(section, out, at),
+        ACC => write_booking_heading(section, out, at),
+        DRIFT => write_drift_heading(section, out, at),
+        SUSPENSION => write_suspension_heading(section, out, at),
+        GAS => write_gas_heading(section, out, at),
         _ => lines::write_heading(out, at, b""),
     }
 }

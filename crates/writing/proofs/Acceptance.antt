@@ -13,8 +13,9 @@ use Rattle.places.specs.Places.{pairsAt, Within}
 use Rattle.places.proofs.Laws.{pairs-length}
 use Rattle.tables.specs.Section.{Section, entriesOf}
 use Rattle.tables.specs.File.{File, ofNumber, hasAxles, sections, entries, firstPair, leastPlaces, tableOf}
+use Rattle.tables.specs.Row.{rowKinds}
 use Rattle.reading.specs.Fitting.{EachKept}
-use Rattle.reading.specs.Reading.{Check, passes, fails, rowKinds}
+use Rattle.reading.specs.Reading.{Check, passes, fails}
 use Rattle.reading.specs.Writing.{writeText}
 use Rattle.writing.specs.Writing.{axlesRight, pairsOf, valuesOf, firstWrongPair, isOutside, isWrongKind, Quote, refuse, quote, unless, quotePairs, isRight, quoteRight, quoteFile, fitting, refusal, written, answerOf, outputOf, bytesOf}
 use Rattle.writing.specs.Steps.{Ready, sectionsText}

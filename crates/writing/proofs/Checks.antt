@@ -15,21 +15,12 @@ use Rattle.kinds.specs.Kind.{Kind, kindOf, numbered}
 use Rattle.kinds.specs.Value.{kindKept}
 use Rattle.places.specs.Places.{Pair, startOf, lengthOf, pairsAt, valueAt, Within}
 use Rattle.tables.specs.Section.{Entry, Section, entriesOf}
+use Rattle.tables.specs.Row.{rowKinds, rowKind}
+use Rattle.tables.proofs.Rows.{kindCount, heading-row, entry-row}
 use Rattle.reading.specs.Fitting.{EachKept}
-use Rattle.reading.specs.Reading.{Check, passes, fails, rowKinds}
-use Rattle.rows.specs.Rows.{rowKind}
+use Rattle.reading.specs.Reading.{Check, passes, fails}
 use Rattle.writing.specs.Writing.{firstWrongPair, isOutside, isWrongKind}
 use Rattle.writing.specs.Steps.{entryCount, pairCheck, lineCheck}
-
--- ---- a row's number
-
-pub row-entry : (x : ℕ) → x < 28 → rowKind x ≡ some (kindOf x)
-unfolding rowKind numbered
-row-entry x l = rw (lt-ltb x 28 l)
-
-pub row-heading : (x : ℕ) → 28 ≤ x → rowKind x ≡ none
-unfolding rowKind numbered
-row-heading x l = rw (le-ltb x 28 l)
 
 -- ---- the entries from row r on
 
@@ -75,14 +66,14 @@ pub record Turn (wrong : Kind → Pair → Bool) (number : ℕ) (t : List (Optio
 pub record EntryRow (t : List (Option Kind)) (count r x : ℕ) : Type 0 where
   pub before : r < count
   pub number-is : rowKind x ≡ getD t r none
-  pub filled : x < 28
+  pub filled : x < kindCount
 
 module _ (t : List (Option Kind)) (count : ℕ) (most : count ≤ length t) where
   rows-are : length (take count t) ≡ count
   rows-are = length-take-le count t most
 
   entry-at : {r x : ℕ} → EntryRow t count r x → getD (take count t) r none ≡ some (kindOf x)
-  entry-at {r} {x} e = getD-take count t r none (e .before) ∙ sym (e .number-is) ∙ row-entry x (e .filled)
+  entry-at {r} {x} e = getD-take count t r none (e .before) ∙ sym (e .number-is) ∙ entry-row x (e .filled)
 
   entry-room : {r x : ℕ} → EntryRow t count r x → entryCount (drop r (take count t)) ≡ suc (entryCount (drop (r + 1) (take count t)))
   entry-room {r} {x} e = count-entry (take count t) r (omega (arith, rows-are, e .before)) (kindOf x) (entry-at e)
@@ -97,9 +88,9 @@ module _ {wrong : Kind → Pair → Bool} {number : ℕ} {t : List (Option Kind)
   turn-start m l = record { inside = omega arith; most = m; room = l; same = refl }
 
   module _ {r k : ℕ} (h : Turn wrong number t count p first r k) where
-    pub turn-heading : {x : ℕ} → r < count → rowKind x ≡ getD t r none → 28 ≤ x → Turn wrong number t count p first (r + 1) k
+    pub turn-heading : {x : ℕ} → r < count → rowKind x ≡ getD t r none → kindCount ≤ x → Turn wrong number t count p first (r + 1) k
     turn-heading {x} l e m =
-        let w : getD (take count t) r none ≡ none = getD-take count t r none l ∙ sym e ∙ row-heading x m in
+        let w : getD (take count t) r none ≡ none = getD-take count t r none l ∙ sym e ∙ heading-row x m in
         let i : r < length (take count t) = omega (arith, rows-are t count (h .most)) in
         record {
           inside = omega arith;
@@ -155,10 +146,10 @@ module _ {s : List ℕ} {t : List (Option Kind)} {count : ℕ} {p : List ℕ} {r
   pub next-within : AllWithin s t count p (r + 1) (k + 1)
   next-within = record { passed = inner .1 }
 
-pub heading-within : {s : List ℕ} {t : List (Option Kind)} {count : ℕ} {p : List ℕ} {r k x : ℕ} → count ≤ length t → r < count → rowKind x ≡ getD t r none → 28 ≤ x
+pub heading-within : {s : List ℕ} {t : List (Option Kind)} {count : ℕ} {p : List ℕ} {r k x : ℕ} → count ≤ length t → r < count → rowKind x ≡ getD t r none → kindCount ≤ x
     → AllWithin s t count p r k → AllWithin s t count p (r + 1) k
 heading-within {s} {t} {count} {p} {r} {k} {x} most l e m h =
-    let w : getD (take count t) r none ≡ none = getD-take count t r none l ∙ sym e ∙ row-heading x m in
+    let w : getD (take count t) r none ≡ none = getD-take count t r none l ∙ sym e ∙ heading-row x m in
     record { passed = sym (check-heading (isOutside s) 17 (take count t) p r k (omega (arith, rows-are t count most)) w) ∙ h .passed }
 
 -- ---- what checks over all rows of a table say

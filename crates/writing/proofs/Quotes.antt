@@ -13,16 +13,15 @@ use Rattle.kinds.specs.Kind.{Kind}
 use Rattle.places.specs.Places.{Pair, pairsAt}
 use Rattle.places.proofs.Laws.{pairs-length}
 use Rattle.tables.specs.Section.{Section, entriesOf}
-use Rattle.tables.specs.Row.{rowsBefore, rowCount}
+use Rattle.tables.specs.Row.{rowsBefore, rowCount, rowKinds}
 use Rattle.tables.specs.File.{File, ac2, acc, drift, suspension, gas, fileNumber, ofNumber, hasAxles, leastAxles, mostAxles, fixedSections, sections, allSections, leastSections, entries, firstPair, leastPlaces, tableOf}
 use Rattle.tables.proofs.Files.{of-file, of-none, of-any, table-of, NoFile}
 use Rattle.tables.proofs.Axles.{sections-fixed, sections-length, sections-prefix, entries-most}
 use Rattle.tables.proofs.Numbers.{room-in, first-pairs}
-use Rattle.tables.proofs.Rows.{rows-le, rows-few}
+use Rattle.tables.proofs.Rows.{rows-le, rows-few, kinds-count}
 use Rattle.reading.specs.Tables.{tableLength, valuesLength, mostBytes}
-use Rattle.reading.specs.Reading.{passes, fails, rowKinds}
+use Rattle.reading.specs.Reading.{passes, fails}
 use Rattle.reading.specs.Writing.{writeText}
-use Rattle.reading.proofs.Lookup.{kinds-count}
 use Rattle.reading.proofs.Sections.{kinds-take, rows-entries}
 use Rattle.reading.proofs.Formed.{text-length, short-text}
 use Rattle.reading.proofs.Written.{written, kept-length}

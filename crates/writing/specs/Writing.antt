@@ -12,7 +12,8 @@ use Rattle.lines.specs.Writing.{put}
 use Rattle.refusals.specs.Refusals.{numberOf}
 use Rattle.tables.specs.File.{File, hasAxles, leastAxles, mostAxles, sections, entries, firstPair, leastPlaces, ofNumber}
 use Rattle.places.specs.Places.{Pair, valueAt, valuesAt, pairsAt}
-use Rattle.reading.specs.Reading.{Check, passes, fails, rowKinds}
+use Rattle.tables.specs.Row.{rowKinds}
+use Rattle.reading.specs.Reading.{Check, passes, fails}
 use Rattle.reading.specs.Writing.{writeText}
 use Rattle.writing.specs.declared.WriteAnswer.{WriteAnswer}
 use Rattle.writing.specs.declared.WriteAnswer.the-variants.{Written, Refused}

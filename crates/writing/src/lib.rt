@@ -1,6 +1,8 @@
 // One file written from a text and its pairs (01, Writing): first all checks with the length, then the bytes.
+use kinds::numbers::KIND_COUNT;
 use refusals::Refusal;
 use refusals::RefusalKind;
+use tables::row_kinds;
 ghost use mathlib.Core.Path.{_≡_};
 ghost use mathlib.Core.Bool.{true};
 ghost use Prim.Native.Nat.{_+_, _*_, _<_, _≤_};
@@ -9,9 +11,9 @@ ghost use lib.ListN.{length, take, getD};
 ghost use Rattle.lines.specs.Writing.{Wrote};
 ghost use Rattle.places.specs.Places.{placeSize, startOf, lengthOf, pairsAt, valueAt};
 ghost use Rattle.tables.specs.Section.{entriesOf};
-ghost use Rattle.tables.specs.Row.{entriesIn, noSection};
+ghost use Rattle.tables.specs.Row.{entriesIn, noSection, rowKinds};
 ghost use Rattle.tables.specs.File.{leastPlaces, tableOf, sections, ofNumber};
-ghost use Rattle.reading.specs.Reading.{rowKinds, passes};
+ghost use Rattle.reading.specs.Reading.{passes};
 ghost use Rattle.reading.specs.Tables.{tableLength};
 ghost use Rattle.writing.specs.Writing.{axlesRight, isOutside, isWrongKind, isRight, quoteRight, quoteFile, answerOf, quotedIs, Writes};
 ghost use Rattle.writing.specs.Steps.{entryCount, pairCheck, lineCheck, pairLengths, Ready, entriesText, sectionText, sectionsText};
@@ -77,7 +79,7 @@ fn outside_line(text: &[u8], places: &[u32], file: u32, count: usize, first: usi
     let mut pair = first;
     let mut row = 0;
     while row < count {
-        if rows::row_kind(file, row) < rows::HEADING {
+        if row_kinds::row_kind(file, row) < KIND_COUNT {
             if is_outside(text, places, pair) {
                 return row + 1;
             }
@@ -98,8 +100,8 @@ fn wrong_kind_line(text: &[u8], places: &[u32], file: u32, count: usize, first: 
     let mut pair = first;
     let mut row = 0;
     while row < count {
-        let kind = rows::row_kind(file, row);
-        if kind < rows::HEADING {
+        let kind = row_kinds::row_kind(file, row);
+        if kind < KIND_COUNT {
             if !kinds::kind_kept(kind, places::value_of(text, places, pair)) {
                 return row + 1;
             }

@@ -7,9 +7,9 @@ use mathlib.Core.List.{map}
 use lib.ListN.{getD}
 use denote.Ref.{now}
 use borrow.Author.Tests.{eq-eqb, ne-eqb}
+use Rattle.tables.specs.Row.{rowKind}
 use Rattle.reading.specs.Reading.{checkAbsent, isAbsent, ownerRow, firstWrong, fails}
 use Rattle.reading.proofs.Checks.{wrong-here, wrong-next, wrong-end}
-use Rattle.rows.specs.Rows.{rowKind}
 use Rattle.files.proofs.check_absent.Statement.{statement}
 use Rattle.files.proofs.check_absent.Tie as tie
 

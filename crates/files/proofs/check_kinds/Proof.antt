@@ -6,9 +6,9 @@ use mathlib.Core.Path.{_≡_, sym, _∙_}
 use mathlib.Core.List.{map}
 use lib.ListN.{getD}
 use denote.Ref.{now}
+use Rattle.tables.specs.Row.{rowKind}
 use Rattle.reading.specs.Reading.{slots, checkKinds, isWrong, firstWrong}
 use Rattle.reading.proofs.Checks.{wrong-here, wrong-next, wrong-end}
-use Rattle.rows.specs.Rows.{rowKind}
 use Rattle.files.proofs.Rows.{wrong-row}
 use Rattle.files.proofs.check_kinds.Statement.{statement}
 use Rattle.files.proofs.check_kinds.Tie as tie

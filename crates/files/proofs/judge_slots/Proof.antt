@@ -5,7 +5,7 @@ use mathlib.Core.Path.{ap, sym, _∙_}
 use denote.Ref.{now}
 use Rattle.tables.specs.File.{tableOf, ofNumber, leastSections}
 use Rattle.reading.specs.Reading.{slots}
-use Rattle.reading.proofs.Lookup.{rows-le}
+use Rattle.tables.proofs.Rows.{rows-le}
 use Rattle.reading.proofs.Judging.{judge-few, judge-gap, judge-absent, judge-kinds, judge-read}
 use Rattle.files.specs.Steps.{checkIs}
 use Rattle.files.proofs.Steps.{kinds-length, absent-is, kinds-is, values-ready}

@@ -5,8 +5,8 @@ use native.Mathlib.Omega.{arith}
 use mathlib.Core.Path.{_≡_, refl, sym, _∙_}
 use mathlib.Core.List.{map}
 use denote.Ref.{now}
+use Rattle.tables.specs.Row.{rowKind}
 use Rattle.reading.specs.Reading.{ownerRow}
-use Rattle.rows.specs.Rows.{rowKind}
 use Rattle.files.proofs.Rows.{heading-at, entry-at, owner-here, owner-up, owner-first}
 use Rattle.files.proofs.owner_row.Statement.{statement}
 use Rattle.files.proofs.owner_row.Tie as tie

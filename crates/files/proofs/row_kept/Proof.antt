@@ -4,8 +4,9 @@ use native.Mathlib.Nat.{add-sub-cancel-left}
 use mathlib.Core.Path.{_∙_}
 use denote.Ref.{now}
 use Rattle.kinds.specs.Kind.{kindOf}
-use Rattle.rows.specs.Rows.{rowKind}
-use Rattle.files.proofs.Rows.{heading-row, entry-row, empty-kept, filled-kept}
+use Rattle.tables.specs.Row.{rowKind}
+use Rattle.tables.proofs.Rows.{heading-row, entry-row}
+use Rattle.files.proofs.Rows.{empty-kept, filled-kept}
 use Rattle.files.proofs.row_kept.Statement.{statement}
 use Rattle.files.proofs.row_kept.Tie as tie
 

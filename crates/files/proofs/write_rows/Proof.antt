@@ -7,8 +7,8 @@ use mathlib.Core.List.{List, map}
 use lib.ListN.{length, getD, take}
 use denote.Ref.{now}
 use Rattle.kinds.specs.Kind.{Kind, kindOf}
+use Rattle.tables.specs.Row.{rowKind}
 use Rattle.orders.specs.AnyOrder.{zip}
-use Rattle.rows.specs.Rows.{rowKind}
 use Rattle.files.proofs.Rows.{first-count, first-heading, first-entry}
 use Rattle.files.proofs.Entries.{zip-length, zip-at, Pairing, pairing-first, pairing-end, pairing-skip, pairing-room, pairing-put, Lining, lining-first, lining-end, lining-skip, lining-room, lining-put}
 use Rattle.files.proofs.write_rows.Statement.{statement}

@@ -9,18 +9,18 @@ use Rattle.tables.proofs.next_row.Statement.{statement}
 use Rattle.tables.proofs.next_row.Tie as tie
 
 abbrev Inv-loop : tie.InvT-loop
-Inv-loop tags from tag row₀ row = (from ≤ row) × (row ≤ length tags) × NoneFrom tags tag from row
+Inv-loop tags from end tag row₀ row = (from ≤ row) × (row ≤ end) × NoneFrom tags tag from row
 
 abbrev μ-loop : tie.MeasureT-loop
-μ-loop tags from tag row₀ row = length tags - row
+μ-loop tags from end tag row₀ row = end - row
 
 loop-holds : tie.Need-loop-holds Inv-loop μ-loop
-loop-holds c = (omega arith, c .pre, λ k h l p. omega arith)
+loop-holds c = (omega arith, c .pre .0, λ k h l p. omega arith)
 
 returns : tie.Need-returns Inv-loop μ-loop
 returns c =
     let l = c .before .before .before in
-    record { on = l .loop .inv .0; in-tags = l .loop .inv .1; passed = l .loop .inv .2; found = λ h. c .if1 .taken }
+    record { on = l .loop .inv .0; within = l .loop .inv .1; passed = l .loop .inv .2; found = λ h. c .if1 .taken }
 
 loop-again : tie.Need-loop-again Inv-loop μ-loop
 loop-again c =
@@ -31,7 +31,7 @@ loop-again c =
 returns-2 : tie.Need-returns-2 Inv-loop μ-loop
 returns-2 c =
     let l = c .before in
-    record { on = l .loop .inv .0; in-tags = l .loop .inv .1; passed = l .loop .inv .2; found = λ h. absurd (omega (arith, c .loop-test .left)) }
+    record { on = l .loop .inv .0; within = l .loop .inv .1; passed = l .loop .inv .2; found = λ h. absurd (omega (arith, c .loop-test .left)) }
 
 pub next-row-spec : {M : Type 1} → statement M
 next-row-spec =

@@ -12,13 +12,13 @@ use Rattle.tables.proofs.pass_over.Statement.{statement}
 use Rattle.tables.proofs.pass_over.Tie as tie
 
 abbrev Inv-loop : tie.InvT-loop
-Inv-loop tags from tag row₀ row = (from ≤ row) × (row ≤ length tags) × NoneFrom tags tag from row
+Inv-loop tags from end tag row₀ row = (from ≤ row) × (row ≤ end) × NoneFrom tags tag from row
 
 abbrev μ-loop : tie.MeasureT-loop
-μ-loop tags from tag row₀ row = length tags - row
+μ-loop tags from end tag row₀ row = end - row
 
 loop-holds : tie.Need-loop-holds Inv-loop μ-loop
-loop-holds c = (omega arith, c .before .pre, λ k h l p. omega arith)
+loop-holds c = (omega arith, c .before .pre .0, λ k h l p. omega arith)
 
 returns : tie.Need-returns Inv-loop μ-loop
 returns c =
@@ -29,10 +29,10 @@ loop-again : tie.Need-loop-again Inv-loop μ-loop
 loop-again c =
     let l = c .before .before .before in
     let x = l .before .before .args in
-    let h : 8 ≤ length (now (x .tags)) - l .loop .row = c .before .before .loop-test .taken in (
+    let h : 8 ≤ x .end - l .loop .row = c .before .before .loop-test .taken in (
       omega arith,
       omega arith,
-      none-block (now (x .tags)) (x .tag) (x .from) (l .loop .row) (l .loop .inv .2) (omega arith) (sym (c .before .lacks .ensures) ∙ not-false _ (c .if1 .left)),
+      none-block (now (x .tags)) (x .tag) (x .from) (l .loop .row) (l .loop .inv .2) (omega (arith, l .before .before .pre .1)) (sym (c .before .lacks .ensures) ∙ not-false _ (c .if1 .left)),
     )
 
 returns-2 : tie.Need-returns-2 Inv-loop μ-loop

@@ -5,7 +5,7 @@ use borrow.Author.Needs.{needs}
 use Rattle.writing.proofs.outside_line.Statement.{statement}
 use Rattle.writing.proofs.outside_line.Tie as tie
 use Rattle.tables.specs.File.{tableOf}
-use Rattle.reading.specs.Reading.{rowKinds}
+use Rattle.tables.specs.Row.{rowKinds}
 use Rattle.writing.specs.Writing.{isOutside}
 use Rattle.writing.proofs.Checks.{Turn, turn-start, turn-room, turn-entry, turn-heading, turn-found, turn-end, EntryRow}
 

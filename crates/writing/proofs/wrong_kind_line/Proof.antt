@@ -10,7 +10,7 @@ use mathlib.Core.Bool.{not}
 use Rattle.kinds.specs.Kind.{kindOf}
 use Rattle.kinds.specs.Value.{kindKept}
 use Rattle.tables.specs.File.{tableOf}
-use Rattle.reading.specs.Reading.{rowKinds}
+use Rattle.tables.specs.Row.{rowKinds}
 use Rattle.writing.specs.Writing.{isWrongKind}
 use Rattle.writing.proofs.Checks.{Turn, turn-start, turn-room, turn-entry, turn-heading, turn-found, turn-end, AllWithin, this-within, next-within, heading-within, EntryRow}
 

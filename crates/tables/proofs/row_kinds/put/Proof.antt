@@ -1,13 +1,13 @@
--- `rows::put` meets its contract: the first `r` numbers are put. Assumes nothing.
+-- `tables::row_kinds::put` meets its contract: the first `r` numbers are put. Assumes nothing.
 use borrow.Author.Needs.{needs}
 use Prim.Native.Nat.{_-_, _≤_}
 use native.Mathlib.Omega.{arith}
 use mathlib.Core.Path.{_≡_, refl}
 use lib.ListN.{length, take, length-set}
 use denote.Ref.{now}
-use Rattle.rows.proofs.Laws.{put-next, put-end}
-use Rattle.rows.proofs.put.Statement.{statement}
-use Rattle.rows.proofs.put.Tie as tie
+use Rattle.tables.proofs.Rows.{put-next, put-end}
+use Rattle.tables.proofs.row_kinds.put.Statement.{statement}
+use Rattle.tables.proofs.row_kinds.put.Tie as tie
 
 abbrev Inv-loop : tie.InvT-loop
 Inv-loop numbers kinds₀ r₀ kinds r = (r ≤ length numbers) × (length kinds ≡ length kinds₀) × (take r kinds ≡ take r numbers)
