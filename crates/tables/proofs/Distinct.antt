@@ -1,19 +1,20 @@
--- Headings tell the sections of a table apart: a part that is the heading of a section is that of no other. Assumes nothing.
-use Prim.Native.Nat.{ℕ, zero, suc, _≤_, _<_}
+-- Headings tell the sections of a table apart: a heading is that of one section only, and that is the likely one. Assumes nothing.
+use Prim.Native.Nat.{ℕ, zero, suc, _+_, _≤_, _<_}
 use native.Mathlib.Omega.{arith}
 use mathlib.Core.Path.{_≡_, refl, ap, sym, subst, _∙_}
-use mathlib.Core.Bool.{Bool, true, false, cond}
+use mathlib.Core.Bool.{Bool, true, false, cond, true≢false}
 use mathlib.Core.List.{List, [], _∷_}
-use lib.Dec.{leb}
+use lib.Dec.{leb, ltb}
 use lib.ListN.{length, getD, length-map}
-use borrow.Author.Tests.{leb-true}
+use borrow.Author.Tests.{leb-true, ltb-true, ltb-false}
 use Rattle.lines.specs.Bytes.{sameBytes}
 use Rattle.lines.proofs.Bytes.{same-is}
 use Rattle.lines.proofs.Bools.{and-left, and-right}
 use Rattle.kinds.specs.Value.{wordIndex}
+use Rattle.kinds.proofs.Laws.{by-test}
 use Rattle.tables.specs.Section.{Section}
-use Rattle.tables.specs.File.{allSections, tableOf}
-use Rattle.tables.specs.Row.{headings, headingAt, indexOf, sectionOf}
+use Rattle.tables.specs.File.{File, ac2, acc, drift, suspension, gas, fixedSections, axleSections, axlesFrom, sections, allSections, tableOf}
+use Rattle.tables.specs.Row.{headings, headingAt, indexOf, sectionOf, likelySection}
 use Rattle.tables.specs.Test.{distinct, distinctHeadings}
 use Rattle.tables.proofs.Files.{of-any}
 use Rattle.tables.proofs.Tests.{headings-distinct}
@@ -46,3 +47,66 @@ unfolding tableOf distinct
 heading-found n s k l e =
     index-is s (headings (tableOf n)) (of-any [] allSections (λ (t : List Section). distinctHeadings t ≡ true) refl headings-distinct n) k
     (omega (arith, length-map (tableOf n) (λ s. s .heading))) e
+
+-- ---- no other section has it
+
+index-found : (s : List ℕ) (xs : List (List ℕ)) → indexOf s xs < length xs → sameBytes s (getD xs (indexOf s xs) []) ≡ true
+unfolding wordIndex
+index-found s [] l = absurd (omega arith)
+index-found s (x ∷ xs) l = on (sameBytes s x) refl (index-found s xs) l
+  where
+    on : (b : Bool) → sameBytes s x ≡ b → (indexOf s xs < length xs → sameBytes s (getD xs (indexOf s xs) []) ≡ true)
+        → cond b 0 (suc (indexOf s xs)) < suc (length xs) → sameBytes s (getD (x ∷ xs) (cond b 0 (suc (indexOf s xs))) []) ≡ true
+    on true q h l = q
+    on false q h l = h (omega arith)
+
+index-most : (s : List ℕ) (xs : List (List ℕ)) → indexOf s xs ≤ length xs
+unfolding wordIndex
+index-most s [] = omega arith
+index-most s (x ∷ xs) = on (sameBytes s x) (index-most s xs)
+  where
+    on : (b : Bool) → indexOf s xs ≤ length xs → cond b 0 (suc (indexOf s xs)) ≤ suc (length xs)
+    on true h = omega arith
+    on false h = omega (arith, h)
+
+-- each heading of a table is that of its likely section, from section c on
+abbrev Likely : ℕ → List (List ℕ) → Type 0
+Likely c [] = Unit {0}
+Likely c (h ∷ hs) = (likelySection h ≡ c) × Likely (suc c) hs
+
+likely-at : (c : ℕ) (hs : List (List ℕ)) → Likely c hs → (k : ℕ) → k < length hs → likelySection (getD hs k []) ≡ c + k
+likely-at c [] w k l = absurd (omega arith)
+likely-at c (h ∷ hs) w zero l = let z : c + 0 ≡ c = omega arith in w .0 ∙ sym z
+likely-at c (h ∷ hs) w (suc k) l = let z : c + suc k ≡ suc c + k = omega arith in likely-at (suc c) hs (w .1) k (omega arith) ∙ sym z
+
+headings-likely : (f : File) → Likely 0 (headings (allSections f))
+unfolding likelySection sections fixedSections axleSections axlesFrom
+headings-likely ac2 = (refl, tt)
+headings-likely acc = (refl, tt)
+headings-likely drift = (refl, (refl, (refl, (refl, (refl, (refl, (refl, (refl, (refl, (refl, tt))))))))))
+headings-likely suspension = (refl, (refl, (refl, (refl, (refl, (refl, (refl, (refl, (refl, (refl, tt))))))))))
+headings-likely gas = (refl, (refl, tt))
+
+pub heading-none : (n : ℕ) (s : List ℕ) → (likelySection s < length (tableOf n) → sameBytes s (headingAt (tableOf n) (likelySection s)) ≡ false) → sectionOf (tableOf n) s ≡ length (tableOf n)
+unfolding tableOf
+heading-none n s h = by-test (ltb k (length hs)) inside (λ e. omega (arith, ltb-false k (length hs) e, index-most s hs, many))
+  where
+    hs : List (List ℕ)
+    hs = headings (tableOf n)
+
+    k : ℕ
+    k = indexOf s hs
+
+    many : length hs ≡ length (tableOf n)
+    many = length-map (tableOf n) (λ s. s .heading)
+
+    all : Likely 0 hs
+    all = of-any [] allSections (λ (t : List Section). Likely 0 (headings t)) tt headings-likely n
+
+    inside : ltb k (length hs) ≡ true → sectionOf (tableOf n) s ≡ length (tableOf n)
+    inside e =
+        let l : k < length hs = ltb-true k (length hs) e in
+        let found : sameBytes s (getD hs k []) ≡ true = index-found s hs l in
+        let z : 0 + k ≡ k = omega arith in
+        let is : likelySection s ≡ k = ap likelySection (same-is s (getD hs k []) found) ∙ likely-at 0 hs all k l ∙ z in
+        absurd (true≢false (sym found ∙ subst (λ (j : ℕ). j < length (tableOf n) → sameBytes s (headingAt (tableOf n) j) ≡ false) is h (omega (arith, many))))

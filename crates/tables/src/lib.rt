@@ -14,7 +14,7 @@ ghost use Rattle.lines.specs.Bytes.{sameBytes};
 ghost use Rattle.lines.specs.Line.{heading as headingLine, entry as entryLine, writtenLine, writtenLength};
 ghost use Rattle.lines.specs.Writing.{Wrote};
 ghost use Rattle.tables.specs.File.{tableOf, ofNumber, isFile, leastSections, fixedSections, firstPair, room};
-ghost use Rattle.tables.specs.Row.{entriesIn, names, nameIn, nameAt, headingAt, sectionOf, entryIn, rowsBefore, rowCount, rowAt};
+ghost use Rattle.tables.specs.Row.{entriesIn, names, nameIn, nameAt, headingAt, sectionOf, sectionDigit, likelySection, entryIn, rowsBefore, rowCount, rowAt};
 ghost use Rattle.tables.specs.Groups.{groupOf, tagOf, PassesTo, Lent, SectionLent, InRow, rowName, StandsAt, IsPlaceOf};
 
 // The numbers of the files (01, the set).
@@ -183,53 +183,38 @@ pub fn row_count(file: u32) -> usize
     of_file(&[0, 13, 7, 35, 53, 55], file)
 }
 
-// The section that a heading is likely to be: the digit before its `]`, which is an axle's number, else the first.
-// Which one is left open.
-fn likely_section(part: &[u8]) -> usize {
-    if part.len() < 2 {
-        return 0;
-    }
-    match part[part.len() - 2] {
-        b'1' => 1,
-        b'2' => 2,
-        b'3' => 3,
-        b'4' => 4,
-        b'5' => 5,
-        b'6' => 6,
-        b'7' => 7,
-        b'8' => 8,
-        b'9' => 9,
+// The digit 1 to 9 that a byte is; 0 for any other byte.
+fn section_digit(byte: u8) -> usize
+    ensures { λ r. ⌜ r ≡ sectionDigit byte ⌝ }
+{
+    match byte {
+        b'1'..=b'9' => wide(byte) - 48,
         _ => 0,
     }
 }
 
-// The section of a heading; the number of sections where it is none of the file's. No two have the same heading, so
-// where the likely one has it the others are not looked at.
+// The one section that a heading can be.
+fn likely_section(part: &[u8]) -> usize
+    ensures { λ r. ⌜ r ≡ likelySection (now (part .entry)) ⌝ }
+{
+    if part.len() < 2 {
+        return 0;
+    }
+    section_digit(part[part.len() - 2])
+}
+
+// The section of a heading; the number of sections where it is none of the file's. Only the likely one is compared.
 pub fn find_section(file: u32, part: &[u8]) -> usize
     ensures { λ r. ⌜ r ≡ sectionOf (tableOf file) (now (part .entry)) ⌝ }
 {
+    let count = section_count(file);
     let likely = likely_section(part);
-    if likely < section_count(file) {
+    if likely < count {
         if compare::is_heading(file, likely, part) {
             return likely;
         }
     }
-    search_section(file, part)
-}
-
-// Likewise, looked for among all sections of the file.
-fn search_section(file: u32, part: &[u8]) -> usize
-    ensures { λ r. ⌜ r ≡ sectionOf (tableOf file) (now (part .entry)) ⌝ }
-{
-    let count = section_count(file);
-    let mut section = 0;
-    while section < count {
-        if compare::is_heading(file, section, part) {
-            return section;
-        }
-        section += 1;
-    }
-    section
+    count
 }
 
 // The tag of a part; 0 where it is empty.
