@@ -11,7 +11,7 @@ use borrow.Author.Tests.{leb-true, le-leb, lt-leb, ne-eqb}
 use Rattle.lines.proofs.Bools.{clash}
 use Rattle.refusals.specs.Refusals.{numberOf}
 use Rattle.refusals.specs.declared.Refusal.{Refusal}
-use Rattle.places.specs.Places.{Pair, setPairs, pairsAt, valueAt, valuesAt, cleared, Within}
+use Rattle.places.specs.Places.{Pair, setPairs, pairsAt, valueAt, valuesAt, cleared, Within, placeSize}
 use Rattle.places.proofs.Laws.{set-length, pairs-set, drop-pairs, cleared-length, cleared-drop}
 use Rattle.tables.specs.Section.{Section}
 use Rattle.tables.specs.File.{File, ac2, acc, drift, suspension, gas, fileNumber, fileOf, isFile, ofNumber, hasAxles, fixedSections, sections, allSections, leastSections, entries, room, firstPair, leastPlaces, tableOf}
@@ -48,15 +48,15 @@ pub few-axles : (b : Bool) (n : ℕ) → AxleCount b n → n ≤ 9
 few-axles true n c = c .1
 few-axles false n c = omega arith
 
-pub rooms-fit : (f : File) → 2 * (firstPair f + room f) ≤ leastPlaces
+pub rooms-fit : (f : File) → placeSize * (firstPair f + room f) ≤ leastPlaces
 unfolding leastPlaces
 rooms-fit f = omega (arith, room-in f)
 
-pub pairs-fit : (f : File) (t : List ℕ) (c : ℕ) (ps : List Pair) → FileRead f t c ps → 2 * (firstPair f + length ps) ≤ leastPlaces
+pub pairs-fit : (f : File) (t : List ℕ) (c : ℕ) (ps : List Pair) → FileRead f t c ps → placeSize * (firstPair f + length ps) ≤ leastPlaces
 pairs-fit f t c ps r = omega (arith, r .many, entries-most f (axlesOf f c) (few-axles (hasAxles f) (axlesOf f c) (r .counted .count)), rooms-fit f)
 
 -- the pairs that were set are there
-pub own-pairs : (f : File) (n : ℕ) (ps : List Pair) (p : List ℕ) → length ps ≡ length (entries f n) → 2 * (firstPair f + length ps) ≤ leastPlaces → leastPlaces ≤ length p
+pub own-pairs : (f : File) (n : ℕ) (ps : List Pair) (p : List ℕ) → length ps ≡ length (entries f n) → placeSize * (firstPair f + length ps) ≤ leastPlaces → leastPlaces ≤ length p
     → pairsAt (setPairs (firstPair f) ps p) (firstPair f) (length (entries f n)) ≡ ps
 own-pairs f n ps p m h l =
     ap (λ (k : ℕ). pairsAt (setPairs (firstPair f) ps p) (firstPair f) k) (sym m) ∙ pairs-set (firstPair f) ps p (omega (arith, h, l))
