@@ -8,11 +8,12 @@ use lib.Dec.{leb}
 use lib.ListN.{length}
 use borrow.Author.Tests.{leb-true, leb-false, le-leb}
 use Rattle.refusals.specs.Refusals.{numberOf}
+use Rattle.refusals.specs.Answer.{Answer, refusal, acceptance}
 use Rattle.refusals.specs.declared.Refusal.{Refusal}
 use Rattle.places.specs.Places.{Pair, setPairs, pairsAt, valueAt, Within}
 use Rattle.tables.specs.File.{File, ac2, firstPair, leastPlaces, ofNumber}
 use Rattle.reading.specs.Reading.{Reading}
-use Rattle.files.specs.Alone as F
+use Rattle.files.specs.declared.FileAcceptance.{FileAcceptance}
 use Rattle.files.specs.Alone.{readAlone, ReadsAlone}
 use Rattle.files.specs.declared.FileAnswer.{FileAnswer}
 use Rattle.files.specs.declared.FileAnswer.the-variants as FileAnswer
@@ -21,7 +22,8 @@ use Rattle.due.specs.Booking.{bookingIn}
 use Rattle.due.specs.declared.Booking.{Booking}
 use Rattle.due.specs.Values.{pairsOf, newValues, Held}
 use Rattle.due.proofs.Pairs.{new-count}
-use Rattle.columns.specs.Column.{Outcome, refuses, gives, givesBeside, givesAfter, fitting, dueColumn, Answer, refusal, placesOf, Gives}
+use Rattle.columns.specs.Column.{Outcome, refuses, gives, givesBeside, givesAfter, fitting, dueColumn, placesOf, Gives}
+use Rattle.columns.specs.declared.ColumnAcceptance.{ColumnAcceptance}
 use Rattle.columns.specs.declared.ColumnAnswer.{ColumnAnswer}
 use Rattle.columns.specs.declared.ColumnAnswer.the-variants.{Refused}
 
@@ -64,9 +66,9 @@ module _ (s p q : List ℕ) (n : ℕ) (x : AloneRead 1 s p q n) where
 -- ---- AC2 was refused
 
 -- a refusal of a file that was read alone, as this crate's
-abbrev as-refusal : F.Answer → Answer
-as-refusal (F.refusal k f l) = refusal k f l
-as-refusal (F.acceptance n) = refusal 0 0 0
+abbrev as-refusal : Answer FileAcceptance → Answer ColumnAcceptance
+as-refusal (refusal k f l) = refusal k f l
+as-refusal (acceptance a) = refusal 0 0 0
 
 pub after-refused : (file : ℕ) (s t p q out : List ℕ) (r : FileAnswer) → ReadsAlone 1 s p q r → (x : Refusal) → r ≡ FileAnswer.Refused x
     → Gives file (dueColumn file s t p (length out)) p q out out (Refused x)

@@ -7,6 +7,7 @@ use mathlib.Core.List.{List, [], _++_, map}
 use lib.ListN.{length, drop}
 use borrow.Author.Tests.{le-leb, lt-leb}
 use Rattle.refusals.specs.Refusals.{numberOf}
+use Rattle.refusals.specs.Answer.{refusal, acceptance}
 use Rattle.refusals.specs.declared.Refusal.{Refusal}
 use Rattle.refusals.specs.declared.RefusalKind.the-variants.{OutputTooShort}
 use Rattle.places.specs.Places.{Pair, setPairs, pairsAt, valueAt, valuesAt, cleared, Within}
@@ -32,7 +33,7 @@ use Rattle.due.specs.declared.Conditions.{Conditions}
 use Rattle.due.proofs.Entries.{due-file, conditions-file}
 use Rattle.rules.specs.Slices.{isRead}
 use Rattle.due.proofs.Pairs.{held-number, fixed-held}
-use Rattle.columns.specs.Column.{numbersFrom, columnOf, Outcome, refuses, gives, givesFile, givesRead, givesBeside, fitting, refusal, column, Gives}
+use Rattle.columns.specs.Column.{numbersFrom, columnOf, Outcome, refuses, gives, givesFile, givesRead, givesBeside, fitting, Gives}
 use Rattle.columns.specs.declared.ColumnAnswer.{ColumnAnswer}
 use Rattle.columns.specs.declared.ColumnAnswer.the-variants.{Column, Refused}
 use Rattle.columns.proofs.Numbers.{numbers-length, numbers-same}
@@ -129,7 +130,7 @@ module _ (file : ℕ) (t p q : List ℕ) (n : ℕ) (x : AloneRead file t p q n) 
         = ap (fitting file (length out)) (outcome-is a)
         ∙ ap (λ (y : Bool). cond y read-as (refuses 18 file 0)) (le-leb (length (columnOf f (axlesOf f (x .count)) a own)) (length out) (omega (arith, many, l))) in
         rw o (record {
-          answer = ap₂ (λ (j y : ℕ). column j y) (x .axles-are) (sym many);
+          answer = ap₂ (λ (j y : ℕ). acceptance (record { axles = j; count = y })) (x .axles-are) (sym many);
           places = x .places-are ∙ ap (λ (j : ℕ). setPairs j (x .pairs) (cleared leastPlaces p)) (sym (by-alone x 0 firstPair));
           column = ap₂ (λ (y : List ℕ) (j : ℕ). y ++ drop j out) ec (sym many);
         })

@@ -5,7 +5,7 @@ use mathlib.Core.Bool.{Bool, true, cond, not}
 use mathlib.Core.List.{List, [], _∷_, _++_, map}
 use lib.Dec.{eqb, leb}
 use lib.ListN.{length, drop}
-use Rattle.refusals.specs.Refusals.{numberOf}
+use Rattle.refusals.specs.Answer.{Answer, refusal, acceptance, refusalOf}
 use Rattle.places.specs.Places.{Pair, valueAt, setPairs, cleared}
 use Rattle.tables.specs.File.{File, entries, firstPair, leastPlaces, ofNumber}
 use Rattle.reading.specs.Reading.{Reading, refused, read}
@@ -18,6 +18,7 @@ use Rattle.due.specs.declared.Booking.{Booking}
 use Rattle.due.specs.declared.Due.{Due}
 use Rattle.due.specs.declared.Due.the-variants.{IsDue, NotDue, IsFree}
 use Rattle.rules.specs.Slices.{isRead}
+use Rattle.columns.specs.declared.ColumnAcceptance.{ColumnAcceptance}
 use Rattle.columns.specs.declared.ColumnAnswer.{ColumnAnswer}
 use Rattle.columns.specs.declared.ColumnAnswer.the-variants.{Column, Refused}
 
@@ -86,19 +87,15 @@ dueColumn file s t p room = cond (leb leastPlaces (length p)) (fitting file room
 
 -- ---- what a call leaves
 
--- as the answer says it, which has no room for the column
-pub data Answer : Type 0 where
-  refusal : (number file line : ℕ) → Answer
-  column : (axles count : ℕ) → Answer
-
 -- what the answer enum says
-abbrev pub answerIs : ColumnAnswer → Answer
-answerIs (Refused x) = refusal (numberOf (x .kind)) (x .file) (x .line)
-answerIs (Column a) = column (a .axles) (a .count)
+abbrev pub answerIs : ColumnAnswer → Answer ColumnAcceptance
+answerIs (Refused x) = refusalOf x
+answerIs (Column a) = acceptance a
 
-abbrev pub answerOf : Outcome → Answer
+-- the answer, which has no room for the column
+abbrev pub answerOf : Outcome → Answer ColumnAcceptance
 answerOf (refuses k f l) = refusal k f l
-answerOf (gives n ds ps) = column n (length ds)
+answerOf (gives n ds ps) = acceptance (record { axles = n; count = length ds })
 
 -- 01, Writing: "other files' pairs hold 0, after a refusal but 1 all pairs do", and with 1 the places stay
 abbrev pub placesOf : ℕ → Outcome → List ℕ → List ℕ

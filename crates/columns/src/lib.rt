@@ -63,7 +63,7 @@ fn column_beside(
     ensures { λ r. ⌜ GivesBeside file booking (now (text .entry)) (now (places .entry)) (now (places .exit)) (now (column .entry)) (now (column .exit)) r ⌝ }
 {
     if !rules::is_read(file, booking, true) {
-        places::clear(places, files::least_places());
+        places::clear(places, tables::least_places());
         return ColumnAnswer::Column(ColumnAcceptance { axles: 0, count: 0 });
     }
     match files::read_alone(file, text, places) {
@@ -73,7 +73,7 @@ fn column_beside(
             let sections = axles as usize + tables::fixed_section_count(file);
             let count = tables::rows_before(file, sections) - sections;
             if column.len() < count {
-                places::clear(places, files::least_places());
+                places::clear(places, tables::least_places());
                 return ColumnAnswer::Refused(Refusal {
                     kind: RefusalKind::OutputTooShort,
                     file: file,

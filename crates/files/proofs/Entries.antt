@@ -8,7 +8,7 @@ use mathlib.Core.List.{List, [], _∷_, _++_, append-assoc, append-nil}
 use lib.ListN.{length, getD, set, take, drop, length-append, length-set, drop-of-length-le}
 use lib.Seq.{drop-cons, length-take-le, take-suc-set}
 use Rattle.kinds.specs.Kind.{Kind}
-use Rattle.places.specs.Places.{Pair, setPair, setPairs}
+use Rattle.places.specs.Places.{Pair, setPair, setPairs, placeSize}
 use Rattle.orders.specs.AnyOrder.{zip}
 use Rattle.reading.specs.Reading.{ofEntries}
 
@@ -62,7 +62,7 @@ module _ (ks : List (Option Kind)) (xs : List Pair) (first : ℕ) (p : List ℕ)
           }
 
       module _ (k : Kind) (h : getD ks r none ≡ some k) where
-        pub pairing-room : 2 * (first + length (ofEntries ks xs)) ≤ length p → 2 * e + 1 < length q
+        pub pairing-room : placeSize * (first + length (ofEntries ks xs)) ≤ length p → placeSize * e + 1 < length q
         pairing-room m = omega (arith, w .left, w .all, ap length (entries-put ks xs (0, 0) r lk lx k h))
 
         pub pairing-put : Pairing ks xs first p (setPair e (getD xs r (0, 0)) q) (e + 1) (r + 1)
@@ -70,7 +70,7 @@ module _ (ks : List (Option Kind)) (xs : List Pair) (first : ℕ) (p : List ℕ)
         pairing-put =
             let s = entries-put ks xs (0, 0) r lk lx k h in
             record {
-              all = length-set (set q (2 * e) (getD xs r (0, 0) .0)) (2 * e + 1) (getD xs r (0, 0) .1) ∙ length-set q (2 * e) (getD xs r (0, 0) .0) ∙ w .all;
+              all = length-set (set q (placeSize * e) (getD xs r (0, 0) .0)) (placeSize * e + 1) (getD xs r (0, 0) .1) ∙ length-set q (placeSize * e) (getD xs r (0, 0) .0) ∙ w .all;
               left = omega (arith, w .left, ap length s);
               same = w .same ∙ ap (λ (ps : List Pair). setPairs e ps q) s;
             }

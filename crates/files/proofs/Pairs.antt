@@ -10,8 +10,9 @@ use lib.ListN.{length}
 use borrow.Author.Tests.{leb-true, le-leb, lt-leb, ne-eqb}
 use Rattle.lines.proofs.Bools.{clash}
 use Rattle.refusals.specs.Refusals.{numberOf}
+use Rattle.refusals.specs.Answer.{Answer, refusal, acceptance, refusalOf}
 use Rattle.refusals.specs.declared.Refusal.{Refusal}
-use Rattle.places.specs.Places.{Pair, setPairs, pairsAt, valueAt, valuesAt, cleared, Within}
+use Rattle.places.specs.Places.{Pair, setPairs, pairsAt, valueAt, valuesAt, cleared, Within, placeSize}
 use Rattle.places.proofs.Laws.{set-length, pairs-set, drop-pairs, cleared-length, cleared-drop}
 use Rattle.tables.specs.Section.{Section}
 use Rattle.tables.specs.File.{File, ac2, acc, drift, suspension, gas, fileNumber, fileOf, isFile, ofNumber, hasAxles, fixedSections, sections, allSections, leastSections, entries, room, firstPair, leastPlaces, tableOf}
@@ -24,7 +25,7 @@ use Rattle.reading.proofs.Tables.{tables-distinct}
 use Rattle.reading.proofs.Formed.{text-length}
 use Rattle.reading.proofs.Theorem.{sound}
 use Rattle.files.specs.Files.{readBy, readFile, readNumbered, axlesOf, AxleCount, IsFile}
-use Rattle.files.specs.Alone.{refusal, acceptance, answerIs, answerOf, pairsSet, readGiven, readAlone, aloneAnswer, alonePlaces, ReadsAlone}
+use Rattle.files.specs.Alone.{accepted, answerIs, answerOf, pairsSet, readGiven, readAlone, aloneAnswer, alonePlaces, ReadsAlone}
 use Rattle.files.specs.declared.FileAcceptance.{FileAcceptance}
 use Rattle.files.specs.declared.FileAnswer.{FileAnswer}
 use Rattle.files.specs.declared.FileAnswer.the-variants.{Accepted, Refused}
@@ -48,15 +49,15 @@ pub few-axles : (b : Bool) (n : ℕ) → AxleCount b n → n ≤ 9
 few-axles true n c = c .1
 few-axles false n c = omega arith
 
-pub rooms-fit : (f : File) → 2 * (firstPair f + room f) ≤ leastPlaces
+pub rooms-fit : (f : File) → placeSize * (firstPair f + room f) ≤ leastPlaces
 unfolding leastPlaces
 rooms-fit f = omega (arith, room-in f)
 
-pub pairs-fit : (f : File) (t : List ℕ) (c : ℕ) (ps : List Pair) → FileRead f t c ps → 2 * (firstPair f + length ps) ≤ leastPlaces
+pub pairs-fit : (f : File) (t : List ℕ) (c : ℕ) (ps : List Pair) → FileRead f t c ps → placeSize * (firstPair f + length ps) ≤ leastPlaces
 pairs-fit f t c ps r = omega (arith, r .many, entries-most f (axlesOf f c) (few-axles (hasAxles f) (axlesOf f c) (r .counted .count)), rooms-fit f)
 
 -- the pairs that were set are there
-pub own-pairs : (f : File) (n : ℕ) (ps : List Pair) (p : List ℕ) → length ps ≡ length (entries f n) → 2 * (firstPair f + length ps) ≤ leastPlaces → leastPlaces ≤ length p
+pub own-pairs : (f : File) (n : ℕ) (ps : List Pair) (p : List ℕ) → length ps ≡ length (entries f n) → placeSize * (firstPair f + length ps) ≤ leastPlaces → leastPlaces ≤ length p
     → pairsAt (setPairs (firstPair f) ps p) (firstPair f) (length (entries f n)) ≡ ps
 own-pairs f n ps p m h l =
     ap (λ (k : ℕ). pairsAt (setPairs (firstPair f) ps p) (firstPair f) k) (sym m) ∙ pairs-set (firstPair f) ps p (omega (arith, h, l))
@@ -90,8 +91,12 @@ pub record AloneRead (n : ℕ) (s p q : List ℕ) (axles : ℕ) : Type 0 where
   pub axles-are : axles ≡ axlesOf file count
   pub places-are : q ≡ setPairs (firstPair file) pairs (cleared leastPlaces p)
 
+abbrev axles-in : Answer FileAcceptance → ℕ
+axles-in (refusal k f l) = 0
+axles-in (acceptance a) = a .axles
+
 module _ (n : ℕ) (s p q : List ℕ) (axles : ℕ) (l : leastPlaces ≤ length p) (c : ℕ) (ps : List Pair) (ls : List ℕ) where
-  alone-read : readAlone n s ≡ read c ps ls → acceptance axles ≡ answerOf n (read c ps ls) → q ≡ pairsSet n (read c ps ls) (cleared leastPlaces p) → AloneRead n s p q axles
+  alone-read : readAlone n s ≡ read c ps ls → acceptance (accepted axles) ≡ answerOf n (read c ps ls) → q ≡ pairsSet n (read c ps ls) (cleared leastPlaces p) → AloneRead n s p q axles
   alone-read e a d =
       let v = alone-inv n s c ps ls e in
       let f : File = is-file n (v .0) .0 in
@@ -100,7 +105,7 @@ module _ (n : ℕ) (s p q : List ℕ) (axles : ℕ) (l : leastPlaces ≤ length 
       let some : ofNumber 0 leastSections n ≡ leastSections f = by-number 0 leastSections f n g in
       let r : readFile f s ≡ read c ps ls = sym (ap₂ (λ (t : List Section) (m : ℕ). readBy t m s) (ap tableOf g ∙ table-of f) some) ∙ v .1 in
       let i = sound (allSections f) (leastSections f) s (tables-distinct f) c ps ls (by-inv (allSections f) (leastSections f) s c ps ls r .1) .is in
-      let k : axles ≡ c - ofNumber 0 (λ f. length (fixedSections f)) n = cc in
+      let k : axles ≡ c - ofNumber 0 (λ f. length (fixedSections f)) n = ap axles-in a in
       record {
         enough = l;
         file = f;
@@ -121,11 +126,11 @@ module _ {n : ℕ} {s p q : List ℕ} {r : FileAnswer} (w : ReadsAlone n s p q r
   unfolding aloneAnswer alonePlaces
   accepted-inv x e = go (leb leastPlaces (length p)) refl (sym (ap answerIs e) ∙ w .answer) (w .places)
     where
-      given : leastPlaces ≤ length p → (v : Reading) → readAlone n s ≡ v → acceptance (x .axles) ≡ answerOf n v → q ≡ pairsSet n v (cleared leastPlaces p) → AloneRead n s p q (x .axles)
+      given : leastPlaces ≤ length p → (v : Reading) → readAlone n s ≡ v → acceptance x ≡ answerOf n v → q ≡ pairsSet n v (cleared leastPlaces p) → AloneRead n s p q (x .axles)
       given l (refused k i) h a d = clash (cc)
       given l (read c ps ls) h a d = alone-read n s p q (x .axles) l c ps ls h a d
 
-      go : (b : Bool) → leb leastPlaces (length p) ≡ b → acceptance (x .axles) ≡ cond b (answerOf n (readAlone n s)) (refusal 1 0 0)
+      go : (b : Bool) → leb leastPlaces (length p) ≡ b → acceptance x ≡ cond b (answerOf n (readAlone n s)) (refusal 1 0 0)
           → q ≡ cond b (pairsSet n (readAlone n s) (cleared leastPlaces p)) p → AloneRead n s p q (x .axles)
       go true h a d = given (leb-true leastPlaces (length p) h) (readAlone n s) refl a d
       go false h a d = clash (cc)
@@ -138,12 +143,12 @@ module _ {n : ℕ} {s p q : List ℕ} {r : FileAnswer} (w : ReadsAlone n s p q r
       let b = le-leb leastPlaces (length p) l in
       given (readAlone n s) refl (rw b at (sym (ap answerIs e) ∙ w .answer)) (rw b at (w .places))
     where
-      given : (v : Reading) → readAlone n s ≡ v → refusal (numberOf (x .kind)) (x .file) (x .line) ≡ answerOf n v → q ≡ pairsSet n v (cleared leastPlaces p)
+      given : (v : Reading) → readAlone n s ≡ v → refusalOf {A = FileAcceptance} x ≡ answerOf n v → q ≡ pairsSet n v (cleared leastPlaces p)
           → (readAlone n s ≡ refused (numberOf (x .kind)) (x .line)) × (n ≡ x .file) × (q ≡ cleared leastPlaces p)
       given (refused k i) h a d = (cc, cc, d)
       given (read c ps ls) h a d = clash (cc)
 
-  pub short-inv : (x : Refusal) → r ≡ Refused x → length p < leastPlaces → (refusal (numberOf (x .kind)) (x .file) (x .line) ≡ refusal 1 0 0) × (q ≡ p)
+  pub short-inv : (x : Refusal) → r ≡ Refused x → length p < leastPlaces → (refusalOf {A = FileAcceptance} x ≡ refusal 1 0 0) × (q ≡ p)
   unfolding aloneAnswer alonePlaces
   short-inv x e l =
       let b = lt-leb leastPlaces (length p) l in
@@ -193,7 +198,7 @@ some-bytes gas n = omega arith
 
 -- it is accepted with its axle count, and at its pairs stand its values
 pub alone-complete : (f : File) (n : ℕ) (vs : List (List ℕ)) (s : List ℕ) → IsFile f n vs s → (p : List ℕ) → leastPlaces ≤ length p
-    → (aloneAnswer (fileNumber f) s p ≡ acceptance n) × (valuesAt s (alonePlaces (fileNumber f) s p) (firstPair f) (length (entries f n)) ≡ vs)
+    → (aloneAnswer (fileNumber f) s p ≡ acceptance (accepted n)) × (valuesAt s (alonePlaces (fileNumber f) s p) (firstPair f) (length (entries f n)) ≡ vs)
 unfolding aloneAnswer alonePlaces readAlone readGiven
 alone-complete f n vs s h p l =
     let r = read-complete f n vs s h in

@@ -6,12 +6,13 @@ use mathlib.Core.Option.{Option, some}
 use mathlib.Core.List.{List, [], _∷_, _++_, map}
 use lib.ListN.{length, take, drop, replicate, length-append, length-drop, length-map, length-take}
 use borrow.Author.Tests.{le-leb, lt-leb}
+use Rattle.reading.specs.Tables.{mostBytes}
 use Rattle.refusals.specs.Refusals.{numberOf}
 use Rattle.kinds.specs.Kind.{Kind}
 use Rattle.places.specs.Places.{placeSize}
 use Rattle.tables.specs.Section.{Entry, Section, entriesOf}
 use Rattle.tables.specs.File.{File, ac2, acc, drift, suspension, gas, ofNumber, tableOf, firstPair, leastSections, leastPlaces, room, entries, allSections, pairCount}
-use Rattle.tables.specs.Row.{rowCount, rowsBefore, rowKinds, rowKind}
+use Rattle.tables.specs.Row.{rowCount, rowsBefore, rowKinds, rowKind, mostRows}
 use Rattle.tables.proofs.Numbers.{room-in}
 use Rattle.tables.proofs.Rows.{rows-few, kinds-count, rows-le}
 use Rattle.orders.specs.AnyOrder.{zip}
@@ -111,7 +112,7 @@ number-fits (suc (suc (suc (suc (suc (suc n)))))) = omega arith
 pub pairs-fit : (n c : ℕ) (p : List ℕ) → leastPlaces ≤ length p → placeSize * (ofNumber 0 firstPair n + length (entriesOf (take c (tableOf n)))) ≤ length p
 pairs-fit n c p h = omega (arith, number-fits n, entries-first (tableOf n) c)
 
-pub lines-fit : (n c : ℕ) → length (entriesOf (take c (tableOf n))) ≤ 64
+pub lines-fit : (n c : ℕ) → length (entriesOf (take c (tableOf n))) ≤ mostRows
 lines-fit n c = omega (arith, entries-first (tableOf n) c, entries-le (tableOf n), rows-few n)
 
 -- ---- what write_read asks of its parts, and gives
@@ -168,21 +169,21 @@ module _ (n : ℕ) (s : List ℕ) (b a : Slots) (o : Outcome) (e : b ≡ emptySl
 -- ---- 3 to 9
 
 module _ (n : ℕ) (s : List ℕ) where
-  pub text-long : (p ls : List ℕ) → 16384 < length s → (readNumbered n s ≡ refused 3 0) × (p ≡ p)
+  pub text-long : (p ls : List ℕ) → mostBytes < length s → (readNumbered n s ≡ refused 3 0) × (p ≡ p)
   unfolding readBy
-  text-long p ls l = (rw (lt-leb (length s) 16384 l), refl)
+  text-long p ls l = (rw (lt-leb (length s) mostBytes l), refl)
 
-  module _ (l : length s ≤ 16384) (a : Slots) where
+  module _ (l : length s ≤ mostBytes) (a : Slots) where
     by-text : readNumbered n s ≡ readText (tableOf n) (ofNumber 0 leastSections n) s
     unfolding readBy
-    by-text = rw (le-leb (length s) 16384 l)
+    by-text = rw (le-leb (length s) mostBytes l)
 
     pub text-faulty : (r : TextAnswer) (x : Fault) (p ls : List ℕ) → ReadsSlots n s a r → r ≡ Faulty x → ReadsText n s r p p ls
     text-faulty r x p ls w e =
         let v = subst (λ (y : TextAnswer). ReadsSlots n s a y) e w in
         subst (λ (y : TextAnswer). ReadsText n s y p p ls) (sym e) (by-text ∙ v .is, refl)
 
-    pub text-ready : (c : ℕ) (p ls : List ℕ) → Ready (tableOf n) s a → leastPlaces ≤ length p → 64 ≤ length ls → WriteReady n c a p ls
+    pub text-ready : (c : ℕ) (p ls : List ℕ) → Ready (tableOf n) s a → leastPlaces ≤ length p → mostRows ≤ length ls → WriteReady n c a p ls
     text-ready c p ls w h k =
         record {
           starts-are = w .starts-are ∙ sym (w .lines-are);

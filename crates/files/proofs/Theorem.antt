@@ -8,6 +8,7 @@ use lib.Dec.{leb}
 use lib.ListN.{length, getD, take, length-map}
 use lib.Seq.{take-length}
 use borrow.Author.Tests.{le-leb, leb-true}
+use Rattle.reading.specs.Tables.{mostBytes}
 use Rattle.lines.proofs.Bools.{clash}
 use Rattle.places.specs.Places.{Pair, valueAt, Within}
 use Rattle.tables.specs.Section.{Section, entriesOf}
@@ -71,12 +72,12 @@ sectioned f n false e h =
 
 -- ---- the theorem
 
-pub by-inv : (t : List Section) (least : ℕ) (s : List ℕ) (c : ℕ) (ps : List Pair) (ls : List ℕ) → readBy t least s ≡ read c ps ls → (length s ≤ 16384) × (readText t least s ≡ read c ps ls)
+pub by-inv : (t : List Section) (least : ℕ) (s : List ℕ) (c : ℕ) (ps : List Pair) (ls : List ℕ) → readBy t least s ≡ read c ps ls → (length s ≤ mostBytes) × (readText t least s ≡ read c ps ls)
 unfolding readBy
-by-inv t least s c ps ls e = go (leb (length s) 16384) refl e
+by-inv t least s c ps ls e = go (leb (length s) mostBytes) refl e
   where
-    go : (b : Bool) → leb (length s) 16384 ≡ b → cond b (readText t least s) (refused 3 0) ≡ read c ps ls → (length s ≤ 16384) × (readText t least s ≡ read c ps ls)
-    go true p e = (leb-true (length s) 16384 p, e)
+    go : (b : Bool) → leb (length s) mostBytes ≡ b → cond b (readText t least s) (refused 3 0) ≡ read c ps ls → (length s ≤ mostBytes) × (readText t least s ≡ read c ps ls)
+    go true p e = (leb-true (length s) mostBytes p, e)
     go false p e = clash (cc)
 
 -- what is read
@@ -115,7 +116,7 @@ is-text f n vs s h =
       kept = subst (λ (t : List Section). EachKept (entriesOf t) vs) (k .sections-are) (h .kept);
     }
 
-pub file-short : (f : File) (n : ℕ) (vs : List (List ℕ)) (s : List ℕ) → IsFile f n vs s → length s ≤ 16384
+pub file-short : (f : File) (n : ℕ) (vs : List (List ℕ)) (s : List ℕ) → IsFile f n vs s → length s ≤ mostBytes
 file-short f n vs s h =
     let x = is-text f n vs s h in
     short-text (allSections f) (length (sections f n)) vs s (tables-short f) (x .fits) (x .kept)
@@ -128,7 +129,7 @@ read-complete f n vs s h =
     let c = length (sections f n) in
     let r = complete (allSections f) (leastSections f) s (tables-distinct f) (tables-clean f) c vs x in
     let l = file-short f n vs s h in
-    (c, r .0, r .1, rw (le-leb (length s) 16384 l) (r .2), sectioned f n (hasAxles f) refl (h .count) .axles-are, r .3)
+    (c, r .0, r .1, rw (le-leb (length s) mostBytes l) (r .2), sectioned f n (hasAxles f) refl (h .count) .axles-are, r .3)
 
 -- axle count and values are unique
 pub file-unique : (f : File) (m n : ℕ) (vs ws : List (List ℕ)) (s : List ℕ) → IsFile f m vs s → IsFile f n ws s → (m ≡ n) × (vs ≡ ws)

@@ -5,24 +5,24 @@ use mathlib.Core.Bool.{cond}
 use mathlib.Core.List.{List}
 use lib.Dec.{eqb, leb}
 use lib.ListN.{length}
-use Rattle.refusals.specs.Refusals.{numberOf}
+use Rattle.refusals.specs.Answer.{Answer, refusal, acceptance, refusalOf}
 use Rattle.refusals.specs.declared.RefusalKind.{RefusalKind}
 use Rattle.tables.specs.File.{fixedSections, firstPair, leastPlaces, ofNumber, isFile}
 use Rattle.places.specs.Places.{setPairs, cleared}
 use Rattle.reading.specs.Reading.{Reading, refused, read}
 use Rattle.files.specs.Files.{readNumbered}
+use Rattle.files.specs.declared.FileAcceptance.{FileAcceptance}
 use Rattle.files.specs.declared.FileAnswer.{FileAnswer}
 use Rattle.files.specs.declared.FileAnswer.the-variants.{Accepted, Refused}
 
--- document 01's number, file and line of a refusal; the axle count of acceptance
-pub data Answer : Type 0 where
-  refusal : (number file line : ℕ) → Answer
-  acceptance : (axles : ℕ) → Answer
-
 -- what the answer enum says
-abbrev pub answerIs : FileAnswer → Answer
-answerIs (Refused x) = refusal (numberOf (x .kind)) (x .file) (x .line)
-answerIs (Accepted a) = acceptance (a .axles)
+abbrev pub answerIs : FileAnswer → Answer FileAcceptance
+answerIs (Refused x) = refusalOf x
+answerIs (Accepted a) = acceptance a
+
+-- "the same places and axle count"
+abbrev pub accepted : ℕ → FileAcceptance
+accepted axles = record { axles = axles }
 
 abbrev pub refusedAs : RefusalKind → ℕ → ℕ → FileAnswer
 refusedAs k f l = Refused (record { kind = k; file = f; line = l })
@@ -36,9 +36,9 @@ unfoldable pub readAlone : ℕ → List ℕ → Reading
 readAlone n s = cond (isFile n) (readGiven n s) (refused 16 0)
 
 -- "a refusal's file is as in writing": the file as handed in
-abbrev pub answerOf : ℕ → Reading → Answer
+abbrev pub answerOf : ℕ → Reading → Answer FileAcceptance
 answerOf n (refused k l) = refusal k n l
-answerOf n (read c pairs ls) = acceptance (c - ofNumber 0 (λ f. length (fixedSections f)) n)
+answerOf n (read c pairs ls) = acceptance (accepted (c - ofNumber 0 (λ f. length (fixedSections f)) n))
 
 -- the pairs of a text that was read, from the file's first pair on
 abbrev pub pairsSet : ℕ → Reading → List ℕ → List ℕ
@@ -46,7 +46,7 @@ pairsSet n (refused k l) p = p
 pairsSet n (read c pairs ls) p = setPairs (ofNumber 0 firstPair n) pairs p
 
 -- 1, with file 0, comes first
-unfoldable pub aloneAnswer : ℕ → List ℕ → List ℕ → Answer
+unfoldable pub aloneAnswer : ℕ → List ℕ → List ℕ → Answer FileAcceptance
 aloneAnswer n s p = cond (leb leastPlaces (length p)) (answerOf n (readAlone n s)) (refusal 1 0 0)
 
 -- "with the same places .. other files' pairs hold 0, after a refusal but 1 all pairs do"

@@ -7,8 +7,9 @@ ghost use Rattle.lines.specs.Bytes.{allPrintable};
 ghost use Rattle.places.specs.Places.{valueAt};
 ghost use mathlib.Core.Bool.{true};
 ghost use Rattle.tables.specs.File.{tableOf, isFile, ofNumber, leastSections, leastPlaces};
-ghost use Rattle.tables.specs.Row.{names as namesOf, rowCount, rowKind};
+ghost use Rattle.tables.specs.Row.{names as namesOf, rowCount, mostRows, rowKind};
 ghost use Rattle.tables.specs.Groups.{groupOf, Lent};
+ghost use Rattle.reading.specs.Tables.{mostBytes};
 ghost use Rattle.reading.specs.Reading.{slots, emptySlots, sectionsFound, checkGap, checkAbsent, checkKinds, keptRow, ownerRow};
 ghost use Rattle.reading.specs.Scanning.{Took, Ready, Scanned};
 ghost use Rattle.files.specs.Steps.{KindsOf, ValuesReady, RowsReady, WritesRows, failure, scanIs, checkIs, JudgesSlots, WriteReady, WritesRead, ReadsSlots, ReadsText};
@@ -18,10 +19,14 @@ use lines::Cursor;
 use lines::LineRead;
 use refusals::Refusal;
 use refusals::RefusalKind;
+use tables::MOST_ROWS;
 use tables::groups;
 use tables::groups::Row;
 use tables::row_kinds;
 use tables::row_kinds::HEADING;
+
+// As many bytes as a file has at most (01, Lines).
+const MOST_BYTES: usize = 16384;
 
 // What an accepted file says: its axle count, 0 for a file without axles.
 pub struct FileAcceptance {
@@ -60,7 +65,7 @@ fn take_row(
     start: usize,
     size: usize,
 ) -> bool
-    requires { ⌜ (length (now starts) ≡ length (now numbers)) × (length (now lengths) ≡ length (now numbers)) × (line ≤ 16384) × (start + size ≤ 16384) ⌝ }
+    requires { ⌜ (length (now starts) ≡ length (now numbers)) × (length (now lengths) ≡ length (now numbers)) × (line ≤ mostBytes) × (start + size ≤ mostBytes) ⌝ }
     ensures { λ r. ⌜ Took (slots (now (numbers .entry)) (now (starts .entry)) (now (lengths .entry))) (slots (now (numbers .exit)) (now (starts .exit)) (now (lengths .exit))) row line start size r ⌝ }
 {
     if numbers.len() <= row {
@@ -76,7 +81,7 @@ fn take_row(
 }
 
 fn failed(kind: RefusalKind, line: usize) -> Outcome
-    requires { ⌜ line ≤ 16384 ⌝ }
+    requires { ⌜ line ≤ mostBytes ⌝ }
     ensures { λ r. ⌜ r ≡ failure kind line ⌝ }
 {
     Outcome::Failed(Fault {
@@ -416,7 +421,7 @@ fn read_slots(
     starts: &mut [u32],
     lengths: &mut [u32],
 ) -> TextAnswer
-    requires { ⌜ KindsOf file (now kinds) × (length (now text) ≤ 16384) × (slots (now numbers) (now starts) (now lengths) ≡ emptySlots (rowCount (tableOf file))) ⌝ }
+    requires { ⌜ KindsOf file (now kinds) × (length (now text) ≤ mostBytes) × (slots (now numbers) (now starts) (now lengths) ≡ emptySlots (rowCount (tableOf file))) ⌝ }
     ensures { λ r. ⌜ ReadsSlots file (now (text .entry)) (slots (now (numbers .exit)) (now (starts .exit)) (now (lengths .exit))) r ⌝ }
 {
     if let Outcome::Failed(x) = scan_text(file, text, numbers, starts, lengths) {
@@ -436,7 +441,7 @@ fn read_into(
     places: &mut [u32],
     lines: &mut [u32],
 ) -> TextAnswer
-    requires { ⌜ KindsOf file (now kinds) × (length (now text) ≤ 16384) × (slots (now numbers) (now starts) (now lengths) ≡ emptySlots (rowCount (tableOf file))) × (leastPlaces ≤ length (now places)) × (64 ≤ length (now lines)) ⌝ }
+    requires { ⌜ KindsOf file (now kinds) × (length (now text) ≤ mostBytes) × (slots (now numbers) (now starts) (now lengths) ≡ emptySlots (rowCount (tableOf file))) × (leastPlaces ≤ length (now places)) × (mostRows ≤ length (now lines)) ⌝ }
     ensures { λ r. ⌜ ReadsText file (now (text .entry)) r (now (places .entry)) (now (places .exit)) (now (lines .exit)) ⌝ }
 {
     let answer = read_slots(file, kinds, text, numbers, starts, lengths);
@@ -449,19 +454,19 @@ fn read_into(
 // 3 to 9 of one file: its pairs into the places, the lines of its entries, in entry order, into `lines`. Refused, the
 // places stay. Left open is what `lines` holds after a refusal, and past the lines of the entries.
 pub fn read_text(file: u32, text: &[u8], places: &mut [u32], lines: &mut [u32]) -> TextAnswer
-    requires { ⌜ (leastPlaces ≤ length (now places)) × (64 ≤ length (now lines)) ⌝ }
+    requires { ⌜ (leastPlaces ≤ length (now places)) × (mostRows ≤ length (now lines)) ⌝ }
     ensures { λ r. ⌜ ReadsText file (now (text .entry)) r (now (places .entry)) (now (places .exit)) (now (lines .exit)) ⌝ }
 {
-    if 16384 < text.len() {
+    if MOST_BYTES < text.len() {
         return TextAnswer::Faulty(Fault {
             kind: RefusalKind::FileTooLong,
             line: 0,
         });
     }
-    let mut numbers = [0u32; 64];
-    let mut starts = [0u32; 64];
-    let mut lengths = [0u32; 64];
-    let mut kinds = [HEADING; 64];
+    let mut numbers = [0u32; MOST_ROWS];
+    let mut starts = [0u32; MOST_ROWS];
+    let mut lengths = [0u32; MOST_ROWS];
+    let mut kinds = [HEADING; MOST_ROWS];
     row_kinds::write_kinds(file, &mut kinds);
     let n = tables::row_count(file);
     read_into(
@@ -474,13 +479,6 @@ pub fn read_text(file: u32, text: &[u8], places: &mut [u32], lines: &mut [u32]) 
         places,
         lines,
     )
-}
-
-// How many places a caller lends at least.
-pub fn least_places() -> usize
-    ensures { λ r. ⌜ r ≡ leastPlaces ⌝ }
-{
-    278
 }
 
 fn refused(kind: RefusalKind, file: u32, line: u32) -> FileAnswer
@@ -501,7 +499,7 @@ fn read_cleared(file: u32, text: &[u8], places: &mut [u32]) -> FileAnswer
     if text.len() == 0 {
         return refused(RefusalKind::SliceNotAsDue, file, 0);
     }
-    let mut lines = [0u32; 64];
+    let mut lines = [0u32; MOST_ROWS];
     match read_text(file, text, places, &mut lines) {
         TextAnswer::Faulty(x) => {
             let kind = x.kind;
@@ -521,7 +519,7 @@ fn read_cleared(file: u32, text: &[u8], places: &mut [u32]) -> FileAnswer
 pub fn read_alone(file: u32, text: &[u8], places: &mut [u32]) -> FileAnswer
     ensures { λ r. ⌜ ReadsAlone file (now (text .entry)) (now (places .entry)) (now (places .exit)) r ⌝ }
 {
-    let least = least_places();
+    let least = tables::least_places();
     if places.len() < least {
         return refused(RefusalKind::PlacesTooShort, 0, 0);
     }

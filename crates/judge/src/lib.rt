@@ -376,7 +376,7 @@ pub fn judge_set(
 ) -> SetAnswer
     ensures { λ r. ⌜ SetJudged (now (stem .entry)) (slicesOf (now (ac2 .entry)) (now (acc .entry)) (now (drift .entry)) (now (suspension .entry)) (now (gas .entry)) (now (identification .entry))) (now (places .entry)) (now (places .exit)) r ⌝ }
 {
-    let least = files::least_places();
+    let least = tables::least_places();
     if places.len() < least {
         return SetAnswer::Refused(Refusal {
             kind: RefusalKind::PlacesTooShort,

@@ -482,13 +482,11 @@ fn is_text(kind: u8, value: &[u8]) -> bool
     length_ok(kind, value)
 }
 
-// The judge of a value by the number of its kind; a number that no kind has lets no value in.
-pub fn kind_ok(kind: u8, value: &[u8]) -> bool
+// All other kinds; a number that no kind has lets no value in.
+fn is_other(kind: u8, value: &[u8]) -> bool
+    requires { ⌜ 7 ≤ kind ⌝ }
     ensures { λ r. ⌜ r ≡ kindOk (kindOf kind) (now (value .entry)) ⌝ }
 {
-    if kind <= numbers::C_172 {
-        return is_text(kind, value);
-    }
     match kind {
         numbers::N_1 => is_number(value, 1),
         numbers::N_2 => is_number(value, 2),
@@ -515,13 +513,23 @@ pub fn kind_ok(kind: u8, value: &[u8]) -> bool
     }
 }
 
+// The judge of a value by the number of its kind; a number that no kind has lets no value in.
+pub fn kind_ok(kind: u8, value: &[u8]) -> bool
+    ensures { λ r. ⌜ r ≡ kindOk (kindOf kind) (now (value .entry)) ⌝ }
+{
+    if numbers::C_172 < kind {
+        return is_other(kind, value);
+    }
+    is_text(kind, value)
+}
+
 // As `kind_ok`, of a filled value of printable bytes, which one that was read from a line is.
 pub fn printable_kind_ok(kind: u8, value: &[u8]) -> bool
     requires { ⌜ (1 ≤ length (now value)) × (allPrintable (now value) ≡ true) ⌝ }
     ensures { λ r. ⌜ r ≡ kindOk (kindOf kind) (now (value .entry)) ⌝ }
 {
     if numbers::C_172 < kind {
-        return kind_ok(kind, value);
+        return is_other(kind, value);
     }
     length_ok(kind, value)
 }

@@ -148,6 +148,14 @@ xor-none a b =
     (λ e. eq-eqb _ _ e ∙ sym (eq-eqb a b (omega (arith, xor-add-and a b, and-le-l a b, and-le-r a b))))
     (λ n. ne-eqb _ _ n ∙ sym (ne-eqb a b (λ e. n (ap (λ (c : ℕ). bitXor c b) e ∙ xor-self b))))
 
+mark-small : (t : Bool) → cond t 0 128 < 256
+mark-small true = omega arith
+mark-small false = omega arith
+
+turned : (t : Bool) → bitXor (cond t 0 128) 128 ≡ cond (not t) 0 128
+turned true = refl
+turned false = refl
+
 module _ (i x b : ℕ) (f : ℕ → ℕ) (l : b < 256) (h : Holds i x f) where
   mixed : Holds i (bitXor x (b * 0x0101010101010101)) (λ (k : ℕ). bitXor (f k) b)
   unfolding lanes
@@ -164,6 +172,14 @@ module _ (i x b : ℕ) (f : ℕ → ℕ) (l : b < 256) (h : Holds i x f) where
       holds-same i _ (λ (k : ℕ). cond (eqb (f k) b) 0 128)
       (holds-and i (holds-or i sum mixed) (eighth i x' g mixed))
       (λ k. zero-stop (g k) (mixed .small k) ∙ ap (λ (t : Bool). cond t 0 128) (xor-none (f k) b))
+
+  -- each byte that is b as 128
+  pub other-mask : {m : ℕ} → m ≡ lanes (λ (k : ℕ). cond (eqb (f k) b) 0 128) 8 i → bitXor m 0x8080808080808080 ≡ lanes (λ (k : ℕ). cond (not (eqb (f k) b)) 0 128) 8 i
+  unfolding lanes
+  other-mask {m} e =
+      holds-same i _ (λ (k : ℕ). cond (not (eqb (f k) b)) 0 128)
+      (holds-xor i (record { is = e; small = λ k. mark-small (eqb (f k) b) }) (eighth i x f h))
+      (λ k. turned (eqb (f k) b))
 
 -- the numbers agree exactly where no byte is b
 module _ (b : ℕ) (s : List ℕ) where

@@ -6,13 +6,14 @@ use native.Mathlib.Nat.{zero-add, add-zero, suc-add, mul-one, add-div-left, mul-
 use native.Mathlib.Omega.{arith}
 use mathlib.Core.Path.{_≡_, refl, sym, ap, ap₂, _∙_}
 use mathlib.Core.List.{List}
-use mathlib.Core.Bool.{Bool, true, false, cond, false≢true}
+use mathlib.Core.Bool.{Bool, true, false, cond, not, _&&_, false≢true}
 use lib.Dec.{eqb}
-use borrow.Author.Tests.{eqb-true, eqb-false}
-use lib.ListN.{length, getD, drop}
+use borrow.Author.Tests.{eqb-true, eqb-false, not-true, not-false}
+use lib.ListN.{length, getD, take, drop}
+use lib.Seq.{drop-cons}
 use lib.Count.{trailingZeros, under}
 use lib.Bits.{shifted-half, shifted-even}
-use Rattle.lines.specs.Bytes.{isPrintable, isName, sameBytes, printableRun, nameRun}
+use Rattle.lines.specs.Bytes.{isPrintable, isName, sameBytes, without, otherRun, printableRun, nameRun}
 use Rattle.lines.specs.Words.{lanes, wordAt, stopsAt}
 use Rattle.lines.proofs.Loops.{run-more, run-stop, name-equals, name-stop, name-more, same-more, same-stop}
 
@@ -93,6 +94,31 @@ module _ (s : List ℕ) (i : ℕ) (h : i + 8 ≤ length s) where
   pub name-found : (stopsAt isName s 8 i ≡ 0 → ⊥) → i + nameRun (drop i s) ≡ i + trailingZeros 64 (stopsAt isName s 8 i) / 8
   name-found =
       found isName s (λ (k : ℕ). k + nameRun (drop k s)) (λ j l. more-by s j l (eqb (getD s j 0) 61) refl) (λ j l. stop-by s j l (eqb (getD s j 0) 61) refl) 8 i h
+
+-- bytes that are not b, up to the first that is
+module _ (b : ℕ) (s : List ℕ) where
+  other-more : (i : ℕ) → i < length s → not (eqb (getD s i 0) b) ≡ true → i + otherRun b (drop i s) ≡ i + 1 + otherRun b (drop (i + 1) s)
+  unfolding otherRun
+  other-more i h e = rw (drop-cons s i 0 h, not-true (eqb (getD s i 0) b) e, add-one i) (omega arith)
+
+  other-stop : (i : ℕ) → i < length s → not (eqb (getD s i 0) b) ≡ false → i + otherRun b (drop i s) ≡ i
+  unfolding otherRun
+  other-stop i h e = rw (drop-cons s i 0 h, not-false (eqb (getD s i 0) b) e) (add-zero i)
+
+  first-lacks : (m : ℕ) (t w : Bool) → m * 256 + cond t 0 128 ≡ 0 → (m ≡ 0 → w ≡ true) → (t && w) ≡ true
+  first-lacks m true w e h = h (omega arith)
+  first-lacks m false w e h = absurd (omega arith)
+
+  zero-lacks : (n i : ℕ) → i + n ≤ length s → stopsAt (λ (y : ℕ). not (eqb y b)) s n i ≡ 0 → without b (take n (drop i s)) ≡ true
+  unfolding lanes without
+  zero-lacks zero i h e = refl
+  zero-lacks (suc n) i h e =
+      rw (drop-cons s i 0 (omega arith)) (first-lacks _ (not (eqb (getD s i 0) b)) (without b (take n (drop (suc i) s))) e (zero-lacks n (suc i) (omega arith)))
+
+  pub other-found : (i : ℕ) → i + 8 ≤ length s → without b (take 8 (drop i s)) ≡ false → otherRun b (drop i s) ≡ trailingZeros 64 (stopsAt (λ (y : ℕ). not (eqb y b)) s 8 i) / 8
+  other-found i h e =
+      let all = found (λ (y : ℕ). not (eqb y b)) s (λ (k : ℕ). k + otherRun b (drop k s)) other-more other-stop 8 i h (λ z. false≢true (sym e ∙ zero-lacks 8 i h z)) in
+      omega (arith, all)
 
 -- blocks of n bytes that are compared at once
 module _ (s t : List ℕ) (small : (k : ℕ) → getD s k 0 < 256) (narrow : (k : ℕ) → getD t k 0 < 256) where

@@ -29,6 +29,11 @@ unfoldable pub without : ℕ → List ℕ → Bool
 without x [] = true
 without x (b ∷ s) = not (eqb b x) && without x s
 
+-- how many bytes other than x a list begins with
+unfoldable pub otherRun : ℕ → List ℕ → ℕ
+otherRun x [] = 0
+otherRun x (b ∷ s) = cond (eqb b x) 0 (suc (otherRun x s))
+
 -- how many printable bytes a list begins with
 unfoldable pub printableRun : List ℕ → ℕ
 printableRun [] = 0

@@ -1,10 +1,11 @@
 // Lines of a text (01, Lines): read forward, compared and written. No name, heading or size of a file is known here.
 ghost use mathlib.Core.Path.{_≡_};
+ghost use mathlib.Core.Bool.{false};
 ghost use mathlib.Core.List.{_++_};
 ghost use Prim.Native.Nat.{_+_, _/_, _<_, _≤_, min};
 ghost use lib.ListN.{length, take, drop};
 ghost use lib.Count.{trailingZeros};
-ghost use Rattle.lines.specs.Bytes.{isPrintable, isName, allPrintable, sameBytes, without, printableRun, nameRun};
+ghost use Rattle.lines.specs.Bytes.{isPrintable, isName, allPrintable, sameBytes, without, otherRun, printableRun, nameRun};
 ghost use Rattle.lines.specs.Words.{wordAt, stopsAt};
 ghost use Rattle.lines.specs.Line.{heading, entry, writtenLine, writtenLength};
 ghost use Rattle.lines.specs.Reading.{start, isLine, lineAt};
@@ -106,6 +107,16 @@ fn first_stop(stops: u64) -> usize
     ensures { λ r. ⌜ r ≡ trailingZeros 64 stops / 8 ⌝ }
 {
     (u64::trailing_zeros(stops) / 8) as usize
+}
+
+// Where among the eight bytes from `i` on, one of which is `b`, the first `b` stands: 0 for the first of them.
+pub fn first_of(bytes: &[u8], i: usize, b: u8) -> usize
+    requires { ⌜ (i + 8 ≤ length (now bytes)) × (without b (take 8 (drop i (now bytes))) ≡ false) ⌝ }
+    ensures { λ r. ⌜ r ≡ otherRun b (drop i (now (bytes .entry))) ⌝ }
+{
+    let x = word(bytes, i) ^ (wide(b) * 0x0101010101010101);
+    let other = (x & 0x7f7f7f7f7f7f7f7f) + 0x7f7f7f7f7f7f7f7f;
+    first_stop(((other | x) & 0x8080808080808080) ^ 0x8080808080808080)
 }
 
 // Where the printable bytes from `at` on end, byte by byte.

@@ -21,6 +21,10 @@ use Rattle.names.specs.Names as N
 use Rattle.names.specs.declared.NameAnswer.{NameAnswer}
 use Rattle.sets.specs.Judge as J
 use Rattle.sets.specs.Records.{Slices}
+use Rattle.files.specs.declared.FileAcceptance.{FileAcceptance}
+use Rattle.writing.specs.declared.WriteAcceptance.{WriteAcceptance}
+use Rattle.names.specs.declared.Named.{Named}
+use Rattle.columns.specs.declared.ColumnAcceptance.{ColumnAcceptance}
 use Rattle.sets.specs.declared.Acceptance.{Acceptance}
 use Rattle.sets.specs.declared.SetAnswer.{SetAnswer}
 use Rattle.sets.specs.declared.SetAnswer.the-variants.{Accepted, Refused}
@@ -67,13 +71,13 @@ module _ (a b : List ℕ) (r : ℕ) (l : answerSize ≤ length a) where
   pub read-done : (file : ℕ) (s p q : List ℕ) (x : FileAnswer) → F.ReadsAlone file s p q x → Filled (readNumbers (F.answerIs x)) a b r → ReadCall file s p q a b r
   read-done file s p q x h f =
       let t = le-leb answerSize (length a) l in
-      let g = subst (λ (y : F.Answer). Filled (readNumbers y) a b r) (h .answer) f in
+      let g = subst (λ (y : Answer FileAcceptance). Filled (readNumbers y) a b r) (h .answer) f in
       record { number = rw t (g .number); answer = rw t (g .answer); places = rw t (h .places) }
 
   pub write-done : (s p : List ℕ) (file n : ℕ) (o t : List ℕ) (x : WriteAnswer) → W.Writes s p file n o t x → Filled (writeNumbers (W.answerIs x)) a b r → WriteCall s p file n o t a b r
   write-done s p file n o t x h f =
       let e = le-leb answerSize (length a) l in
-      let g = subst (λ (y : W.Answer). Filled (writeNumbers y) a b r) (h .answer) f in
+      let g = subst (λ (y : Answer WriteAcceptance). Filled (writeNumbers y) a b r) (h .answer) f in
       record { number = rw e (g .number); answer = rw e (g .answer); output = rw e (h .output); reads-back = back x h f }
     where
       back : (x : WriteAnswer) → W.Writes s p file n o t x → Filled (writeNumbers (W.answerIs x)) a b r → r ≡ 0 → (q : List ℕ) → leastPlaces ≤ length q → IsReadBack file n s p (take (getD b 3 0) t) q
@@ -85,7 +89,7 @@ module _ (a b : List ℕ) (r : ℕ) (l : answerSize ≤ length a) where
   pub name-done : (file : ℕ) (x : Option N.Name) (o t : List ℕ) (y : NameAnswer) → N.Copies file x o t y → Filled (nameNumbers (N.answerIs y)) a b r → NameCall file x o t a b r
   name-done file x o t y h f =
       let e = le-leb answerSize (length a) l in
-      let g = subst (λ (z : N.Answer). Filled (nameNumbers z) a b r) (h .answer) f in
+      let g = subst (λ (z : Answer Named). Filled (nameNumbers z) a b r) (h .answer) f in
       record { number = rw e (g .number); answer = rw e (g .answer); output = rw e (h .output) }
 
   pub judge-done : (stem : List ℕ) (s : Slices) (p q : List ℕ) (x : SetAnswer) → SetJudged stem s p q x → Filled (setNumbers (J.answerIs x)) a b r → JudgeCall stem s p q a b r
@@ -107,5 +111,5 @@ module _ (a b : List ℕ) (r : ℕ) (l : answerSize ≤ length a) where
       → DueCall file s t p q d e a b r
   due-done file s t p q d e x h f =
       let z = le-leb answerSize (length a) l in
-      let g = subst (λ (y : C.Answer). Filled (dueNumbers y) a b r) (h .answer) f in
+      let g = subst (λ (y : Answer ColumnAcceptance). Filled (dueNumbers y) a b r) (h .answer) f in
       record { number = rw z (g .number); answer = rw z (g .answer); places = rw z (h .places); column = rw z (h .column) }

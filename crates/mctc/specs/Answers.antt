@@ -7,11 +7,11 @@ use lib.ListN.{length, getD, drop, replicate}
 use Rattle.refusals.specs.Refusals.{numberOf}
 use Rattle.refusals.specs.Answer.{Answer, refusal, acceptance}
 use Rattle.refusals.specs.declared.Refusal.{Refusal}
-use Rattle.files.specs.Alone as F
-use Rattle.writing.specs.Writing as W
-use Rattle.names.specs.Names as N
+use Rattle.files.specs.declared.FileAcceptance.{FileAcceptance}
+use Rattle.writing.specs.declared.WriteAcceptance.{WriteAcceptance}
+use Rattle.names.specs.declared.Named.{Named}
+use Rattle.columns.specs.declared.ColumnAcceptance.{ColumnAcceptance}
 use Rattle.sets.specs.declared.Acceptance.{Acceptance}
-use Rattle.columns.specs.Column as C
 
 -- how many numbers of the array are set
 abbrev pub answerSize : ℕ
@@ -25,20 +25,26 @@ answered ns lent = ns ++ (replicate (answerSize - length ns) 0 ++ drop answerSiz
 abbrev pub refusalNumbers : Refusal → List ℕ
 refusalNumbers x = numberOf (x .kind) ∷ x .file ∷ x .line ∷ []
 
--- Of acceptance the first three are 0. A file read alone (01, Writing): "the same places and axle count"
-abbrev pub readNumbers : F.Answer → List ℕ
-readNumbers (F.refusal k f l) = k ∷ f ∷ l ∷ []
-readNumbers (F.acceptance n) = 0 ∷ 0 ∷ 0 ∷ n ∷ []
+-- of acceptance the first three are 0; then comes what it carries
+abbrev pub numbersOf : {A : Type 0} → (A → List ℕ) → Answer A → List ℕ
+numbersOf carried (refusal k f l) = k ∷ f ∷ l ∷ []
+numbersOf carried (acceptance a) = 0 ∷ 0 ∷ 0 ∷ carried a
+
+-- a file read alone (01, Writing): "the same places and axle count"
+abbrev pub readNumbers : Answer FileAcceptance → List ℕ
+readNumbers = numbersOf (λ a. a .axles ∷ [])
 
 -- a written file (01, Writing): "the answer is its length"
-abbrev pub writeNumbers : W.Answer → List ℕ
-writeNumbers (W.refusal k f l) = k ∷ f ∷ l ∷ []
-writeNumbers (W.written m) = 0 ∷ 0 ∷ 0 ∷ m ∷ []
+abbrev pub writeNumbers : Answer WriteAcceptance → List ℕ
+writeNumbers = numbersOf (λ a. a .length ∷ [])
 
 -- a copied name: its length, and the number of its section
-abbrev pub nameNumbers : N.Answer → List ℕ
-nameNumbers (N.refusal k f l) = k ∷ f ∷ l ∷ []
-nameNumbers (N.named m c) = 0 ∷ 0 ∷ 0 ∷ m ∷ c ∷ []
+abbrev pub nameNumbers : Answer Named → List ℕ
+nameNumbers = numbersOf (λ a. a .length ∷ a .section ∷ [])
+
+-- the due column of a file: its axle count, and how many entries the column has
+abbrev pub dueNumbers : Answer ColumnAcceptance → List ℕ
+dueNumbers = numbersOf (λ a. a .axles ∷ a .count ∷ [])
 
 -- a mark that is set is 1
 abbrev pub markNumber : Bool → ℕ
@@ -46,9 +52,7 @@ markNumber b = cond b 1 0
 
 -- a judged set (01, Judging): "two axle counts .. and a mark per result file"
 abbrev pub setNumbers : Answer Acceptance → List ℕ
-setNumbers (refusal k f l) = k ∷ f ∷ l ∷ []
-setNumbers (acceptance a) =
-    0 ∷ 0 ∷ 0 ∷ a .driftaxles ∷ a .suspensionaxles ∷ markNumber (a .driftmark) ∷ markNumber (a .suspensionmark) ∷ markNumber (a .gasmark) ∷ []
+setNumbers = numbersOf (λ a. a .driftaxles ∷ a .suspensionaxles ∷ markNumber (a .driftmark) ∷ markNumber (a .suspensionmark) ∷ markNumber (a .gasmark) ∷ [])
 
 -- there are numbers, and the array has room for them
 pub record Room (ns lent : List ℕ) : Type 0 where
@@ -60,8 +64,3 @@ pub record Room (ns lent : List ℕ) : Type 0 where
 pub record Filled (ns before after : List ℕ) (r : ℕ) : Type 0 where
   pub number : r ≡ getD ns 0 0
   pub answer : after ≡ answered ns before
-
--- the due column of a file: its axle count, and how many entries the column has
-abbrev pub dueNumbers : C.Answer → List ℕ
-dueNumbers (C.refusal k f l) = k ∷ f ∷ l ∷ []
-dueNumbers (C.column n m) = 0 ∷ 0 ∷ 0 ∷ n ∷ m ∷ []

@@ -15,7 +15,8 @@ use Rattle.refusals.specs.Refusals as R
 use Rattle.refusals.specs.declared.RefusalKind.the-variants.{OutputTooShort}
 use Rattle.tables.specs.File.{tableOf}
 use Rattle.tables.specs.Row.{nameAt, headingAt}
-use Rattle.names.specs.Names.{Name, nameWith, entryName, headingName, refusal, answerIs, Copies}
+use Rattle.refusals.specs.Answer.{refusal}
+use Rattle.names.specs.Names.{Name, nameWith, entryName, headingName, answerIs, Copies}
 use Rattle.names.specs.Steps.{standing}
 use Rattle.names.specs.declared.NameAnswer.{NameAnswer}
 use Rattle.names.specs.declared.NameAnswer.the-variants as NameAnswer

@@ -8,10 +8,11 @@ use mathlib.Core.List.{List, [], _∷_}
 use lib.Dec.{leb, ltb}
 use lib.ListN.{length}
 use Rattle.lines.specs.Writing.{put}
-use Rattle.refusals.specs.Refusals.{numberOf}
+use Rattle.refusals.specs.Answer.{Answer, refusal, acceptance, refusalOf}
 use Rattle.tables.specs.Section.{Section, entriesOf}
 use Rattle.tables.specs.File.{tableOf}
 use Rattle.tables.specs.Row.{nameIn, headingAt}
+use Rattle.names.specs.declared.Named as D
 use Rattle.names.specs.declared.NameAnswer.{NameAnswer}
 use Rattle.names.specs.declared.NameAnswer.the-variants.{Named, Refused}
 
@@ -41,19 +42,18 @@ entryName file k =
 unfoldable pub headingName : ℕ → ℕ → Option Name
 headingName file c = cond (ltb c (length (tableOf file))) (some (nameWith (headingAt (tableOf file) c) c)) none
 
-pub data Answer : Type 0 where
-  refusal : (number file line : ℕ) → Answer
-  named : (length section : ℕ) → Answer
-
 -- what the answer enum says
-abbrev pub answerIs : NameAnswer → Answer
-answerIs (Refused x) = refusal (numberOf (x .kind)) (x .file) (x .line)
-answerIs (Named a) = named (a .length) (a .section)
+abbrev pub answerIs : NameAnswer → Answer D.Named
+answerIs (Refused x) = refusalOf x
+answerIs (Named a) = acceptance a
+
+abbrev pub named : Name → Answer D.Named
+named x = acceptance (record { length = length (x .bytes); section = x .section })
 
 -- 16, then 18. 01, Writing: "such a refusal carries the file as handed in .. and line 0"
-abbrev pub answerOf : ℕ → Option Name → List ℕ → Answer
+abbrev pub answerOf : ℕ → Option Name → List ℕ → Answer D.Named
 answerOf file none out = refusal 16 file 0
-answerOf file (some x) out = cond (leb (length (x .bytes)) (length out)) (named (length (x .bytes)) (x .section)) (refusal 18 file 0)
+answerOf file (some x) out = cond (leb (length (x .bytes)) (length out)) (named x) (refusal 18 file 0)
 
 -- 01, Writing: "later output bytes stay"; "refused, the output stays"
 abbrev pub outputOf : Option Name → List ℕ → List ℕ

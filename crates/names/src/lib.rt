@@ -8,7 +8,8 @@ ghost use Prim.Native.Nat.{_<_, _≤_};
 ghost use lib.ListN.{length, take};
 ghost use Rattle.lines.specs.Writing.{put};
 ghost use Rattle.tables.specs.File.{tableOf};
-ghost use Rattle.names.specs.Names.{nameWith, entryName, headingName, refusal, answerIs, Copies};
+ghost use Rattle.refusals.specs.Answer.{refusal};
+ghost use Rattle.names.specs.Names.{nameWith, entryName, headingName, answerIs, Copies};
 ghost use Rattle.names.specs.Steps.{standing};
 
 // Room for the line of any name: at most 34 bytes, `=`, CR LF.

@@ -3,13 +3,13 @@ use Prim.Native.Nat.{ℕ, zero, suc, _+_, _-_, _≤_, _<_}
 use native.Mathlib.Nat.{zero-add, le-of-suc-le-suc}
 use native.Mathlib.Omega.{arith}
 use mathlib.Core.Path.{_≡_, refl, ap, sym, _∙_}
-use mathlib.Core.Bool.{true, false, not, false≢true}
+use mathlib.Core.Bool.{Bool, true, false, cond, not, false≢true}
 use mathlib.Core.List.{List, [], _∷_}
 use lib.Dec.{leb, ltb, eqb}
 use lib.ListN.{length, getD, take, drop, length-take, length-drop}
 use lib.Seq.{getD-take, getD-drop}
-use borrow.Author.Tests.{leb-true, ltb-true, ltb-false, eq-eqb}
-use Rattle.lines.specs.Bytes.{sameBytes, without}
+use borrow.Author.Tests.{leb-true, ltb-true, ltb-false, eqb-true, eqb-false, eq-eqb}
+use Rattle.lines.specs.Bytes.{sameBytes, without, otherRun}
 use Rattle.lines.proofs.Bools.{and-left, and-right}
 use Rattle.lines.proofs.Bytes.{same-is, same-refl}
 use Rattle.kinds.specs.Value.{isWordAt, wordIndex}
@@ -92,6 +92,55 @@ module _ (tags : List ℕ) (t a r : ℕ) (n : NoneFrom tags t a r) where
       without-none t (take 8 (drop r tags)) (k - r) e
       (omega (arith, length-take 8 (drop r tags), length-drop r tags))
       (getD-take 8 (drop r tags) (k - r) 0 j ∙ getD-drop r tags (k - r) 0 ∙ ap (λ (i : ℕ). getD tags i 0) s ∙ p))
+
+-- in a block where one has it
+run-below : (b : ℕ) (s : List ℕ) (n : ℕ) → without b (take n s) ≡ false → otherRun b s < n
+unfolding without otherRun
+run-below b s zero e = absurd (false≢true (sym e))
+run-below b [] (suc n) e = absurd (false≢true (sym e))
+run-below b (x ∷ s) (suc n) e =
+    by-test (eqb x b)
+    (λ q. rw q (omega arith))
+    (λ q. rw q (omega (arith, run-below b s n (rw q at e))))
+
+run-first : (b x : ℕ) (s : List ℕ) (k : ℕ) (t : Bool) → eqb x b ≡ t → ((j : ℕ) → j < otherRun b s → getD s j 0 ≡ b → ⊥) → k < cond t 0 (suc (otherRun b s)) → getD (x ∷ s) k 0 ≡ b → ⊥
+run-first b x s k true q n h p = omega arith
+run-first b x s zero false q n h p = eqb-false x b q p
+run-first b x s (suc k) false q n h p = n k (le-of-suc-le-suc h) p
+
+run-none : (b : ℕ) (s : List ℕ) (k : ℕ) → k < otherRun b s → getD s k 0 ≡ b → ⊥
+unfolding otherRun
+run-none b [] k h p = omega arith
+run-none b (x ∷ s) k h p = run-first b x s k (eqb x b) refl (run-none b s) h p
+
+run-found : (b : ℕ) (s : List ℕ) → otherRun b s < length s → getD s (otherRun b s) 0 ≡ b
+unfolding otherRun
+run-found b [] h = absurd (omega arith)
+run-found b (x ∷ s) h =
+    by-test (eqb x b)
+    (λ q. rw q (eqb-true x b q))
+    (λ q. rw q (run-found b s (le-of-suc-le-suc (rw q at h))))
+
+-- a block of eight, one of which has it
+pub passes-block : (tags : List ℕ) (t a e r : ℕ) → a ≤ r → r + 8 ≤ e → e ≤ length tags → NoneFrom tags t a r → without t (take 8 (drop r tags)) ≡ false → {m : ℕ} → m ≡ otherRun t (drop r tags)
+    → PassesTo tags t a e (r + m)
+passes-block tags t a e r h b l n w {m} q =
+    let small = run-below t (drop r tags) 8 w in
+    record {
+      on = omega arith;
+      within = omega arith;
+      passed = λ k x y p.
+          by-test (ltb k r)
+          (λ z. n k x (ltb-true _ _ z) p)
+          (λ z.
+          let f : r ≤ k = ltb-false k r z in
+          let s : r + (k - r) ≡ k = omega arith in
+          run-none t (drop r tags) (k - r) (omega arith) (getD-drop r tags (k - r) 0 ∙ ap (λ (i : ℕ). getD tags i 0) s ∙ p));
+      found = λ x.
+          ap (λ (i : ℕ). getD tags (r + i) 0) q
+          ∙ sym (getD-drop r tags (otherRun t (drop r tags)) 0)
+          ∙ run-found t (drop r tags) (omega (arith, length-drop r tags));
+    }
 
 -- from a later row on
 pub passes-from : {tags : List ℕ} {t a b e r : ℕ} → a ≤ b → NoneFrom tags t a b → PassesTo tags t b e r → PassesTo tags t a e r

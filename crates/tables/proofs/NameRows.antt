@@ -45,7 +45,7 @@ use Rattle.tables.specs.File.{
   axlesFrom,
   axleEntries,
 }
-use Rattle.tables.specs.Row.{names, nameIn, entriesIn}
+use Rattle.tables.specs.Row.{names, nameIn, entriesIn, mostRows}
 use Rattle.tables.specs.Groups.{testers, gasEntries, group, groupOf, inRow, tagOf, Lent, InRow, rowName, StandsAt}
 use Rattle.tables.proofs.Files.{of-file, of-any}
 use Rattle.tables.proofs.Sections.{at-file, entries-none, drift-entries, suspension-entries}
@@ -229,7 +229,7 @@ other-group (suc (suc (suc (suc zero)))) t = absurd (t .0 .1 refl)
 other-group (suc (suc (suc (suc (suc zero))))) t = absurd (t .1 refl)
 other-group (suc (suc (suc (suc (suc (suc n)))))) t = refl
 
-few-of : (f : File) → length (group f) ≤ 64
+few-of : (f : File) → length (group f) ≤ mostRows
 unfolding group testers gasEntries newBooking oldBooking tester protocol measurement sixteen driftAxle suspensionAxle analyser counter speedTest allKeyDates
     allKeyBodies analysis fuelAnalysis
 few-of ac2 = omega arith
@@ -238,10 +238,10 @@ few-of drift = omega arith
 few-of suspension = omega arith
 few-of gas = omega arith
 
-few-else : length newBooking ≤ 64
+few-else : length newBooking ≤ mostRows
 unfolding newBooking
 few-else = omega arith
 
-pub group-few : (n : ℕ) → length (groupOf n) ≤ 64
+pub group-few : (n : ℕ) → length (groupOf n) ≤ mostRows
 unfolding groupOf
-group-few n = of-any newBooking group (λ g. length g ≤ 64) few-else few-of n
+group-few n = of-any newBooking group (λ g. length g ≤ mostRows) few-else few-of n

@@ -43,7 +43,7 @@ use Rattle.tables.specs.File.{
   axlesFrom,
   axleEntries,
 }
-use Rattle.tables.specs.Row.{entriesIn, rowCount, rowsBefore, rowKinds, rowKind}
+use Rattle.tables.specs.Row.{entriesIn, rowCount, rowsBefore, mostRows, rowKinds, rowKind}
 use Rattle.tables.proofs.Files.{of-any}
 use Rattle.tables.proofs.Sections.{at-file}
 
@@ -61,11 +61,11 @@ row-in [] c i h = absurd (omega arith)
 row-in (s ∷ t) zero i h = omega arith
 row-in (s ∷ t) (suc c) i h = omega (arith, row-in t c i h)
 
-few-none : rowCount [] ≤ 64
+few-none : rowCount [] ≤ mostRows
 unfolding rowCount
 few-none = omega arith
 
-few : (f : File) → rowCount (allSections f) ≤ 64
+few : (f : File) → rowCount (allSections f) ≤ mostRows
 unfolding rowCount sections fixedSections axleSections axlesFrom axleEntries newBooking oldBooking tester protocol measurement sixteen driftAxle
     suspensionAxle analyser counter speedTest allKeyDates allKeyBodies analysis fuelAnalysis
 few ac2 = omega arith
@@ -74,10 +74,9 @@ few drift = omega arith
 few suspension = omega arith
 few gas = omega arith
 
--- no table has more than 64 rows
-pub rows-few : (n : ℕ) → rowCount (tableOf n) ≤ 64
+pub rows-few : (n : ℕ) → rowCount (tableOf n) ≤ mostRows
 unfolding tableOf
-rows-few n = of-any [] allSections (λ t. rowCount t ≤ 64) few-none few n
+rows-few n = of-any [] allSections (λ t. rowCount t ≤ mostRows) few-none few n
 
 pub kinds-count : (t : List Section) → length (rowKinds t) ≡ rowCount t
 unfolding rowCount

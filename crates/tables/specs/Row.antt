@@ -65,6 +65,10 @@ unfoldable pub rowCount : List Section → ℕ
 rowCount [] = zero
 rowCount (s ∷ t) = suc (length (s .entries) + rowCount t)
 
+-- no table has more rows (proofs/Rows.antt: `rows-few`): as many does the code lay out
+abbrev pub mostRows : ℕ
+mostRows = 64
+
 -- how many rows stand before section c: the row of its heading
 abbrev pub rowsBefore : List Section → ℕ → ℕ
 rowsBefore t c = rowCount (take c t)

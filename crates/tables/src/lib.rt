@@ -13,7 +13,7 @@ ghost use lib.ListN.{length, getD};
 ghost use Rattle.lines.specs.Bytes.{sameBytes};
 ghost use Rattle.lines.specs.Line.{heading as headingLine, entry as entryLine, writtenLine, writtenLength};
 ghost use Rattle.lines.specs.Writing.{Wrote};
-ghost use Rattle.tables.specs.File.{tableOf, ofNumber, isFile, leastSections, fixedSections, firstPair, room};
+ghost use Rattle.tables.specs.File.{tableOf, ofNumber, isFile, leastSections, fixedSections, firstPair, room, leastPlaces};
 ghost use Rattle.tables.specs.Row.{entriesIn, names, nameIn, nameAt, headingAt, sectionOf, sectionDigit, likelySection, entryIn, rowsBefore, rowCount, rowAt};
 ghost use Rattle.tables.specs.Groups.{groupOf, tagOf, PassesTo, Lent, SectionLent, InRow, rowName, StandsAt, IsPlaceOf};
 
@@ -27,6 +27,9 @@ pub const DRIFT: u32 = 3;
 pub const SUSPENSION: u32 = 4;
 
 pub const GAS: u32 = 5;
+
+// As many rows as any table has: the size of an array with a number for each row.
+pub const MOST_ROWS: usize = 64;
 
 // Where a section stands: the row of its first entry in its group, how many entries it has, and the rows of its table
 // before it.
@@ -88,6 +91,13 @@ pub fn first_pair(file: u32) -> usize
     ensures { λ r. ⌜ r ≡ ofNumber 0 firstPair file ⌝ }
 {
     of_file(&[0, 0, 12, 18, 43, 86], file)
+}
+
+// How many numbers a caller lends at least for the places (01, Judging).
+pub fn least_places() -> usize
+    ensures { λ r. ⌜ r ≡ leastPlaces ⌝ }
+{
+    278
 }
 
 // How many pairs a file has.
@@ -269,7 +279,7 @@ fn next_row(tags: &[u8], from: usize, end: usize, tag: u8) -> usize
     row
 }
 
-// Likewise, passing over eight rows at a time while none of the eight has that tag, then one by one.
+// Likewise, passing over eight rows at a time while none of the eight has that tag; fewer than eight one by one.
 fn pass_over(tags: &[u8], from: usize, end: usize, tag: u8) -> usize
     requires { ⌜ (from ≤ end) × (end ≤ length (now tags)) ⌝ }
     ensures { λ r. ⌜ PassesTo (now (tags .entry)) tag from end r ⌝ }
@@ -277,7 +287,7 @@ fn pass_over(tags: &[u8], from: usize, end: usize, tag: u8) -> usize
     let mut row = from;
     while 8 <= end - row {
         if !lines::lacks(tags, row, tag) {
-            return next_row(tags, row, end, tag);
+            return row + lines::first_of(tags, row, tag);
         }
         row += 8;
     }

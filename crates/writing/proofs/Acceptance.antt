@@ -17,7 +17,9 @@ use Rattle.tables.specs.Row.{rowKinds}
 use Rattle.reading.specs.Fitting.{EachKept}
 use Rattle.reading.specs.Reading.{Check, passes, fails}
 use Rattle.reading.specs.Writing.{writeText}
-use Rattle.writing.specs.Writing.{axlesRight, pairsOf, valuesOf, firstWrongPair, isOutside, isWrongKind, Quote, refuse, quote, unless, quotePairs, isRight, quoteRight, quoteFile, fitting, refusal, written, answerOf, outputOf, bytesOf}
+use Rattle.writing.specs.Writing.{axlesRight, pairsOf, valuesOf, firstWrongPair, isOutside, isWrongKind, Quote, refuse, quote, unless, quotePairs, isRight, quoteRight, quoteFile, fitting, written, answerOf, outputOf, bytesOf}
+use Rattle.refusals.specs.Answer.{Answer, refusal, acceptance}
+use Rattle.writing.specs.declared.WriteAcceptance.{WriteAcceptance}
 use Rattle.writing.specs.Steps.{Ready, sectionsText}
 use Rattle.writing.proofs.Checks.{within-all, kept-all}
 use Rattle.writing.proofs.Quotes.{RightFile, of-right, right-table, first-sections, section-range, pairs-in}
@@ -35,12 +37,13 @@ unless-inv (fails k l) q m e = clash (cc)
 length-inv : (k m : ℕ) → quote k ≡ quote m → k ≡ m
 length-inv k m e = cc
 
+abbrev length-in : Answer WriteAcceptance → ℕ
+length-in (refusal k f l) = 0
+length-in (acceptance a) = a .length
+
 pub written-inv : (file : ℕ) (q : Quote) (m : ℕ) → written m ≡ answerOf file q → q ≡ quote m
 written-inv file (refuse k l) m e = clash (cc)
-written-inv file (quote k) m e = ap quote (sym (go e))
-  where
-    go : written m ≡ written k → m ≡ k
-    go e = cc
+written-inv file (quote k) m e = ap quote (sym (ap length-in e))
 
 -- a file that is accepted with the length m
 pub record Accepted (f : File) (n : ℕ) (s p : List ℕ) (m : ℕ) : Type 0 where

@@ -10,7 +10,7 @@ use lib.Seq.{drop-cons, take-at, drop-at, getD-take, length-take-le}
 use Rattle.lines.specs.Line.{Line, heading, entry, writtenLine, writtenLength, textOf}
 use Rattle.lines.specs.Writing.{put, Wrote}
 use Rattle.lines.proofs.Writing.{wrote-both, wrote-length, written-length}
-use Rattle.places.specs.Places.{startOf, lengthOf, pairsAt, valueAt, valuesAt, Within}
+use Rattle.places.specs.Places.{startOf, lengthOf, pairsAt, valueAt, valuesAt, Within, placeSize}
 use Rattle.places.proofs.Laws.{values-length}
 use Rattle.tables.specs.Section.{Entry, Section, entriesOf}
 use Rattle.tables.specs.Row.{noEntry, noSection, names, nameIn, headingAt, entriesIn}
@@ -187,7 +187,7 @@ module _ (t : List Section) (c : ℕ) {s p : List ℕ} {k n : ℕ} {out : List �
 pub record Sections (t : List Section) (count : ℕ) (s p : List ℕ) (first : ℕ) (d : List ℕ) (a c k : ℕ) (e : List ℕ) (r : ℕ) : Type 0 where
   pub inside : c ≤ count
   pub most : count ≤ length t
-  pub pairs : 2 * (k + length (entriesOf (drop c (take count t)))) ≤ length p
+  pub pairs : placeSize * (k + length (entriesOf (drop c (take count t)))) ≤ length p
   pub within : Within s (pairsAt p k (length (entriesOf (drop c (take count t)))))
   pub kept : length e ≡ length d
   pub part : Partly d a (sectionsText (take count t) s p first) e r (sectionsText (drop c (take count t)) s p k)
@@ -221,7 +221,7 @@ module _ {t : List Section} {count : ℕ} {s p : List ℕ} {first : ℕ} {d : Li
     sections-part : Partly d a (sectionsText (take count t) s p first) e r (sectionText x s p k ++ sectionsText rest s p (k + length (x .entries)))
     sections-part = rw (ap (λ (u : List Section). sectionsText u s p k) split ∙ section-next x rest s p k) at (h .part)
 
-    pub section-pairs : 2 * (k + length (getD t c noSection .entries)) ≤ length p
+    pub section-pairs : placeSize * (k + length (getD t c noSection .entries)) ≤ length p
     unfolding x
     section-pairs = omega (arith, h .pairs, count-is)
 

@@ -13,7 +13,7 @@ use borrow.Author.Tests.{lt-ltb, le-ltb, ltb-false, not-false}
 use Rattle.lines.proofs.Bools.{clash}
 use Rattle.kinds.specs.Kind.{Kind, kindOf, numbered}
 use Rattle.kinds.specs.Value.{kindKept}
-use Rattle.places.specs.Places.{Pair, startOf, lengthOf, pairsAt, valueAt, Within}
+use Rattle.places.specs.Places.{Pair, startOf, lengthOf, pairsAt, valueAt, Within, placeSize}
 use Rattle.tables.specs.Section.{Entry, Section, entriesOf}
 use Rattle.tables.specs.Row.{rowKinds, rowKind}
 use Rattle.tables.proofs.Rows.{kindCount, heading-row, entry-row}
@@ -59,7 +59,7 @@ module _ (wrong : Kind → Pair → Bool) (number : ℕ) (ks : List (Option Kind
 pub record Turn (wrong : Kind → Pair → Bool) (number : ℕ) (t : List (Option Kind)) (count : ℕ) (p : List ℕ) (first r k : ℕ) : Type 0 where
   pub inside : r ≤ count
   pub most : count ≤ length t
-  pub room : 2 * (k + entryCount (drop r (take count t))) ≤ length p
+  pub room : placeSize * (k + entryCount (drop r (take count t))) ≤ length p
   pub same : pairCheck wrong number (take count t) p first ≡ checkFrom wrong number (take count t) p r k
 
 -- row r, whose kind number is x, is an entry's
@@ -84,7 +84,7 @@ module _ (t : List (Option Kind)) (count : ℕ) (most : count ≤ length t) wher
     entry-check {r} {x} k e = check-entry wrong number (take count t) p r k (omega (arith, rows-are, e .before)) (kindOf x) (entry-at e)
 
 module _ {wrong : Kind → Pair → Bool} {number : ℕ} {t : List (Option Kind)} {count : ℕ} {p : List ℕ} {first : ℕ} where
-  pub turn-start : count ≤ length t → 2 * (first + entryCount (take count t)) ≤ length p → Turn wrong number t count p first 0 first
+  pub turn-start : count ≤ length t → placeSize * (first + entryCount (take count t)) ≤ length p → Turn wrong number t count p first 0 first
   turn-start m l = record { inside = omega arith; most = m; room = l; same = refl }
 
   module _ {r k : ℕ} (h : Turn wrong number t count p first r k) where
@@ -99,7 +99,7 @@ module _ {wrong : Kind → Pair → Bool} {number : ℕ} {t : List (Option Kind)
           same = h .same ∙ check-heading wrong number (take count t) p r k i w;
         }
 
-    pub turn-room : {x : ℕ} → EntryRow t count r x → 2 * k + 1 < length p
+    pub turn-room : {x : ℕ} → EntryRow t count r x → placeSize * k + 1 < length p
     turn-room e = omega (arith, h .room, entry-room t count (h .most) e)
 
     pub turn-entry : {x : ℕ} → EntryRow t count r x → wrong (kindOf x) (startOf p k, lengthOf p k) ≡ false → Turn wrong number t count p first (r + 1) (k + 1)

@@ -10,10 +10,10 @@ use lib.ListN.{length, take}
 use borrow.Author.Tests.{leb-true, eqb-true, lt-leb, le-leb}
 use Rattle.lines.proofs.Bools.{and-left, and-right}
 use Rattle.kinds.specs.Kind.{Kind}
-use Rattle.places.specs.Places.{Pair, pairsAt}
+use Rattle.places.specs.Places.{Pair, pairsAt, placeSize}
 use Rattle.places.proofs.Laws.{pairs-length}
 use Rattle.tables.specs.Section.{Section, entriesOf}
-use Rattle.tables.specs.Row.{rowsBefore, rowCount, rowKinds}
+use Rattle.tables.specs.Row.{rowsBefore, rowCount, rowKinds, mostRows}
 use Rattle.tables.specs.File.{File, ac2, acc, drift, suspension, gas, fileNumber, ofNumber, hasAxles, leastAxles, mostAxles, fixedSections, sections, allSections, leastSections, entries, firstPair, leastPlaces, tableOf}
 use Rattle.tables.proofs.Files.{of-file, of-none, of-any, table-of, NoFile}
 use Rattle.tables.proofs.Axles.{sections-fixed, sections-length, sections-prefix, entries-most}
@@ -97,19 +97,14 @@ fixed-few file = of-any 0 (λ f. length (fixedSections f)) (λ k. k ≤ 2) (omeg
 
 -- ---- 1 and 16
 
-pub places-enough : (p : List ℕ) → 278 ≤ length p → leastPlaces ≤ length p
-places-enough p h = omega (arith, first-pairs .5)
-
 module _ (file n : ℕ) (s p : List ℕ) where
-  pub quote-places : length p < 278 → quoteFile file n s p ≡ refuse 1 0
+  pub quote-places : length p < leastPlaces → quoteFile file n s p ≡ refuse 1 0
   unfolding quoteFile
-  quote-places h =
-      let q : leb leastPlaces (length p) ≡ false = lt-leb leastPlaces (length p) (omega (arith, first-pairs .5)) in
-      rw q
+  quote-places h = rw (lt-leb leastPlaces (length p) h)
 
-  pub quote-file : 278 ≤ length p → quoteFile file n s p ≡ cond (isRight file n) (quoteRight file n s p) (refuse 16 0)
+  pub quote-file : leastPlaces ≤ length p → quoteFile file n s p ≡ cond (isRight file n) (quoteRight file n s p) (refuse 16 0)
   unfolding quoteFile
-  quote-file h = rw (le-leb leastPlaces (length p) (places-enough p h))
+  quote-file h = rw (le-leb leastPlaces (length p) h)
 
 -- ---- the first sections of a file's table
 
@@ -150,7 +145,7 @@ module _ (f : File) (n : ℕ) (right : axlesRight (hasAxles f) n ≡ true) where
   unfolding entries
   entry-number = count-entries (sections f n)
 
-  pub pairs-in : 2 * (firstPair f + length (entries f n)) ≤ leastPlaces
+  pub pairs-in : placeSize * (firstPair f + length (entries f n)) ≤ leastPlaces
   unfolding leastPlaces
   pairs-in = omega (arith, entries-most f n few-axles, room-in f)
 
@@ -185,7 +180,7 @@ module _ {file n sectionCount rows first : ℕ} (z : Sizes file n sectionCount r
   unfolding f
   kinds-are = ap₂ (λ (c : ℕ) (t : List Section). take c (rowKinds t)) rows-number table-is ∙ first-rows f n (z .right .axles)
 
-  pub sizes-few : rows ≤ 64
+  pub sizes-few : rows ≤ mostRows
   sizes-few = omega (arith, rows-number, rows-le (allSections f) (length (sections f n)), ap rowCount table-is, rows-few file)
 
   pub sizes-most : rows ≤ length (rowKinds (tableOf file))
@@ -199,11 +194,11 @@ module _ {file n sectionCount rows first : ℕ} (z : Sizes file n sectionCount r
   unfolding f
   sizes-less = omega (arith, rows-number, sections-is, row-number f n (z .right .axles))
 
-  pub sizes-places : (p : List ℕ) → leastPlaces ≤ length p → 2 * (first + entryCount (take rows (rowKinds (tableOf file)))) ≤ length p
+  pub sizes-places : (p : List ℕ) → leastPlaces ≤ length p → placeSize * (first + entryCount (take rows (rowKinds (tableOf file)))) ≤ length p
   unfolding f
   sizes-places p h = omega (arith, pair-is, ap entryCount kinds-are, entry-number f n (z .right .axles), pairs-in f n (z .right .axles))
 
-  pub sizes-pairs : (p : List ℕ) → leastPlaces ≤ length p → 2 * (first + (rows - sectionCount)) ≤ length p
+  pub sizes-pairs : (p : List ℕ) → leastPlaces ≤ length p → placeSize * (first + (rows - sectionCount)) ≤ length p
   unfolding f
   sizes-pairs p h = omega (arith, pair-is, pairs-number, pairs-in f n (z .right .axles))
 

@@ -16,9 +16,11 @@ use Rattle.tables.specs.File.{File, fileNumber, hasAxles, sections, entries}
 use Rattle.reading.specs.Writing.{writeText}
 use Rattle.reading.proofs.Written.{written as written-fits, kept-length}
 use Rattle.files.specs.Files.{AxleCount, IsFile}
-use Rattle.files.specs.Alone.{acceptance, aloneAnswer, alonePlaces}
+use Rattle.refusals.specs.Answer.{acceptance}
+use Rattle.files.specs.Alone.{accepted as accepted-with, aloneAnswer, alonePlaces}
 use Rattle.files.proofs.Pairs.{alone-complete}
-use Rattle.writing.specs.Writing.{axlesRight, valuesOf, Quote, refuse, quote, quoteFile, fitting, refusal, written, answerOf, outputOf, bytesOf}
+use Rattle.writing.specs.Writing.{axlesRight, valuesOf, Quote, refuse, quote, quoteFile, fitting, written, answerOf, outputOf, bytesOf}
+use Rattle.refusals.specs.Answer.{refusal}
 use Rattle.writing.specs.ReadBack.{valuesNumbered, outputAfter, ReadsBack}
 use Rattle.writing.proofs.Quotes.{RightFile, right-file, of-right, axles-range}
 use Rattle.writing.proofs.Acceptance.{Accepted, accepted, accepted-right, written-inv}
@@ -98,7 +100,7 @@ reads-back file n s p out m e q l =
     let t : take m (outputAfter file n s p out) ≡ bytesOf file n s p = written-output file n s p out m e .0 in
     let b = bytesOf file n s p in
     let a = alone-complete (r .of) n (valuesOf (r .of) n s p) b (is-file file n s p m (w .0)) q l in
-    let x : aloneAnswer file b q ≡ acceptance n = ap (λ (i : ℕ). aloneAnswer i b q) (r .number-is) ∙ a .0 in
+    let x : aloneAnswer file b q ≡ acceptance (accepted-with n) = ap (λ (i : ℕ). aloneAnswer i b q) (r .number-is) ∙ a .0 in
     let y : alonePlaces file b q ≡ alonePlaces (fileNumber (r .of)) b q = ap (λ (i : ℕ). alonePlaces i b q) (r .number-is) in
     let v : valuesNumbered file n b (alonePlaces file b q) ≡ valuesNumbered file n s p
     = of-right r [] (λ f. valuesOf f n b (alonePlaces file b q)) ∙ ap (valuesOf (r .of) n b) y ∙ a .1 ∙ sym (of-right r [] (λ f. valuesOf f n s p)) in

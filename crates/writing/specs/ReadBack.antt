@@ -4,7 +4,8 @@ use mathlib.Core.Path.{_≡_}
 use mathlib.Core.List.{List, []}
 use lib.ListN.{length, take}
 use Rattle.tables.specs.File.{leastPlaces, ofNumber}
-use Rattle.files.specs.Alone.{acceptance, aloneAnswer, alonePlaces}
+use Rattle.refusals.specs.Answer.{acceptance}
+use Rattle.files.specs.Alone.{accepted, aloneAnswer, alonePlaces}
 use Rattle.writing.specs.Writing.{valuesOf, quoteFile, fitting, written, answerOf, outputOf, bytesOf}
 
 -- the values at the pairs of the file of this number with n axles
@@ -13,7 +14,7 @@ valuesNumbered file n s p = ofNumber [] (λ f. valuesOf f n s p) file
 
 -- the text t, read alone into the places q, is accepted as the file of this number with n axles, and its values are those of s at the pairs of p
 pub record IsReadBack (file n : ℕ) (s p t q : List ℕ) : Type 0 where
-  pub answer : aloneAnswer file t q ≡ acceptance n
+  pub answer : aloneAnswer file t q ≡ acceptance (accepted n)
   pub values : valuesNumbered file n t (alonePlaces file t q) ≡ valuesNumbered file n s p
 
 -- the output after writing

@@ -9,12 +9,13 @@ use lib.ListN.{length}
 use Rattle.kinds.specs.Kind.{Kind}
 use Rattle.kinds.specs.Value.{kindKept}
 use Rattle.lines.specs.Writing.{put}
-use Rattle.refusals.specs.Refusals.{numberOf}
+use Rattle.refusals.specs.Answer.{Answer, refusal, acceptance, refusalOf}
 use Rattle.tables.specs.File.{File, hasAxles, leastAxles, mostAxles, sections, entries, firstPair, leastPlaces, ofNumber}
 use Rattle.places.specs.Places.{Pair, valueAt, valuesAt, pairsAt}
 use Rattle.tables.specs.Row.{rowKinds}
 use Rattle.reading.specs.Reading.{Check, passes, fails}
 use Rattle.reading.specs.Writing.{writeText}
+use Rattle.writing.specs.declared.WriteAcceptance.{WriteAcceptance}
 use Rattle.writing.specs.declared.WriteAnswer.{WriteAnswer}
 use Rattle.writing.specs.declared.WriteAnswer.the-variants.{Written, Refused}
 use Rattle.writing.specs.declared.Quoted.{Quoted}
@@ -84,20 +85,20 @@ abbrev pub fitting : Quote → ℕ → Quote
 fitting (refuse k l) room = refuse k l
 fitting (quote m) room = cond (leb m room) (quote m) (refuse 18 0)
 
-pub data Answer : Type 0 where
-  refusal : (number file line : ℕ) → Answer
-  written : (length : ℕ) → Answer
+-- "the answer is its length"
+abbrev pub written : ℕ → Answer WriteAcceptance
+written m = acceptance (record { length = m })
 
 -- what the answer enum says
-abbrev pub answerIs : WriteAnswer → Answer
-answerIs (Refused x) = refusal (numberOf (x .kind)) (x .file) (x .line)
-answerIs (Written a) = written (a .length)
+abbrev pub answerIs : WriteAnswer → Answer WriteAcceptance
+answerIs (Refused x) = refusalOf x
+answerIs (Written a) = acceptance a
 
-abbrev pub quotedIs : Quoted → Answer
-quotedIs (Stopped x) = refusal (numberOf (x .kind)) (x .file) (x .line)
+abbrev pub quotedIs : Quoted → Answer WriteAcceptance
+quotedIs (Stopped x) = refusalOf x
 quotedIs (Length m) = written m
 
-abbrev pub answerOf : ℕ → Quote → Answer
+abbrev pub answerOf : ℕ → Quote → Answer WriteAcceptance
 answerOf file (refuse k l) = refusal k (cond (eqb k 1) 0 file) l
 answerOf file (quote m) = written m
 

@@ -11,7 +11,7 @@ ghost use lib.ListN.{length, take, getD};
 ghost use Rattle.lines.specs.Writing.{Wrote};
 ghost use Rattle.places.specs.Places.{placeSize, startOf, lengthOf, pairsAt, valueAt};
 ghost use Rattle.tables.specs.Section.{entriesOf};
-ghost use Rattle.tables.specs.Row.{entriesIn, noSection, rowKinds};
+ghost use Rattle.tables.specs.Row.{entriesIn, noSection, rowKinds, mostRows};
 ghost use Rattle.tables.specs.File.{leastPlaces, tableOf, sections, ofNumber};
 ghost use Rattle.reading.specs.Reading.{passes};
 ghost use Rattle.reading.specs.Tables.{tableLength};
@@ -33,9 +33,6 @@ pub enum Quoted {
     Length(u32),
     Refused(Refusal),
 }
-
-// 01, Judging: "at least 278 numbers".
-const LEAST_PLACES: usize = 278;
 
 // "1 to 9 axles"
 fn are_axles(axles: u32) -> bool
@@ -116,8 +113,8 @@ fn wrong_kind_line(text: &[u8], places: &[u32], file: u32, count: usize, first: 
 
 // The lengths of `count` pairs from `first` on together.
 fn pair_lengths(places: &[u32], first: usize, count: usize) -> usize
-    requires { ⌜ (placeSize * (first + count) ≤ length (now places)) × (count ≤ 64) ⌝ }
-    ensures { λ r. ⌜ (r ≡ pairLengths (pairsAt (now (places .entry)) first count)) × (r ≤ 64 * 4294967295) ⌝ }
+    requires { ⌜ (placeSize * (first + count) ≤ length (now places)) × (count ≤ mostRows) ⌝ }
+    ensures { λ r. ⌜ (r ≡ pairLengths (pairsAt (now (places .entry)) first count)) × (r ≤ mostRows * 4294967295) ⌝ }
 {
     let mut sum = 0;
     let mut i = 0;
@@ -182,7 +179,8 @@ fn quote_right(text: &[u8], places: &[u32], file: u32, axles: u32) -> Quoted
 pub fn quote(text: &[u8], places: &[u32], file: u32, axles: u32) -> Quoted
     ensures { λ r. ⌜ quotedIs r ≡ answerOf file (quoteFile file axles (now (text .entry)) (now (places .entry))) ⌝ }
 {
-    if places.len() < LEAST_PLACES {
+    let least = tables::least_places();
+    if places.len() < least {
         return Quoted::Refused(Refusal {
             kind: RefusalKind::PlacesTooShort,
             file: 0,

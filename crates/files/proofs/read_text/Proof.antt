@@ -5,13 +5,13 @@ use native.Mathlib.Omega.{arith}
 use lib.ListN.{length-take}
 use denote.Ref.{now}
 use Rattle.tables.specs.File.{tableOf}
-use Rattle.tables.specs.Row.{rowCount}
+use Rattle.tables.specs.Row.{rowCount, mostRows}
 use Rattle.tables.proofs.Rows.{rows-few}
 use Rattle.files.proofs.Steps.{kinds-within, kinds-taken, kinds-part, text-long, empty-part}
 use Rattle.files.proofs.read_text.Statement.{statement}
 use Rattle.files.proofs.read_text.Tie as tie
 
-few : (c : tie.After-row-count) → c .row-count .result ≤ 64
+few : (c : tie.After-row-count) → c .row-count .result ≤ mostRows
 few c = omega (arith, c .row-count .ensures, rows-few (c .before .before .before .before .before .before .before .before .args .file))
 
 returns : tie.Need-returns
@@ -56,7 +56,7 @@ read-into-requires : tie.Need-read-into-requires
 read-into-requires c κs =
     let x = c .before .before .before .before .before .before .before .before .before .before .before .before .before .before in
     let n = c .before .before .before .before .before .before in
-    (kinds-part (x .args .file) (n .row-count .result) _ (n .row-count .ensures) (n .before .before .write-kinds .ensures), c .before .before .before .before .before .before .before .before .before .before .if1 .left, empty-part (n .row-count .result) (rowCount (tableOf (x .args .file))) 64 (n .row-count .ensures) (rows-few (x .args .file)), x .pre .0, x .pre .1)
+    (kinds-part (x .args .file) (n .row-count .result) _ (n .row-count .ensures) (n .before .before .write-kinds .ensures), c .before .before .before .before .before .before .before .before .before .before .if1 .left, empty-part (n .row-count .result) (rowCount (tableOf (x .args .file))) mostRows (n .row-count .ensures) (rows-few (x .args .file)), x .pre .0, x .pre .1)
 
 same-length : tie.Need-same-length
 same-length c = search needs

@@ -6,6 +6,7 @@ use mathlib.Core.Path.{_≡_, sym, _∙_}
 use mathlib.Core.List.{List}
 use lib.ListN.{length}
 use denote.Ref.{now}
+use Rattle.reading.specs.Tables.{mostBytes}
 use Rattle.lines.specs.Reading.{lineAt}
 use Rattle.lines.specs.declared.LineRead.the-variants.{Heading, Entry}
 use Rattle.lines.proofs.Lines.{Inside, heading-inside, entry-inside, Moves, heading-moves, entry-moves}
@@ -51,7 +52,7 @@ insideH c = heading-inside (F (H c)) (H c .loop .c) _ _ _ (isHeading c)
 movesH : (c : tie.After-start Inv-loop μ-loop) → Moves (F (H c)) (H c .loop .c) (c .start .given .0 .1 .1 .0)
 movesH c = heading-moves (F (H c)) (H c .loop .c) _ _ _ (isHeading c)
 
-mostH : (c : tie.After-start Inv-loop μ-loop) → c .start .given .0 .1 .1 .0 .line ≤ 16384
+mostH : (c : tie.After-start Inv-loop μ-loop) → c .start .given .0 .1 .1 .0 .line ≤ mostBytes
 mostH c = let m = heading-most (F (H c)) (H c .loop .c) _ _ _ (isHeading c) in omega (arith, H c .loop .inv .0 .ready .short)
 
 -- an entry that was read, and its places
@@ -71,7 +72,7 @@ startE c = entry-start (F (E c)) (E c .loop .c) _ _ _ _ (isEntry c)
 movesE : (c : tie.After-start2 Inv-loop μ-loop) → Moves (F (E c)) (E c .loop .c) (c .start2 .given .0 .1 .1 .1 .0)
 movesE c = entry-moves (F (E c)) (E c .loop .c) _ _ _ _ (isEntry c)
 
-mostE : (c : tie.After-start2 Inv-loop μ-loop) → c .start2 .given .0 .1 .1 .1 .0 .line ≤ 16384
+mostE : (c : tie.After-start2 Inv-loop μ-loop) → c .start2 .given .0 .1 .1 .1 .0 .line ≤ mostBytes
 mostE c = let m = entry-most (F (E c)) (E c .loop .c) _ _ _ _ (isEntry c) in omega (arith, E c .loop .inv .0 .ready .short)
 
 section-count-requires : tie.Need-section-count-requires Inv-loop μ-loop

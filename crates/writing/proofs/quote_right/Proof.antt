@@ -3,6 +3,7 @@ use mathlib.Core.Path.{ap, sym, _∙_}
 use Prim.Native.Nat.{_+_, _-_, _≤_}
 use native.Mathlib.Omega.{arith}
 use borrow.Author.Needs.{needs}
+use Rattle.reading.specs.Tables.{mostBytes}
 use Rattle.writing.proofs.quote_right.Statement.{statement}
 use Rattle.writing.proofs.quote_right.Tie as tie
 use Rattle.writing.specs.Writing.{answerOf}
@@ -18,7 +19,7 @@ sizes c =
       first-is = c .first-pair .ensures;
     }
 
-short : (c : tie.After-pair-lengths) → c .before .table-length .result + c .pair-lengths .result ≤ 16384
+short : (c : tie.After-pair-lengths) → c .before .table-length .result + c .pair-lengths .result ≤ mostBytes
 short c =
     let x = c .before .before .before .before .before .before .before .before .before .before .before .args in
     quote-short (sizes (c .before .before .before .before .before .before)) (x .text .now) (x .places .now) (c .before .before .before .before .before .outside-line .ensures .0 ∙ no-line 17 (c .before .before .before .before .if1 .left)) (c .before .before .before .wrong-kind-line .ensures .0 ∙ no-line 9 (c .before .before .if2 .left)) (c .before .table-length .result) (c .pair-lengths .result) (c .before .table-length .ensures) (c .pair-lengths .ensures .0)
