@@ -11,6 +11,8 @@ ghost use Rattle.due.specs.Booking.{fuelIn, isLate, isPetrol, isDiesel, 
 ghost use Rattle.due.specs.Conditions.{is200, is210, versionIn, isSerialLink, linksAt, linksNumbered, withLinks};
 ghost use Rattle.due.specs.Due.{conditionIn, isMoped, isMotorcycle, isMorN, conditionP, when, holdsIn, dueIn, filledPairs, asDue, firstNotAsDueFrom};
 ghost use Rattle.due.specs.Table.{firstCondition, fixedCount};
+use kinds::numbers::CATEGORIES;
+use kinds::numbers::PETROL_DIRECTIVES;
 use tables::pairs;
 
 pub enum Fuel {
@@ -450,11 +452,6 @@ pub fn first_not_as_due(
     }
     i
 }
-
-// The numbers of two lists of words in kinds.
-const CATEGORIES: u8 = 1;
-
-pub const PETROL_DIRECTIVES: u8 = 3;
 
 pub fn fuel_of(value: &[u8]) -> Fuel
     ensures { λ r. ⌜ r ≡ fuelIn (now (value .entry)) ⌝ }

@@ -15,7 +15,7 @@ use Rattle.rules.specs.Marks.{isMarked}
 use Rattle.rules.specs.declared.Stated.{Stated}
 use Rattle.sets.specs.Records.{isGiven}
 use Rattle.sets.specs.Judge.{FileRead, notRead, judgeFile}
-use Rattle.judge.specs.Steps.{fileNumbered, nothingKept, FileReady, JudgesFile, textJudged, fileJudged}
+use Rattle.judge.specs.Steps.{fileNumbered, noFigures, FileReady, JudgesFile, textJudged, fileJudged}
 use Rattle.judge.specs.declared.Step.{Step}
 use Rattle.judge.specs.declared.Step.the-variants.{Stop, Go}
 use Rattle.judge.proofs.Numbers.{by-file}
@@ -44,7 +44,7 @@ module _ (file : ℕ) (stated : Stated) (b : Booking) (s t p : List ℕ) (d : Fi
   file-wrong r e q = (chain false (isRead f a (isGiven t)) (right-is r false e q) refl ∙ ap (λ (m : ℕ). refusal 11 m 0) (d .number), refl)
 
   module _ (r : Bool) (e : r ≡ ofNumber true (λ f. sliceRight f stated b (isGiven t)) file) (q : r ≡ true) (u : Bool) (eu : u ≡ ofNumber (isGiven t) (λ f. isRead f b (isGiven t)) file) where
-    pub file-unread : u ≡ false → JudgesFile f (fileJudged file stated s t p) (Go nothingKept) p p
+    pub file-unread : u ≡ false → JudgesFile f (fileJudged file stated s t p) (Go noFigures) p p
     unfolding setPairs isMarked
     file-unread k = (notRead, chain true false (right-is r true e q) (read-is u false eu k), refl, refl)
 

@@ -16,7 +16,7 @@ use Rattle.serial.specs.declared.IdentificationRead.{IdentificationRead}
 use Rattle.serial.specs.declared.IdentificationRead.the-variants.{Malformed, Fields}
 use Rattle.sets.specs.Records.{isGiven}
 use Rattle.sets.specs.Judge.{judgeFields, judgeIdentification}
-use Rattle.judge.specs.Steps.{nothingKept, identificationJudged, JudgesIdentification, identificationRefused}
+use Rattle.judge.specs.Steps.{noFigures, identificationJudged, JudgesIdentification, identificationRefused}
 use Rattle.judge.specs.declared.Step.the-variants.{Go}
 
 module _ (g i p : List ℕ) where
@@ -32,7 +32,7 @@ module _ (g i p : List ℕ) where
   identification-wrong h = chained ∙ ap (λ (x : Bool). chain x (isGiven i) (readIdentification i)) h
 
   module _ (h : identificationRight (isGiven g) (valuesOf gas 0 g p) (isGiven i) ≡ true) where
-    pub identification-none : isGiven i ≡ false → JudgesIdentification (identificationJudged g i p) (Go nothingKept)
+    pub identification-none : isGiven i ≡ false → JudgesIdentification (identificationJudged g i p) (Go noFigures)
     identification-none k = ([], chained ∙ ap₂ (λ (x y : Bool). chain x y (readIdentification i)) h k)
 
     -- with an answer that is due gas is given
@@ -53,5 +53,5 @@ module _ (g i p : List ℕ) where
         pub identification-differs : sameFields (sevenIn i x) (sevenOf (valuesOf gas 0 g p)) ≡ false → JudgesIdentification (identificationJudged g i p) (identificationRefused IdentificationDiffers)
         identification-differs q = read-as (Fields x) e ∙ ap (λ (b : Bool). require b 15 6 0 (acceptance (addressIn i x))) q
 
-        pub identification-same : sameFields (sevenIn i x) (sevenOf (valuesOf gas 0 g p)) ≡ true → JudgesIdentification (identificationJudged g i p) (Go nothingKept)
+        pub identification-same : sameFields (sevenIn i x) (sevenOf (valuesOf gas 0 g p)) ≡ true → JudgesIdentification (identificationJudged g i p) (Go noFigures)
         identification-same q = (addressIn i x, read-as (Fields x) e ∙ ap (λ (b : Bool). require b 15 6 0 (acceptance (addressIn i x))) q)

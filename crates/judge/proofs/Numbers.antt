@@ -4,6 +4,7 @@ use native.Mathlib.Omega.{arith}
 use mathlib.Core.Path.{_≡_, refl, sym}
 use mathlib.Core.List.{[]}
 use Rattle.tables.specs.File.{File, ac2, acc, drift, suspension, gas, allSections, room, ofNumber, tableOf}
+use Rattle.tables.specs.Row.{mostRows}
 use Rattle.tables.proofs.Numbers.{first-pairs}
 use Rattle.due.proofs.Pairs.{of-number}
 use Rattle.judge.specs.Steps.{fileNumbered, IsNumber}
@@ -23,7 +24,7 @@ new-number = of-number ac2 (λ f. f) ac2 1 refl
 
 -- ---- counts
 
-pub few-entries : (f : File) → room f ≤ 64
+pub few-entries : (f : File) → room f ≤ mostRows
 few-entries ac2 = omega (arith, first-pairs)
 few-entries acc = omega (arith, first-pairs)
 few-entries drift = omega (arith, first-pairs)

@@ -27,8 +27,8 @@ use Rattle.sets.specs.declared.SetAnswer.{SetAnswer}
 use Rattle.sets.specs.declared.SetAnswer.the-variants.{Accepted, Refused}
 use Rattle.sets.proofs.File.{FilePassed, Passed, file-sound, booking-file}
 use Rattle.sets.proofs.Set.{each-sound}
-use Rattle.judge.specs.Steps.{fileNumbered, IsNumber, keptOf, keptIn, acceptanceWith, IsBooking, FileReady, JudgesFile, JudgesBooking, Asked, Next, identificationJudged, JudgesIdentification, IdentificationReady, laterFiles, acceptanceIn, JudgesSlices}
-use Rattle.judge.specs.declared.Kept.{Kept}
+use Rattle.judge.specs.Steps.{fileNumbered, IsNumber, figuresOf, figuresIn, acceptanceWith, IsBooking, FileReady, JudgesFile, JudgesBooking, Asked, Next, identificationJudged, JudgesIdentification, IdentificationReady, laterFiles, acceptanceIn, JudgesSlices, JudgesLater}
+use Rattle.judge.specs.declared.Figures.{Figures}
 use Rattle.judge.specs.declared.Booked.{Booked}
 use Rattle.judge.specs.declared.Step.{Step}
 use Rattle.judge.specs.declared.Step.the-variants.{Stop, Go}
@@ -38,13 +38,13 @@ use Rattle.judge.proofs.Text.{booking-kept, new-pairs}
 
 -- ---- after a refused slice and after an accepted one
 
-pub asked-go : (P : Type 0) (b : Step) (k : Kept) → b ≡ Go k → Asked b P → P
+pub asked-go : (P : Type 0) (b : Step) (k : Figures) → b ≡ Go k → Asked b P → P
 asked-go P b k e h = subst (λ (b : Step). Asked b P) e h
 
 pub next-stop : (P : Type 0) (b : Step) (x : Refusal) (p : List ℕ) → b ≡ Stop x → Next b (Stop x) p p P
 next-stop P b x p e = subst (λ (b : Step). Next b (Stop x) p p P) (sym e) (refl, refl)
 
-pub next-go : (P : Type 0) (b : Step) (k : Kept) → b ≡ Go k → (r : Step) (p q : List ℕ) → P → Next b r p q P
+pub next-go : (P : Type 0) (b : Step) (k : Figures) → b ≡ Go k → (r : Step) (p q : List ℕ) → P → Next b r p q P
 next-go P b k e r p q h = subst (λ (b : Step). Next b r p q P) (sym e) h
 
 -- ---- a file that passed
@@ -95,8 +95,8 @@ module _ (stated : Stated) (S : Slices) (p : List ℕ) where
   abbrev pub JudgesNext : File → Step → List ℕ → List ℕ → Type 0
   JudgesNext f r q v = JudgesFile f (judgeFile f stated (newValues text q) (S .file f)) r q v
 
-  abbrev pub KeptAs : File → Step → Type 0
-  KeptAs f r = keptIn r ≡ keptOf f (fileGiven stated S a f)
+  abbrev pub FiguresAs : File → Step → Type 0
+  FiguresAs f r = figuresIn r ≡ figuresOf f (fileGiven stated S a f)
 
   abbrev pub filled : File → List ℕ → List ℕ
   filled f w = setPairs (firstPair f) (fileGiven stated S a f .pairs) w
@@ -105,7 +105,7 @@ module _ (stated : Stated) (S : Slices) (p : List ℕ) where
   at-first h = record { held = h; book = refl; rest = refl; places = refl; size = refl; kept = tt }
 
   module _ (f : File) (l : 2 ≤ fileNumber f) (K : Type 0) (cs : List Slice) (w q : List ℕ) where
-    on-file : Going K (fileSlice f ∷ cs) w q → Beyond q → (r : Step) (v : List ℕ) → JudgesNext f r q v → After (K × KeptAs f r) cs r (filled f w) v
+    on-file : Going K (fileSlice f ∷ cs) w q → Beyond q → (r : Step) (v : List ℕ) → JudgesNext f r q v → After (K × FiguresAs f r) cs r (filled f w) v
     on-file h k (Stop e) v j =
         let s : judgeFile f stated a (S .file f) ≡ refusalOf e = ap (λ (b : List (List ℕ)). judgeFile f stated b (S .file f)) (sym (h .book)) ∙ j .0 in
         (h .rest ∙ ap (λ (y : Answer FileRead). followed y (λ g. eachAccepted stated S a cs x)) s, j .1 ∙ k)
@@ -121,17 +121,17 @@ module _ (stated : Stated) (S : Slices) (p : List ℕ) where
             rest = h .rest ∙ ap (λ (y : Answer FileRead). followed y (λ g. eachAccepted stated S a cs x)) s;
             places = j .3 ∙ ap (λ (u : List ℕ). setPairs (firstPair f) (g .pairs) u) (h .places) ∙ ap (λ (z : FileRead). setPairs (firstPair f) (z .pairs) w) e;
             size = ap length (j .3) ∙ set-length (firstPair f) (g .pairs) q ∙ h .size;
-            kept = (h .kept, j .2 ∙ ap (keptOf f) e);
+            kept = (h .kept, j .2 ∙ ap (figuresOf f) e);
           },
           ap (drop leastPlaces) (j .3) ∙ drop-pairs leastPlaces (firstPair f) (g .pairs) q fit ∙ k,
         )
 
-    pub next-file : (before : Step) → After K (fileSlice f ∷ cs) before w q → (r : Step) (v : List ℕ) → Next before r q v (JudgesNext f r q v) → After (K × KeptAs f r) cs r (filled f w) v
+    pub next-file : (before : Step) → After K (fileSlice f ∷ cs) before w q → (r : Step) (v : List ℕ) → Next before r q v (JudgesNext f r q v) → After (K × FiguresAs f r) cs r (filled f w) v
     next-file (Stop e) h r v n =
-        subst (λ (y : Step). After (K × KeptAs f y) cs y (filled f w) v) (sym (n .0)) (h .0, ap (drop leastPlaces) (n .1) ∙ h .1)
+        subst (λ (y : Step). After (K × FiguresAs f y) cs y (filled f w) v) (sym (n .0)) (h .0, ap (drop leastPlaces) (n .1) ∙ h .1)
     next-file (Go y) h r v n = on-file (h .0) (h .1) r v n
 
-  pub first-file : (f : File) → 2 ≤ fileNumber f → (K : Type 0) (cs : List Slice) (w : List ℕ) → Going K (fileSlice f ∷ cs) w p → (r : Step) (v : List ℕ) → JudgesNext f r p v → After (K × KeptAs f r) cs r (filled f w) v
+  pub first-file : (f : File) → 2 ≤ fileNumber f → (K : Type 0) (cs : List Slice) (w : List ℕ) → Going K (fileSlice f ∷ cs) w p → (r : Step) (v : List ℕ) → JudgesNext f r p v → After (K × FiguresAs f r) cs r (filled f w) v
   first-file f l K cs w h r v j = on-file f l K cs w p h refl r v j
 
   -- what the next file asks
@@ -216,17 +216,17 @@ module _ (stated : Stated) (S : Slices) (p : List ℕ) where
   pub later-refused : (K : Type 0) (r : Step) (w q : List ℕ) → After K [] r w q → (e : Refusal) → r ≡ Stop e → JudgesSlices laterFiles whole (Refused e) p q
   later-refused K r w q h e s = subst (λ (y : Step). After K [] y w q) s h
 
-  pub later-size : (K : Type 0) (r : Step) (w q : List ℕ) → After K [] r w q → (y : Kept) → r ≡ Go y → length q ≡ length p
+  pub later-size : (K : Type 0) (r : Step) (w q : List ℕ) → After K [] r w q → (y : Figures) → r ≡ Go y → length q ≡ length p
   later-size K r w q h y s = subst (λ (y : Step). After K [] y w q) s h .0 .size
 
   module _ (o d u g : Step) where
-    abbrev pub AllKept : Type 0
-    AllKept = (((Unit {0} × KeptAs acc o) × KeptAs drift d) × KeptAs suspension u) × KeptAs gas g
+    abbrev pub AllFigures : Type 0
+    AllFigures = (((Unit {0} × FiguresAs acc o) × FiguresAs drift d) × FiguresAs suspension u) × FiguresAs gas g
 
-    pub later-accepted : (r : Step) (q : List ℕ) → After AllKept [] r (filled gas (filled suspension (filled drift (filled acc p)))) q → (y : Kept) → r ≡ Go y
-        → JudgesSlices laterFiles whole (Accepted (acceptanceWith (keptIn d) (keptIn u) (keptIn g))) p q
+    pub later-accepted : (r : Step) (q : List ℕ) → After AllFigures [] r (filled gas (filled suspension (filled drift (filled acc p)))) q → (y : Figures) → r ≡ Go y
+        → JudgesSlices laterFiles whole (Accepted (acceptanceWith (figuresIn d) (figuresIn u) (figuresIn g))) p q
     later-accepted r q h y s =
-        let k = subst (λ (z : Step). After AllKept [] z (filled gas (filled suspension (filled drift (filled acc p)))) q) s h .0 in
+        let k = subst (λ (z : Step). After AllFigures [] z (filled gas (filled suspension (filled drift (filled acc p)))) q) s h .0 in
         (x, k .rest, rw (k .kept .0 .0 .1, k .kept .0 .1, k .kept .1) refl, k .places)
 
 -- ---- AC2, and all slices
@@ -270,8 +270,7 @@ module _ (stated : Stated) (S : Slices) (p q : List ℕ) (l : leastPlaces ≤ le
         ap (λ (y : Answer FileRead). followed y (λ b. eachAccepted stated S (b .values) laterSlices (setRead stated S (b .values)))) (h .1)
         ∙ ap (λ (v : List (List ℕ)). eachAccepted stated S v laterSlices (setRead stated S v)) (sym values)
 
-    pub slices-judged : (z : SetAnswer) (v : List ℕ)
-        → JudgesSlices laterFiles (eachAccepted stated S (newValues (S .file ac2) q) laterSlices (setRead stated S (newValues (S .file ac2) q))) z q v → JudgesSlices files (judgeSlices stated S) z p v
+    pub slices-judged : (z : SetAnswer) (v : List ℕ) → JudgesLater stated S q v z → JudgesSlices files (judgeSlices stated S) z p v
     slices-judged (Refused e) v k = (whole-is ∙ k .0, k .1 ∙ ap (drop leastPlaces) (h .4) ∙ drop-pairs leastPlaces (firstPair ac2) (b .pairs) p fit)
     slices-judged (Accepted y) v k =
         let a : List (List ℕ) = newValues (S .file ac2) q in

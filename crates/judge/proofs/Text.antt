@@ -11,6 +11,7 @@ use Rattle.places.specs.Places.{Pair, placeSize, setPairs, pairsAt, valueAt, Wi
 use Rattle.places.proofs.Laws.{set-length, pairs-before, drop-pairs}
 use Rattle.tables.specs.Section.{Section}
 use Rattle.tables.specs.File.{File, ac2, acc, drift, suspension, gas, fileNumber, hasAxles, fixedSections, allSections, leastSections, entries, room, firstPair, leastPlaces}
+use Rattle.tables.specs.Row.{mostRows}
 use Rattle.tables.proofs.Numbers.{first-pairs}
 use Rattle.reading.specs.Reading.{read}
 use Rattle.reading.proofs.Tables.{tables-distinct}
@@ -28,8 +29,8 @@ use Rattle.due.specs.declared.Booking.{Booking}
 use Rattle.due.specs.Values.{pairsOf, newValues, Held}
 use Rattle.due.proofs.Pairs.{new-count}
 use Rattle.sets.specs.Judge.{fileRead, fileChecks, firstFailed, checkedFile, judgeReading, judgeText}
-use Rattle.judge.specs.Steps.{fileNumbered, IsNumber, keptOf, IsBooking, FileReady, ValuesReady, valuesStep, JudgesValues, JudgesFile, textJudged, JudgesBooking}
-use Rattle.judge.specs.declared.Kept.{Kept}
+use Rattle.judge.specs.Steps.{fileNumbered, IsNumber, figuresOf, IsBooking, FileReady, ValuesReady, valuesStep, JudgesValues, JudgesFile, textJudged, JudgesBooking}
+use Rattle.judge.specs.declared.Figures.{Figures}
 use Rattle.judge.specs.declared.Step.{Step}
 use Rattle.judge.specs.declared.Step.the-variants.{Stop, Go}
 use Rattle.judge.specs.declared.BookingStep.the-variants as B
@@ -97,7 +98,7 @@ module _ (file : ℕ) (number : IsNumber file) (t p q ls : List ℕ) (r : TextAn
     still = omega (arith, ap length set, set-length (firstPair f) ps p, enough)
 
     -- s for AC2's text
-    pub text-ready : (b : Booking) (s : List ℕ) → Held ac2 0 s q → IsBooking b s q → 64 ≤ length ls → ValuesReady file c b s t q ls
+    pub text-ready : (b : Booking) (s : List ℕ) → Held ac2 0 s q → IsBooking b s q → mostRows ≤ length ls → ValuesReady file c b s t q ls
     text-ready b s h eb l =
         let i = sound (allSections f) (leastSections f) t (tables-distinct f) c ps _ (T.by-inv (allSections f) (leastSections f) t c ps _ was-read .1) .is in
         record {
@@ -123,10 +124,10 @@ module _ (file : ℕ) (number : IsNumber file) (t p q ls : List ℕ) (r : TextAn
       stopped : (y : Refusal) → JudgesValues f c s t q ls (Stop y) → JudgesFile f (judgeText f booking t) (Stop y) p q
       stopped y j = (step booking s eb ∙ j, ap (drop leastPlaces) set ∙ drop-pairs leastPlaces (firstPair f) ps p fit)
 
-      went : (y : Kept) → JudgesValues f c s t q ls (Go y) → (judgeText f booking t ≡ acceptance (fileRead f t c ps)) × (y ≡ keptOf f (fileRead f t c ps))
+      went : (y : Figures) → JudgesValues f c s t q ls (Go y) → (judgeText f booking t ≡ acceptance (fileRead f t c ps)) × (y ≡ figuresOf f (fileRead f t c ps))
       went y j = (
         step booking s eb ∙ j .0 ∙ ap (λ (z : List Pair). acceptance (fileRead f t c z)) own,
-        j .1 ∙ ap (λ (z : List Pair). keptOf f (fileRead f t c z)) own,
+        j .1 ∙ ap (λ (z : List Pair). figuresOf f (fileRead f t c z)) own,
       )
 
     -- ---- a file after AC2, whose text is s
@@ -135,7 +136,7 @@ module _ (file : ℕ) (number : IsNumber file) (t p q ls : List ℕ) (r : TextAn
       same : pairsOf ac2 0 q ≡ pairsOf ac2 0 p
       same = ap (pairsOf ac2 0) set ∙ booking-kept f (omega (arith, number, d .later)) ps p
 
-      pub later-ready : 64 ≤ length ls → ValuesReady file c b s t q ls
+      pub later-ready : mostRows ≤ length ls → ValuesReady file c b s t q ls
       later-ready l = text-ready b s (still, subst (Within s) (sym same) (d .held .1)) (d .booking ∙ ap (λ (y : List Pair). bookingIn (map (valueAt s) y)) (sym same)) l
 
       pub later-judged : (y : Step) → JudgesValues f c s t q ls y → JudgesFile f (textJudged file s t p) y p q
@@ -163,7 +164,7 @@ module _ (t p q ls : List ℕ) (r : TextAnswer) (w : ReadsText 1 t r p q ls) whe
     pub booking-held : Held ac2 0 t q
     booking-held = (still 1 number t p q ls r w enough c e, subst (Within t) (sym now-own) (x 1 number t p q ls r w enough c e .within))
 
-    pub values-ready : (b : Booking) → IsBooking b t q → 64 ≤ length ls → ValuesReady 1 c b t t q ls
+    pub values-ready : (b : Booking) → IsBooking b t q → mostRows ≤ length ls → ValuesReady 1 c b t t q ls
     values-ready b eb l = text-ready 1 number t p q ls r w enough c e b t booking-held eb l
 
     booking-values : map (valueAt t) pairs ≡ newValues t q
@@ -173,11 +174,11 @@ module _ (t p q ls : List ℕ) (r : TextAnswer) (w : ReadsText 1 t r p q ls) whe
     booking-stopped y j =
         subst (λ (f : File). JudgesFile f (judgeText f (λ own. own) t) (Stop y) p q) new-number (stopped 1 number t p q ls r w enough c e (λ own. own) t booking-values y j)
 
-    pub booking-went : (b : Booking) → IsBooking b t q → (y : Kept) → JudgesValues (fileNumbered 1) c t t q ls (Go y)
-        → JudgesBooking (judgeText ac2 (λ own. own) t) (B.Go (record { booking = b; kept = y })) p q
+    pub booking-went : (b : Booking) → IsBooking b t q → (y : Figures) → JudgesValues (fileNumbered 1) c t t q ls (Go y)
+        → JudgesBooking (judgeText ac2 (λ own. own) t) (B.Go (record { booking = b; figures = y })) p q
     booking-went b eb y j =
-        let h : (judgeText ac2 (λ own. own) t ≡ acceptance (fileRead ac2 t c pairs)) × (y ≡ keptOf ac2 (fileRead ac2 t c pairs))
-        = subst (λ (f : File). (judgeText f (λ own. own) t ≡ acceptance (fileRead f t c pairs)) × (y ≡ keptOf f (fileRead f t c pairs))) new-number
+        let h : (judgeText ac2 (λ own. own) t ≡ acceptance (fileRead ac2 t c pairs)) × (y ≡ figuresOf ac2 (fileRead ac2 t c pairs))
+        = subst (λ (f : File). (judgeText f (λ own. own) t ≡ acceptance (fileRead f t c pairs)) × (y ≡ figuresOf f (fileRead f t c pairs))) new-number
         (went 1 number t p q ls r w enough c e (λ own. own) t booking-values y j) in (
           fileRead ac2 t c pairs,
           h .0,

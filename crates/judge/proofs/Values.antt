@@ -14,7 +14,7 @@ use Rattle.places.specs.Places.{Pair, placeSize, pairsAt}
 use Rattle.places.proofs.Laws.{values-length}
 use Rattle.tables.specs.Section.{Section, entriesOf}
 use Rattle.tables.specs.Row.{rowsBefore}
-use Rattle.tables.specs.File.{File, ac2, acc, drift, suspension, gas, fileNumber, fixedSections, allSections, entries, room, firstPair, ofNumber, tableOf}
+use Rattle.tables.specs.File.{File, mostAxles, ac2, acc, drift, suspension, gas, fileNumber, fixedSections, allSections, entries, room, firstPair, ofNumber, tableOf}
 use Rattle.tables.proofs.Axles.{entries-most}
 use Rattle.reading.proofs.Sections.{rows-entries}
 use Rattle.files.specs.Files.{axlesOf}
@@ -34,8 +34,8 @@ use Rattle.rules.specs.declared.RuleCheck.{RuleCheck}
 use Rattle.rules.specs.declared.RuleCheck.the-variants.{Kept, Broken}
 use Rattle.due.proofs.Pairs.{held-number, fixed-held}
 use Rattle.sets.specs.Judge.{checkRule, checkedFile, firstFailed}
-use Rattle.judge.specs.Steps.{fileNumbered, IsNumber, keptFrom, ValuesReady, readAt, valuesStep, JudgesValues}
-use Rattle.judge.specs.declared.Kept as K
+use Rattle.judge.specs.Steps.{fileNumbered, IsNumber, figuresFrom, ValuesReady, readAt, valuesStep, JudgesValues}
+use Rattle.judge.specs.declared.Figures as K
 use Rattle.judge.specs.declared.Step.the-variants.{Stop, Go}
 use Rattle.judge.proofs.Numbers.{by-file, table, few-entries}
 
@@ -92,10 +92,10 @@ module _ (file c : ℕ) (b : Booking) (s t p ls : List ℕ) (w : ValuesReady fil
   number-held m e =
       (w .own .0, rw (by-file file (w .number) 0 firstPair, by-file file (w .number) 0 (λ f. length (entries f m)), e) (w .own .1))
 
-  pub kept-ready : (m : ℕ) → m ≡ n → IsNumber file × (m ≤ 9) × NumberHeld file m t p
-  kept-ready m e = (w .number, omega (arith, e, w .few), number-held m e)
+  pub figures-ready : (m : ℕ) → m ≡ n → IsNumber file × (m ≤ mostAxles) × NumberHeld file m t p
+  figures-ready m e = (w .number, omega (arith, e, w .few), number-held m e)
 
-  pub broken-ready : (m : ℕ) → m ≡ n → (m ≤ 9) × Held ac2 0 s p × (b ≡ bookingIn (newValues s p)) × NumberHeld file m t p
+  pub broken-ready : (m : ℕ) → m ≡ n → (m ≤ mostAxles) × Held ac2 0 s p × (b ≡ bookingIn (newValues s p)) × NumberHeld file m t p
   broken-ready m e = (omega (arith, e, w .few), w .held, w .booking, number-held m e)
 
   -- ---- 10
@@ -139,5 +139,5 @@ module _ (file c : ℕ) (b : Booking) (s t p ls : List ℕ) (w : ValuesReady fil
       values-broken x q l el =
           judged (Broken x) q ∙ ap₂ (λ (y z : ℕ). refusal (numberOf (x .kind)) y z) (w .number) (sym (el ∙ ap (λ (y : ℕ). getD (take y ls) (x .entry) 0) ec))
 
-      pub values-pass : r ≡ Kept → (y : K.Kept) → y ≡ keptFrom f m (valuesOf f m t p) → JudgesValues f c s t p ls (Go y)
-      values-pass q y ey = (judged Kept q, ey ∙ ap (λ (k : ℕ). keptFrom f k (valuesOf f k t p)) em)
+      pub values-pass : r ≡ Kept → (y : K.Figures) → y ≡ figuresFrom f m (valuesOf f m t p) → JudgesValues f c s t p ls (Go y)
+      values-pass q y ey = (judged Kept q, ey ∙ ap (λ (k : ℕ). figuresFrom f k (valuesOf f k t p)) em)

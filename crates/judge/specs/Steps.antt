@@ -8,7 +8,8 @@ use Rattle.refusals.specs.Answer.{Answer, acceptance, refusalOf}
 use Rattle.refusals.specs.declared.Refusal.{Refusal}
 use Rattle.refusals.specs.declared.RefusalKind.{RefusalKind}
 use Rattle.places.specs.Places.{setPairs}
-use Rattle.tables.specs.File.{File, ac2, acc, drift, suspension, gas, files, fileNumber, sections, allSections, fixedSections, entries, firstPair, leastPlaces, ofNumber}
+use Rattle.tables.specs.File.{File, ac2, acc, drift, suspension, gas, files, fileNumber, mostAxles, sections, allSections, fixedSections, entries, firstPair, leastPlaces, ofNumber}
+use Rattle.tables.specs.Row.{mostRows}
 use Rattle.files.specs.Files.{axlesOf}
 use Rattle.due.specs.Booking.{bookingIn}
 use Rattle.due.specs.declared.Booking.{Booking}
@@ -20,7 +21,7 @@ use Rattle.sets.specs.Judge.{acceptanceOf, FileRead, SetRead, fileRead, checked
 use Rattle.sets.specs.declared.Acceptance.{Acceptance}
 use Rattle.sets.specs.declared.SetAnswer.{SetAnswer}
 use Rattle.sets.specs.declared.SetAnswer.the-variants.{Accepted, Refused}
-use Rattle.judge.specs.declared.Kept.{Kept}
+use Rattle.judge.specs.declared.Figures.{Figures}
 use Rattle.judge.specs.declared.Step.{Step}
 use Rattle.judge.specs.declared.Step.the-variants.{Stop, Go}
 use Rattle.judge.specs.declared.BookingStep.{BookingStep}
@@ -33,25 +34,25 @@ fileNumbered n = ofNumber ac2 (λ f. f) n
 abbrev pub IsNumber : ℕ → Type 0
 IsNumber n = fileNumber (fileNumbered n) ≡ n
 
--- ---- what is kept
+-- ---- what acceptance takes from a file
 
 -- of a file of n axles with these values
-abbrev pub keptFrom : File → ℕ → List (List ℕ) → Kept
-keptFrom f n vs = record { axles = n; mark = isMarked f vs }
+abbrev pub figuresFrom : File → ℕ → List (List ℕ) → Figures
+figuresFrom f n vs = record { axles = n; mark = isMarked f vs }
 
-abbrev pub keptOf : File → FileRead → Kept
-keptOf f g = keptFrom f (g .axles) (g .values)
+abbrev pub figuresOf : File → FileRead → Figures
+figuresOf f g = figuresFrom f (g .axles) (g .values)
 
-abbrev pub nothingKept : Kept
-nothingKept = record { axles = 0; mark = false }
+abbrev pub noFigures : Figures
+noFigures = record { axles = 0; mark = false }
 
 -- by a step; after a refusal nothing
-abbrev pub keptIn : Step → Kept
-keptIn (Stop x) = nothingKept
-keptIn (Go y) = y
+abbrev pub figuresIn : Step → Figures
+figuresIn (Stop x) = noFigures
+figuresIn (Go y) = y
 
--- the acceptance, from what was kept of drift, suspension and gas
-abbrev pub acceptanceWith : Kept → Kept → Kept → Acceptance
+-- the acceptance, from the figures of drift, suspension and gas
+abbrev pub acceptanceWith : Figures → Figures → Figures → Acceptance
 acceptanceWith d u g = record {
   driftaxles = d .axles;
   suspensionaxles = u .axles;
@@ -69,6 +70,7 @@ IsBooking b s p = b ≡ bookingIn (newValues s p)
 -- what judging a file after AC2 asks: AC2's text s
 pub record FileReady (file : ℕ) (b : Booking) (s p : List ℕ) : Type 0 where
   pub number : IsNumber file
+  -- not AC2
   pub later : 2 ≤ file
   pub held : Held ac2 0 s p
   pub booking : IsBooking b s p
@@ -79,10 +81,10 @@ pub record ValuesReady (file c : ℕ) (b : Booking) (s t p ls : List ℕ) : Type
   pub least : length (fixedSections (fileNumbered file)) ≤ c
   pub most : c ≤ length (allSections (fileNumbered file))
   pub sections-are : take c (allSections (fileNumbered file)) ≡ sections (fileNumbered file) (axlesOf (fileNumbered file) c)
-  pub few : axlesOf (fileNumbered file) c ≤ 9
+  pub few : axlesOf (fileNumbered file) c ≤ mostAxles
   pub held : Held ac2 0 s p
   pub own : Held (fileNumbered file) (axlesOf (fileNumbered file) c) t p
-  pub lines : 64 ≤ length ls
+  pub lines : mostRows ≤ length ls
   pub booking : IsBooking b s p
 
 -- what stands at the pairs of a file of c sections
@@ -97,12 +99,12 @@ valuesStep f c s t p ls =
 
 abbrev pub JudgesValues : File → ℕ → List ℕ → List ℕ → List ℕ → List ℕ → Step → Type 0
 JudgesValues f c s t p ls (Stop x) = valuesStep f c s t p ls ≡ refusalOf x
-JudgesValues f c s t p ls (Go y) = (valuesStep f c s t p ls ≡ acceptance (readAt f c t p)) × (y ≡ keptOf f (readAt f c t p))
+JudgesValues f c s t p ls (Go y) = (valuesStep f c s t p ls ≡ acceptance (readAt f c t p)) × (y ≡ figuresOf f (readAt f c t p))
 
 -- a file was judged, by the definition with a; places p before, q after. After a refusal only those past the pairs are promised.
 abbrev pub JudgesFile : File → Answer FileRead → Step → List ℕ → List ℕ → Type 0
 JudgesFile f a (Stop x) p q = (a ≡ refusalOf x) × (drop leastPlaces q ≡ drop leastPlaces p)
-JudgesFile f a (Go y) p q = (g : FileRead) × (a ≡ acceptance g) × (y ≡ keptOf f g) × (q ≡ setPairs (firstPair f) (g .pairs) p)
+JudgesFile f a (Go y) p q = (g : FileRead) × (a ≡ acceptance g) × (y ≡ figuresOf f g) × (q ≡ setPairs (firstPair f) (g .pairs) p)
 
 -- 3 to 9, then the checks, of a file after AC2; and 11 before them
 abbrev pub textJudged : ℕ → List ℕ → List ℕ → List ℕ → Answer FileRead
@@ -111,11 +113,11 @@ textJudged file s t p = judgeText (fileNumbered file) (λ own. newValues s p) t
 abbrev pub fileJudged : ℕ → Stated → List ℕ → List ℕ → List ℕ → Answer FileRead
 fileJudged file stated s t p = judgeFile (fileNumbered file) stated (newValues s p) t
 
--- AC2 was judged: what is kept, and what its values say
+-- AC2 was judged: its figures, and what its values say
 abbrev pub JudgesBooking : Answer FileRead → BookingStep → List ℕ → List ℕ → Type 0
 JudgesBooking a (B.Stop x) p q = (a ≡ refusalOf x) × (drop leastPlaces q ≡ drop leastPlaces p)
 JudgesBooking a (B.Go y) p q =
-    (g : FileRead) × (a ≡ acceptance g) × (y .kept ≡ keptOf ac2 g) × (y .booking ≡ bookingIn (g .values)) × (q ≡ setPairs (firstPair ac2) (g .pairs) p)
+    (g : FileRead) × (a ≡ acceptance g) × (y .figures ≡ figuresOf ac2 g) × (y .booking ≡ bookingIn (g .values)) × (q ≡ setPairs (firstPair ac2) (g .pairs) p)
 
 -- ---- one slice after another
 
@@ -158,3 +160,8 @@ acceptanceIn x = acceptanceOf (λ f. x .file f .axles) (λ f. x .file f .values)
 abbrev pub JudgesSlices : List File → Answer SetRead → SetAnswer → List ℕ → List ℕ → Type 0
 JudgesSlices fs a (Refused x) p q = (a ≡ refusalOf x) × (drop leastPlaces q ≡ drop leastPlaces p)
 JudgesSlices fs a (Accepted y) p q = (x : SetRead) × (a ≡ acceptance x) × (y ≡ acceptanceIn x) × (q ≡ setFiles fs x p)
+
+-- the slices after AC2, whose pairs are in p
+abbrev pub JudgesLater : Stated → Slices → List ℕ → List ℕ → SetAnswer → Type 0
+JudgesLater stated s p q r =
+    JudgesSlices laterFiles (eachAccepted stated s (newValues (s .file ac2) p) laterSlices (setRead stated s (newValues (s .file ac2) p))) r p q

@@ -2,11 +2,12 @@
 ghost use mathlib.Core.Path.{_≡_};
 ghost use Prim.Native.Nat.{_≤_};
 ghost use lib.ListN.{length, getD};
-ghost use Rattle.tables.specs.File.{ac2 as bookingFile, files, leastPlaces};
-ghost use Rattle.due.specs.Values.{valuesOf, newValues, Held, NumberHeld};
+ghost use Rattle.tables.specs.File.{ac2 as bookingFile, files, mostAxles, leastPlaces};
+ghost use Rattle.tables.specs.Row.{mostRows};
+ghost use Rattle.due.specs.Values.{valuesOf, Held, NumberHeld};
 ghost use Rattle.sets.specs.Records.{slicesOf};
-ghost use Rattle.sets.specs.Judge.{judgeText, judgeBooking, judgeSlices, setRead, laterSlices, eachAccepted};
-ghost use Rattle.judge.specs.Steps.{fileNumbered, IsNumber, keptFrom, keptIn, acceptanceWith, IsBooking, FileReady, ValuesReady, JudgesValues, JudgesFile, textJudged, fileJudged, JudgesBooking, Asked, Next, identificationJudged, JudgesIdentification, IdentificationReady, identificationRefused, laterFiles, JudgesSlices};
+ghost use Rattle.sets.specs.Judge.{judgeText, judgeBooking, judgeSlices};
+ghost use Rattle.judge.specs.Steps.{fileNumbered, IsNumber, figuresFrom, figuresIn, acceptanceWith, IsBooking, FileReady, ValuesReady, JudgesValues, JudgesFile, textJudged, fileJudged, JudgesBooking, Asked, Next, identificationJudged, JudgesIdentification, IdentificationReady, identificationRefused, JudgesSlices, JudgesLater};
 ghost use Rattle.judge.specs.Judged.{SetJudged};
 use due::Booking;
 use files::TextAnswer;
@@ -17,26 +18,35 @@ use rules::Stated;
 use serial::IdentificationRead;
 use sets::Acceptance;
 use sets::SetAnswer;
+use tables::AC2;
+use tables::ACC;
+use tables::DRIFT;
+use tables::GAS;
+use tables::MOST_ROWS;
+use tables::SUSPENSION;
 
-// The number of AC2.
-const AC2: u32 = 1;
-
-// What is kept of a file that passed: its axle count, and whether its CodErrore is filled.
-struct Kept {
+// What acceptance takes from a file that passed: its axle count, and whether its CodErrore is filled.
+struct Figures {
     axles: u32,
     mark: bool,
 }
 
+// Of a file that is not read, and of slice 6.
+const NO_FIGURES: Figures = Figures {
+    axles: 0,
+    mark: false,
+};
+
 // A slice that was judged.
 enum Step {
     Stop(Refusal),
-    Go(Kept),
+    Go(Figures),
 }
 
-// AC2 that passed: what its values say, for all slices after it, and what is kept of it.
+// AC2 that passed: what its values say, for all slices after it, and its figures.
 struct Booked {
     booking: Booking,
-    kept: Kept,
+    figures: Figures,
 }
 
 enum BookingStep {
@@ -51,13 +61,13 @@ fn line_of(lines: &[u32], entry: usize) -> u32
     if entry < lines.len() { lines[entry] } else { 0 }
 }
 
-// What is kept of a file whose pairs are in the places.
-fn kept_of(file: u32, axles: usize, text: &[u8], places: &[u32]) -> Kept
-    requires { ⌜ IsNumber file × (axles ≤ 9) × NumberHeld file axles (now text) (now places) ⌝ }
-    ensures { λ r. ⌜ r ≡ keptFrom (fileNumbered file) axles (valuesOf (fileNumbered file) axles (now (text .entry)) (now (places .entry))) ⌝ }
+// The figures of a file whose pairs are in the places.
+fn figures_of(file: u32, axles: usize, text: &[u8], places: &[u32]) -> Figures
+    requires { ⌜ IsNumber file × (axles ≤ mostAxles) × NumberHeld file axles (now text) (now places) ⌝ }
+    ensures { λ r. ⌜ r ≡ figuresFrom (fileNumbered file) axles (valuesOf (fileNumbered file) axles (now (text .entry)) (now (places .entry))) ⌝ }
 {
     let mark = rules::is_marked(file, axles, text, places);
-    Kept {
+    Figures {
         axles: axles as u32,
         mark: mark,
     }
@@ -98,13 +108,13 @@ fn judge_values(
                 line: line_of(&lines[..count], broken),
             })
         }
-        RuleCheck::Kept => Step::Go(kept_of(file, axles, text, places)),
+        RuleCheck::Kept => Step::Go(figures_of(file, axles, text, places)),
     }
 }
 
 // AC2's text: 3 to 9, then the values, by what they say themselves.
 fn judge_booking_text(text: &[u8], places: &mut [u32], lines: &mut [u32]) -> BookingStep
-    requires { ⌜ (leastPlaces ≤ length (now places)) × (64 ≤ length (now lines)) ⌝ }
+    requires { ⌜ (leastPlaces ≤ length (now places)) × (mostRows ≤ length (now lines)) ⌝ }
     ensures { λ r. ⌜ JudgesBooking (judgeText bookingFile (λ own. own) (now (text .entry))) r (now (places .entry)) (now (places .exit)) ⌝ }
 {
     match files::read_text(AC2, text, places, lines) {
@@ -121,9 +131,9 @@ fn judge_booking_text(text: &[u8], places: &mut [u32], lines: &mut [u32]) -> Boo
             let booking = due::booking_of(text, places);
             match judge_values(AC2, sections, booking, text, text, places, lines) {
                 Step::Stop(x) => BookingStep::Stop(x),
-                Step::Go(kept) => BookingStep::Go(Booked {
+                Step::Go(figures) => BookingStep::Go(Booked {
                     booking: booking,
-                    kept: kept,
+                    figures: figures,
                 }),
             }
         }
@@ -142,7 +152,7 @@ fn judge_booking(text: &[u8], places: &mut [u32]) -> BookingStep
             line: 0,
         });
     }
-    let mut lines = [0u32; 64];
+    let mut lines = [0u32; MOST_ROWS];
     judge_booking_text(text, places, &mut lines)
 }
 
@@ -155,7 +165,7 @@ fn judge_text(
     places: &mut [u32],
     lines: &mut [u32],
 ) -> Step
-    requires { ⌜ FileReady file b (now booking) (now places) × (64 ≤ length (now lines)) ⌝ }
+    requires { ⌜ FileReady file b (now booking) (now places) × (mostRows ≤ length (now lines)) ⌝ }
     ensures { λ r. ⌜ JudgesFile (fileNumbered file) (textJudged file (now (booking .entry)) (now (text .entry)) (now (places .entry))) r (now (places .entry)) (now (places .exit)) ⌝ }
 {
     match files::read_text(file, text, places, lines) {
@@ -201,12 +211,9 @@ fn judge_file(
         });
     }
     if !rules::is_read(file, b, given) {
-        return Step::Go(Kept {
-            axles: 0,
-            mark: false,
-        });
+        return Step::Go(NO_FIGURES);
     }
-    let mut lines = [0u32; 64];
+    let mut lines = [0u32; MOST_ROWS];
     judge_text(file, b, booking, text, places, &mut lines)
 }
 
@@ -239,16 +246,13 @@ fn refuse_identification(kind: RefusalKind) -> Step
     })
 }
 
-// Slice 6: 11, 14, 15. Nothing is kept of it.
+// Slice 6: 11, 14, 15. It has no figures.
 fn judge_identification(gas: &[u8], identification: &[u8], places: &[u32]) -> Step
     requires { ⌜ IdentificationReady (now gas) (now places) ⌝ }
     ensures { λ r. ⌜ JudgesIdentification (identificationJudged (now (gas .entry)) (now (identification .entry)) (now (places .entry))) r ⌝ }
 {
     let given = 0 < identification.len();
-    let passed = Step::Go(Kept {
-        axles: 0,
-        mark: false,
-    });
+    let passed = Step::Go(NO_FIGURES);
     if !rules::identification_right(gas, places, given) {
         return refuse_identification(RefusalKind::SliceNotAsDue);
     }
@@ -277,26 +281,23 @@ fn identification_next(before: Step, gas: &[u8], identification: &[u8], places: 
     }
 }
 
-// What a step kept; after a refusal nothing.
-fn kept_in(step: Step) -> Kept
-    ensures { λ r. ⌜ r ≡ keptIn step ⌝ }
+// The figures of a step; after a refusal none.
+fn figures_in(step: Step) -> Figures
+    ensures { λ r. ⌜ r ≡ figuresIn step ⌝ }
 {
     match step {
-        Step::Stop(_x) => Kept {
-            axles: 0,
-            mark: false,
-        },
+        Step::Stop(_x) => NO_FIGURES,
         Step::Go(k) => k,
     }
 }
 
-// The acceptance, from what was kept of the result files.
+// The acceptance, from the figures of the result files.
 fn acceptance_with(drift: Step, suspension: Step, gas: Step) -> Acceptance
-    ensures { λ r. ⌜ r ≡ acceptanceWith (keptIn drift) (keptIn suspension) (keptIn gas) ⌝ }
+    ensures { λ r. ⌜ r ≡ acceptanceWith (figuresIn drift) (figuresIn suspension) (figuresIn gas) ⌝ }
 {
-    let d = kept_in(drift);
-    let u = kept_in(suspension);
-    let g = kept_in(gas);
+    let d = figures_in(drift);
+    let u = figures_in(suspension);
+    let g = figures_in(gas);
     Acceptance {
         driftaxles: d.axles,
         suspensionaxles: u.axles,
@@ -319,12 +320,12 @@ fn judge_later(
     places: &mut [u32],
 ) -> SetAnswer
     requires { ⌜ Held bookingFile 0 (now ac2) (now places) × IsBooking b (now ac2) (now places) ⌝ }
-    ensures { λ r. ⌜ JudgesSlices laterFiles (eachAccepted stated (slicesOf (now (ac2 .entry)) (now (acc .entry)) (now (drift .entry)) (now (suspension .entry)) (now (gas .entry)) (now (identification .entry))) (newValues (now (ac2 .entry)) (now (places .entry))) laterSlices (setRead stated (slicesOf (now (ac2 .entry)) (now (acc .entry)) (now (drift .entry)) (now (suspension .entry)) (now (gas .entry)) (now (identification .entry))) (newValues (now (ac2 .entry)) (now (places .entry))))) r (now (places .entry)) (now (places .exit)) ⌝ }
+    ensures { λ r. ⌜ JudgesLater stated (slicesOf (now (ac2 .entry)) (now (acc .entry)) (now (drift .entry)) (now (suspension .entry)) (now (gas .entry)) (now (identification .entry))) (now (places .entry)) (now (places .exit)) r ⌝ }
 {
-    let o = judge_file(2, stated, b, ac2, acc, places);
-    let d = judge_next(o, 3, stated, b, ac2, drift, places);
-    let u = judge_next(d, 4, stated, b, ac2, suspension, places);
-    let g = judge_next(u, 5, stated, b, ac2, gas, places);
+    let o = judge_file(ACC, stated, b, ac2, acc, places);
+    let d = judge_next(o, DRIFT, stated, b, ac2, drift, places);
+    let u = judge_next(d, SUSPENSION, stated, b, ac2, suspension, places);
+    let g = judge_next(u, GAS, stated, b, ac2, gas, places);
     let last = identification_next(g, gas, identification, places);
     match last {
         Step::Stop(x) => SetAnswer::Refused(x),

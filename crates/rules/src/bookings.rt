@@ -191,7 +191,7 @@ fn year_fits(date: &[u8], old: &[u8]) -> bool
 fn directive_of(value: &[u8]) -> Directive
     ensures { λ r. ⌜ r ≡ directiveOf (now (value .entry)) ⌝ }
 {
-    match kinds::word_index(due::PETROL_DIRECTIVES, value) {
+    match kinds::word_index(kinds::numbers::PETROL_DIRECTIVES, value) {
         0 => Directive::Nessuna,
         1 => Directive::Rt1902,
         2 => Directive::Catalyst,

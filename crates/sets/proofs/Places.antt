@@ -4,7 +4,7 @@ use native.Mathlib.Omega.{arith}
 use mathlib.Core.Path.{_≡_, refl, ap, ap₂, sym, _∙_}
 use mathlib.Core.List.{List, [], _∷_}
 use lib.ListN.{length, getD, drop}
-use Rattle.places.specs.Places.{Pair, startOf, lengthOf, setPairs, pairsAt, cleared, Within}
+use Rattle.places.specs.Places.{Pair, placeSize, startOf, lengthOf, setPairs, pairsAt, cleared, Within}
 use Rattle.places.proofs.Laws.{set-length, numbers-before, numbers-after, pairs-set, drop-pairs, cleared-length, cleared-drop, cleared-zero}
 use Rattle.tables.specs.File.{File, ac2, acc, drift, suspension, gas, files, room, firstPair, leastPlaces}
 use Rattle.tables.proofs.Numbers.{first-pairs, room-in}
@@ -22,12 +22,12 @@ pairs-get p k (suc n) zero h = let z : k + 0 ≡ k = omega arith in rw z refl
 pairs-get p k (suc n) (suc i) h = let z : k + suc i ≡ k + 1 + i = omega arith in rw z (pairs-get p (k + 1) n i (omega arith))
 
 pair-before : (k : ℕ) (ps : List Pair) (p : List ℕ) (j : ℕ) → j < k → pairAt (setPairs k ps p) j ≡ pairAt p j
-pair-before k ps p j h = ap₂ (λ (a b : ℕ). (a, b)) (numbers-before k ps p (2 * j) (omega arith)) (numbers-before k ps p (2 * j + 1) (omega arith))
+pair-before k ps p j h = ap₂ (λ (a b : ℕ). (a, b)) (numbers-before k ps p (placeSize * j) (omega arith)) (numbers-before k ps p (placeSize * j + 1) (omega arith))
 
 pair-after : (k : ℕ) (ps : List Pair) (p : List ℕ) (j : ℕ) → k + length ps ≤ j → pairAt (setPairs k ps p) j ≡ pairAt p j
-pair-after k ps p j h = ap₂ (λ (a b : ℕ). (a, b)) (numbers-after k ps p (2 * j) (omega arith)) (numbers-after k ps p (2 * j + 1) (omega arith))
+pair-after k ps p j h = ap₂ (λ (a b : ℕ). (a, b)) (numbers-after k ps p (placeSize * j) (omega arith)) (numbers-after k ps p (placeSize * j + 1) (omega arith))
 
-pair-set : (k : ℕ) (ps : List Pair) (p : List ℕ) (i : ℕ) → 2 * (k + length ps) ≤ length p → i < length ps → pairAt (setPairs k ps p) (k + i) ≡ getD ps i (0, 0)
+pair-set : (k : ℕ) (ps : List Pair) (p : List ℕ) (i : ℕ) → placeSize * (k + length ps) ≤ length p → i < length ps → pairAt (setPairs k ps p) (k + i) ≡ getD ps i (0, 0)
 pair-set k ps p i l h = sym (pairs-get (setPairs k ps p) k (length ps) i h) ∙ ap (λ (qs : List Pair). getD qs i (0, 0)) (pairs-set k ps p l)
 
 pub within-get : (t : List ℕ) (ps : List Pair) (i : ℕ) → Within t ps → i < length ps → getD ps i (0, 0) .0 + getD ps i (0, 0) .1 ≤ length t
@@ -73,7 +73,7 @@ starts-after : (k : ℕ) (fs : List File) → Chained k fs → (f : File) → Am
 starts-after k (_ ∷ fs) c f here = omega (arith, c)
 starts-after k (g ∷ fs) c f (there m) = omega (arith, starts-after (k + room g) fs (c .1) f m)
 
-room-least : (f : File) → 2 * (firstPair f + room f) ≤ leastPlaces
+room-least : (f : File) → placeSize * (firstPair f + room f) ≤ leastPlaces
 unfolding leastPlaces
 room-least f = omega (arith, room-in f)
 
@@ -125,8 +125,8 @@ module _ (x : SetRead) (fit : (f : File) → length (x .file f .pairs) ≤ room 
     unused-pair f i h r =
         files-unset 0 files chained f (among f) (cleared leastPlaces p) i h r
         ∙ ap₂ (λ (a b : ℕ). (a, b))
-        (cleared-zero leastPlaces p (2 * (firstPair f + i)) (omega (arith, room-least f)))
-        (cleared-zero leastPlaces p (2 * (firstPair f + i) + 1) (omega (arith, room-least f)))
+        (cleared-zero leastPlaces p (placeSize * (firstPair f + i)) (omega (arith, room-least f)))
+        (cleared-zero leastPlaces p (placeSize * (firstPair f + i) + 1) (omega (arith, room-least f)))
 
     pub places-beyond : drop leastPlaces filled ≡ drop leastPlaces p
     places-beyond = files-drop files (cleared leastPlaces p) ∙ cleared-drop leastPlaces p

@@ -49,7 +49,7 @@ indexOf s xs = wordIndex xs s
 abbrev pub sectionOf : List Section → List ℕ → ℕ
 sectionOf t h = indexOf h (headings t)
 
--- the one section that a heading can be: the digit before its last byte, which is an axle's number, else the first
+-- the one section that a heading can be: that of the digit before its last byte (an axle's number; in gas the fuel's), else the first
 abbrev pub sectionDigit : ℕ → ℕ
 sectionDigit b = cond (leb 49 b && leb b 57) (b - 48) 0
 

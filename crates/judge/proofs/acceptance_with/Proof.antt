@@ -4,17 +4,17 @@ use mathlib.Core.Path.{refl}
 use Rattle.judge.proofs.acceptance_with.Statement.{statement}
 use Rattle.judge.proofs.acceptance_with.Tie as tie
 
-kept-in-requires : tie.Need-kept-in-requires
-kept-in-requires c κs = search needs
+figures-in-requires : tie.Need-figures-in-requires
+figures-in-requires c κs = search needs
 
-kept-in-requires-2 : tie.Need-kept-in-requires-2
-kept-in-requires-2 c κs = search needs
+figures-in-requires-2 : tie.Need-figures-in-requires-2
+figures-in-requires-2 c κs = search needs
 
-kept-in-requires-3 : tie.Need-kept-in-requires-3
-kept-in-requires-3 c κs = search needs
+figures-in-requires-3 : tie.Need-figures-in-requires-3
+figures-in-requires-3 c κs = search needs
 
 returns : tie.Need-returns
-returns c = rw (c .before .before .kept-in .ensures, c .before .kept-in2 .ensures, c .kept-in3 .ensures) refl
+returns c = rw (c .before .before .figures-in .ensures, c .before .figures-in2 .ensures, c .figures-in3 .ensures) refl
 
 pub acceptance-with-spec : {M : Type 1} → statement M
-acceptance-with-spec = tie.close (tie.spec kept-in-requires kept-in-requires-2 kept-in-requires-3 returns)
+acceptance-with-spec = tie.close (tie.spec figures-in-requires figures-in-requires-2 figures-in-requires-3 returns)

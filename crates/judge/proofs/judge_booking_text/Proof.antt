@@ -32,8 +32,8 @@ judge-values-requires c κs =
 enum-known-x-2 : tie.Need-enum-known-x-2
 enum-known-x-2 c = search needs
 
-enum-known-kept : tie.Need-enum-known-kept
-enum-known-kept c = search needs
+enum-known-figures : tie.Need-enum-known-figures
+enum-known-figures c = search needs
 
 same-length : tie.Need-same-length
 same-length c = search needs
@@ -73,8 +73,8 @@ returns-3 c =
     let r = c .before .before .before .before .before .before .before .before .before .before .before .before .before .before .before in
     let v = c .before .before .before in
     booking-went (now (x .args .text)) (now (x .args .places)) (r .read-text .last .1 .1 .0) (r .read-text .last .1 .1 .1 .0) (r .read-text .result) (r .read-text .ensures) (x .pre .0) _ (c .before .before .before .before .before .before .before .before .before .sections .given .1) _
-    (c .before .before .before .before .before .before .booking-of .ensures) (c .before .kept .given .0 .0)
-    (subst (λ (y : Step). JudgesValues (fileNumbered 1) (c .before .before .before .before .before .before .before .before .before .sections .given .0 .0) (now (x .args .text)) (now (x .args .text)) (r .read-text .last .1 .1 .0) (r .read-text .last .1 .1 .1 .0) y) (c .before .kept .given .1) (v .judge-values .ensures))
+    (c .before .before .before .before .before .before .booking-of .ensures) (c .before .figures .given .0 .0)
+    (subst (λ (y : Step). JudgesValues (fileNumbered 1) (c .before .before .before .before .before .before .before .before .before .sections .given .0 .0) (now (x .args .text)) (now (x .args .text)) (r .read-text .last .1 .1 .0) (r .read-text .last .1 .1 .1 .0) y) (c .before .figures .given .1) (v .judge-values .ensures))
 
 pub judge-booking-text-spec : {M : Type 1} → statement M
 judge-booking-text-spec =
@@ -86,7 +86,7 @@ judge-booking-text-spec =
     booking-of-requires
     judge-values-requires
     enum-known-x-2
-    enum-known-kept
+    enum-known-figures
     same-length
     same-length-2
     returns

@@ -8,7 +8,7 @@ use denote.Ref.{now}
 use Rattle.tables.specs.File.{acc, drift, suspension, gas, ofNumber}
 use Rattle.sets.specs.Records.{Slices, slicesOf}
 use Rattle.sets.specs.Judge.{Slice, fileSlice, identificationSlice}
-use Rattle.judge.proofs.Slices.{After, KeptAs, filled, at-first, first-file, next-file, going-ready, next-ready, IdentificationKnown, identification-known, identification-ready, next-identification, later-refused, later-size, later-accepted}
+use Rattle.judge.proofs.Slices.{After, FiguresAs, filled, at-first, first-file, next-file, going-ready, next-ready, IdentificationKnown, identification-known, identification-ready, next-identification, later-refused, later-size, later-accepted}
 use Rattle.judge.specs.Steps.{Asked}
 use Rattle.judge.proofs.judge_later.Statement.{statement}
 use Rattle.judge.proofs.judge_later.Tie as tie
@@ -48,16 +48,16 @@ places4 c = c .judge-next3 .last .1 .1 .1 .1 .1 .1 .0
 -- what is known of what was kept
 
 abbrev kept1 : tie.After-judge-file → Type 0
-kept1 c = let x = start1 c in Unit {0} × KeptAs (x .args .stated) (slices x) (lent x) acc (c .judge-file .result)
+kept1 c = let x = start1 c in Unit {0} × FiguresAs (x .args .stated) (slices x) (lent x) acc (c .judge-file .result)
 
 abbrev kept2 : tie.After-judge-next → Type 0
-kept2 c = let x = start2 c in kept1 (c .before .before .before .before) × KeptAs (x .args .stated) (slices x) (lent x) drift (c .judge-next .result)
+kept2 c = let x = start2 c in kept1 (c .before .before .before .before) × FiguresAs (x .args .stated) (slices x) (lent x) drift (c .judge-next .result)
 
 abbrev kept3 : tie.After-judge-next2 → Type 0
-kept3 c = let x = start3 c in kept2 (c .before .before .before .before) × KeptAs (x .args .stated) (slices x) (lent x) suspension (c .judge-next2 .result)
+kept3 c = let x = start3 c in kept2 (c .before .before .before .before) × FiguresAs (x .args .stated) (slices x) (lent x) suspension (c .judge-next2 .result)
 
 abbrev kept4 : tie.After-judge-next3 → Type 0
-kept4 c = let x = start4 c in kept3 (c .before .before .before .before) × KeptAs (x .args .stated) (slices x) (lent x) gas (c .judge-next3 .result)
+kept4 c = let x = start4 c in kept3 (c .before .before .before .before) × FiguresAs (x .args .stated) (slices x) (lent x) gas (c .judge-next3 .result)
 
 -- the slices left after each
 

@@ -4,7 +4,7 @@ use native.Mathlib.Omega.{arith}
 use mathlib.Core.Path.{sym}
 use lib.Seq.{length-take-le}
 use denote.Ref.{now}
-use Rattle.judge.proofs.Values.{conditions-ready, rows-enough, count-is, count-fits, pairs-ready, fixed-few, axles-are, kept-ready, broken-ready, due-is, values-due, values-broken, values-pass}
+use Rattle.judge.proofs.Values.{conditions-ready, rows-enough, count-is, count-fits, pairs-ready, fixed-few, axles-are, figures-ready, broken-ready, due-is, values-due, values-broken, values-pass}
 use Rattle.judge.proofs.judge_values.Statement.{statement}
 use Rattle.judge.proofs.judge_values.Tie as tie
 
@@ -69,10 +69,10 @@ line-of-requires-2 c κs = search needs
 enum-told : tie.Need-enum-told
 enum-told c = search needs
 
-kept-of-requires : tie.Need-kept-of-requires
-kept-of-requires c κs =
+figures-of-requires : tie.Need-figures-of-requires
+figures-of-requires c κs =
     let x = c .before .before .before .before .before .before .before .before .before .before .before .before .before in
-    kept-ready (x .args .file) (x .args .sections) (x .args .b) (now (x .args .booking)) (now (x .args .text)) (now (x .args .places)) (now (x .args .lines)) (x .pre) _ (axles-are (x .args .file) (x .args .sections) (x .args .b) (now (x .args .booking)) (now (x .args .text)) (now (x .args .places)) (now (x .args .lines)) (x .pre) _ (c .before .before .before .fixed-section-count .ensures))
+    figures-ready (x .args .file) (x .args .sections) (x .args .b) (now (x .args .booking)) (now (x .args .text)) (now (x .args .places)) (now (x .args .lines)) (x .pre) _ (axles-are (x .args .file) (x .args .sections) (x .args .b) (now (x .args .booking)) (now (x .args .text)) (now (x .args .places)) (now (x .args .lines)) (x .pre) _ (c .before .before .before .fixed-section-count .ensures))
 
 returns-2 : tie.Need-returns-2
 returns-2 c =
@@ -82,7 +82,7 @@ returns-2 c =
 returns-3 : tie.Need-returns-3
 returns-3 c =
     let x = c .before .before .before .before .before .before .before .before .before .before .before .before .before .before in
-    values-pass (x .args .file) (x .args .sections) (x .args .b) (now (x .args .booking)) (now (x .args .text)) (now (x .args .places)) (now (x .args .lines)) (x .pre) _ (count-is (x .args .file) (x .args .sections) (x .args .b) (now (x .args .booking)) (now (x .args .text)) (now (x .args .places)) (now (x .args .lines)) (x .pre) _ (c .before .before .before .before .before .before .before .before .rows-before .ensures)) _ (due-is (x .args .file) (x .args .sections) (x .args .b) (now (x .args .booking)) (now (x .args .text)) (now (x .args .places)) (now (x .args .lines)) (x .pre) _ (c .before .before .before .before .before .before .before .before .before .conditions-of .ensures) _ (c .before .before .before .before .before .before .before .first-pair .ensures) _ (count-is (x .args .file) (x .args .sections) (x .args .b) (now (x .args .booking)) (now (x .args .text)) (now (x .args .places)) (now (x .args .lines)) (x .pre) _ (c .before .before .before .before .before .before .before .before .rows-before .ensures)) _ (c .before .before .before .before .before .before .first-not-as-due .ensures)) (c .before .before .before .before .before .if1 .left) _ (axles-are (x .args .file) (x .args .sections) (x .args .b) (now (x .args .booking)) (now (x .args .text)) (now (x .args .places)) (now (x .args .lines)) (x .pre) _ (c .before .before .before .before .fixed-section-count .ensures)) (c .before .before .before .first-broken .result) (c .before .before .before .first-broken .ensures) (c .before .enum-told .given .1) _ (c .kept-of .ensures)
+    values-pass (x .args .file) (x .args .sections) (x .args .b) (now (x .args .booking)) (now (x .args .text)) (now (x .args .places)) (now (x .args .lines)) (x .pre) _ (count-is (x .args .file) (x .args .sections) (x .args .b) (now (x .args .booking)) (now (x .args .text)) (now (x .args .places)) (now (x .args .lines)) (x .pre) _ (c .before .before .before .before .before .before .before .before .rows-before .ensures)) _ (due-is (x .args .file) (x .args .sections) (x .args .b) (now (x .args .booking)) (now (x .args .text)) (now (x .args .places)) (now (x .args .lines)) (x .pre) _ (c .before .before .before .before .before .before .before .before .before .conditions-of .ensures) _ (c .before .before .before .before .before .before .before .first-pair .ensures) _ (count-is (x .args .file) (x .args .sections) (x .args .b) (now (x .args .booking)) (now (x .args .text)) (now (x .args .places)) (now (x .args .lines)) (x .pre) _ (c .before .before .before .before .before .before .before .before .rows-before .ensures)) _ (c .before .before .before .before .before .before .first-not-as-due .ensures)) (c .before .before .before .before .before .if1 .left) _ (axles-are (x .args .file) (x .args .sections) (x .args .b) (now (x .args .booking)) (now (x .args .text)) (now (x .args .places)) (now (x .args .lines)) (x .pre) _ (c .before .before .before .before .fixed-section-count .ensures)) (c .before .before .before .first-broken .result) (c .before .before .before .first-broken .ensures) (c .before .enum-told .given .1) _ (c .figures-of .ensures)
 
 pub judge-values-spec : {M : Type 1} → statement M
 judge-values-spec =
@@ -103,6 +103,6 @@ judge-values-spec =
     slice-aggregate-line-of-2
     line-of-requires-2
     enum-told
-    kept-of-requires
+    figures-of-requires
     returns-2
     returns-3)

@@ -1,4 +1,4 @@
--- `judge::kept_of` meets its contract: each figure is that of the file of the number. Assumes nothing.
+-- `judge::figures_of` meets its contract: each figure is that of the file of the number. Assumes nothing.
 use borrow.Author.Needs.{needs}
 use mathlib.Core.Path.{refl, _∙_}
 use mathlib.Core.Bool.{false}
@@ -6,8 +6,8 @@ use denote.Ref.{now}
 use Rattle.due.specs.Values.{valuesOf}
 use Rattle.rules.specs.Marks.{isMarked}
 use Rattle.judge.proofs.Numbers.{by-file}
-use Rattle.judge.proofs.kept_of.Statement.{statement}
-use Rattle.judge.proofs.kept_of.Tie as tie
+use Rattle.judge.proofs.figures_of.Statement.{statement}
+use Rattle.judge.proofs.figures_of.Tie as tie
 
 is-marked-requires : tie.Need-is-marked-requires
 is-marked-requires c κs = search needs
@@ -20,5 +20,5 @@ returns c =
     let x = c .before .before .before in
     rw (c .is-marked .ensures ∙ by-file (x .args .file) (x .pre .0) false (λ f. isMarked f (valuesOf f (x .args .axles) (now (x .args .text)) (now (x .args .places))))) refl
 
-pub kept-of-spec : {M : Type 1} → statement M
-kept-of-spec = tie.close (tie.spec is-marked-requires cast-t6 returns)
+pub figures-of-spec : {M : Type 1} → statement M
+figures-of-spec = tie.close (tie.spec is-marked-requires cast-t6 returns)
