@@ -13,6 +13,7 @@ use due::Due;
 use files::FileAnswer;
 use refusals::Refusal;
 use refusals::RefusalKind;
+use tables::AC2;
 
 // What is said besides a column: the file's axle count, 0 for a file without axles, and how many entries it has.
 pub struct ColumnAcceptance {
@@ -24,9 +25,6 @@ pub enum ColumnAnswer {
     Column(ColumnAcceptance),
     Refused(Refusal),
 }
-
-// AC2's number.
-const AC2: u32 = 1;
 
 // What is asked of an entry, as a number.
 fn due_number(due: Due) -> u32

@@ -13,6 +13,11 @@ ghost use Rattle.due.specs.Due.{conditionIn, isMoped, isMotorcycle, isMo
 ghost use Rattle.due.specs.Table.{firstCondition, fixedCount};
 use kinds::numbers::CATEGORIES;
 use kinds::numbers::PETROL_DIRECTIVES;
+use tables::AC2;
+use tables::ACC;
+use tables::DRIFT;
+use tables::GAS;
+use tables::SUSPENSION;
 use tables::pairs;
 
 pub enum Fuel {
@@ -211,10 +216,10 @@ fn first_condition(file: u32) -> usize
     ensures { λ r. ⌜ r ≡ ofNumber 0 firstCondition file ⌝ }
 {
     match file {
-        2 => 12,
-        3 => 18,
-        4 => 18,
-        5 => 34,
+        ACC => 12,
+        DRIFT => 18,
+        SUSPENSION => 18,
+        GAS => 34,
         _ => 0,
     }
 }
@@ -224,17 +229,17 @@ fn condition_count(file: u32) -> usize
     ensures { λ r. ⌜ r ≡ fixedCount file ⌝ }
 {
     match file {
-        1 => 12,
-        2 => 6,
-        3 => 16,
-        4 => 16,
-        5 => 53,
+        AC2 => 12,
+        ACC => 6,
+        DRIFT => 16,
+        SUSPENSION => 16,
+        GAS => 53,
         _ => 0,
     }
 }
 
 // What an entry hangs on, by its file's number and its place in entry order.
-pub fn condition_at(file: u32, entry: usize) -> Condition
+fn condition_at(file: u32, entry: usize) -> Condition
     ensures { λ r. ⌜ r ≡ conditionIn file entry ⌝ }
 {
     let start = first_condition(file);
@@ -245,7 +250,7 @@ pub fn condition_at(file: u32, entry: usize) -> Condition
 }
 
 // L1e, L2e, L6e
-pub fn is_moped(category: usize) -> bool
+fn is_moped(category: usize) -> bool
     ensures { λ r. ⌜ r ≡ isMoped category ⌝ }
 {
     match category {
@@ -255,7 +260,7 @@ pub fn is_moped(category: usize) -> bool
 }
 
 // L3e, L4e, L5e, L7e
-pub fn is_motorcycle(category: usize) -> bool
+fn is_motorcycle(category: usize) -> bool
     ensures { λ r. ⌜ r ≡ isMotorcycle category ⌝ }
 {
     match category {
@@ -274,7 +279,7 @@ pub fn is_l(category: usize) -> bool
     }
 }
 
-pub fn is_o(category: usize) -> bool
+fn is_o(category: usize) -> bool
     ensures { λ r. ⌜ r ≡ isO category ⌝ }
 {
     match category {
@@ -284,7 +289,7 @@ pub fn is_o(category: usize) -> bool
 }
 
 // M or N
-pub fn is_m_or_n(category: usize) -> bool
+fn is_m_or_n(category: usize) -> bool
     ensures { λ r. ⌜ r ≡ isMorN category ⌝ }
 {
     category < 6
@@ -300,7 +305,7 @@ pub fn is_petrol(fuel: Fuel) -> bool
     }
 }
 
-pub fn is_diesel(fuel: Fuel) -> bool
+fn is_diesel(fuel: Fuel) -> bool
     ensures { λ r. ⌜ r ≡ isDiesel fuel ⌝ }
 {
     match fuel {
@@ -310,7 +315,7 @@ pub fn is_diesel(fuel: Fuel) -> bool
     }
 }
 
-pub fn condition_p(c: Conditions) -> bool
+fn condition_p(c: Conditions) -> bool
     ensures { λ r. ⌜ r ≡ conditionP c ⌝ }
 {
     if is_moped(c.category) {
@@ -359,7 +364,7 @@ fn checksum_due(version: Version, device: bool) -> Due
 }
 
 // What a condition asks of the entries that hang on it.
-pub fn holds_in(condition: Condition, c: Conditions) -> Due
+fn holds_in(condition: Condition, c: Conditions) -> Due
     ensures { λ r. ⌜ r ≡ holdsIn condition c ⌝ }
 {
     let fuel = c.fuel;
@@ -453,7 +458,7 @@ pub fn first_not_as_due(
     i
 }
 
-pub fn fuel_of(value: &[u8]) -> Fuel
+fn fuel_of(value: &[u8]) -> Fuel
     ensures { λ r. ⌜ r ≡ fuelIn (now (value .entry)) ⌝ }
 {
     if lines::equal(value, b"BENZINA") {
@@ -465,7 +470,7 @@ pub fn fuel_of(value: &[u8]) -> Fuel
     Fuel::OtherFuel
 }
 
-pub fn version_of(value: &[u8]) -> Version
+fn version_of(value: &[u8]) -> Version
     ensures { λ r. ⌜ r ≡ versionIn (now (value .entry)) ⌝ }
 {
     if lines::equal(value, b"200") {
@@ -478,7 +483,7 @@ pub fn version_of(value: &[u8]) -> Version
 }
 
 // 91/441/CEE or later: by the place in the list of petrol directives, which is in order of time.
-pub fn is_late(value: &[u8]) -> bool
+fn is_late(value: &[u8]) -> bool
     ensures { λ r. ⌜ r ≡ isLate (now (value .entry)) ⌝ }
 {
     match kinds::word_index(PETROL_DIRECTIVES, value) {
@@ -538,12 +543,12 @@ fn links_at(k: LinkPairs, speedtest: Version, text: &[u8], places: &[u32]) -> Li
 
 // What the file of this number says of its links: its pairs lie within its text, as reading it has made sure. A file
 // without links is not looked at.
-pub fn links_of(file: u32, text: &[u8], places: &[u32]) -> Links
+fn links_of(file: u32, text: &[u8], places: &[u32]) -> Links
     requires { ⌜ NumberHeld file 0 (now text) (now places) ⌝ }
     ensures { λ r. ⌜ r ≡ linksNumbered file (now (text .entry)) (now (places .entry)) ⌝ }
 {
     match file {
-        5 => {
+        GAS => {
             let speedtest = version_of(places::value_of(
                 text,
                 places,

@@ -32,7 +32,7 @@ pub enum RevsRead {
     Wrong,
 }
 
-pub fn is_digit(c: u8) -> bool
+fn is_digit(c: u8) -> bool
     ensures { λ r. ⌜ r ≡ isDigit c ⌝ }
 {
     match c {
@@ -69,7 +69,7 @@ fn number(part: &[u8]) -> u32
 }
 
 // N w
-pub fn is_number(value: &[u8], width: usize) -> bool
+fn is_number(value: &[u8], width: usize) -> bool
     ensures { λ r. ⌜ r ≡ isNumber width (now (value .entry)) ⌝ }
 {
     if value.len() < 1 {
@@ -152,7 +152,7 @@ fn is_gregorian(day: u32, month: u32, year: u32) -> bool
 }
 
 // Exactly `count` digits.
-pub fn are_digits(value: &[u8], count: usize) -> bool
+fn are_digits(value: &[u8], count: usize) -> bool
     ensures { λ r. ⌜ r ≡ areDigits count (now (value .entry)) ⌝ }
 {
     if value.len() != count {
@@ -170,7 +170,7 @@ fn number_at(value: &[u8], at: usize, count: usize) -> u32
 }
 
 // D
-pub fn is_day(value: &[u8]) -> bool
+fn is_day(value: &[u8]) -> bool
     ensures { λ r. ⌜ r ≡ isDay (now (value .entry)) ⌝ }
 {
     if !are_digits(value, 8) {
@@ -184,7 +184,7 @@ pub fn is_day(value: &[u8]) -> bool
 }
 
 // H
-pub fn is_time(value: &[u8]) -> bool
+fn is_time(value: &[u8]) -> bool
     ensures { λ r. ⌜ r ≡ isTime (now (value .entry)) ⌝ }
 {
     if !are_digits(value, 6) {
@@ -220,7 +220,7 @@ fn is_first_date(day: u32, month: u32, year: u32) -> bool
 }
 
 // DataPrimaImm
-pub fn is_first_day(value: &[u8]) -> bool
+fn is_first_day(value: &[u8]) -> bool
     ensures { λ r. ⌜ r ≡ isFirstDay (now (value .entry)) ⌝ }
 {
     if !are_digits(value, 8) {
@@ -243,7 +243,7 @@ fn starts_with(value: &[u8], mark: u8) -> bool
 }
 
 // Deriva
-pub fn is_drift(value: &[u8]) -> bool
+fn is_drift(value: &[u8]) -> bool
     ensures { λ r. ⌜ r ≡ isDrift (now (value .entry)) ⌝ }
 {
     if starts_with(value, b'-') {
@@ -254,7 +254,7 @@ pub fn is_drift(value: &[u8]) -> bool
 }
 
 // revs
-pub fn is_revs(value: &[u8]) -> bool
+fn is_revs(value: &[u8]) -> bool
     ensures { λ r. ⌜ r ≡ isRevs (now (value .entry)) ⌝ }
 {
     if starts_with(value, b'#') {
@@ -287,7 +287,7 @@ fn all_s_or_n(part: &[u8]) -> bool
 }
 
 // PosAssiStaz
-pub fn is_positions(value: &[u8]) -> bool
+fn is_positions(value: &[u8]) -> bool
     ensures { λ r. ⌜ r ≡ isPositions (now (value .entry)) ⌝ }
 {
     if value.len() != 9 {
@@ -446,7 +446,7 @@ pub fn word_index(list: u8, value: &[u8]) -> usize
 }
 
 // a word
-pub fn is_word(list: u8, value: &[u8]) -> bool
+fn is_word(list: u8, value: &[u8]) -> bool
     ensures { λ r. ⌜ r ≡ isWord (wordsOf list) (now (value .entry)) ⌝ }
 {
     word_index(list, value) < word_count(list)

@@ -20,6 +20,11 @@ pub use slices::identification_right;
 pub use slices::is_read;
 pub use slices::slice_right;
 pub use slices::stated_of;
+use tables::AC2;
+use tables::ACC;
+use tables::DRIFT;
+use tables::GAS;
+use tables::SUSPENSION;
 
 // The word that TipoVeicolo must be.
 pub enum VehicleType {
@@ -90,11 +95,11 @@ pub fn first_broken(
     ensures { λ r. ⌜ r ≡ ofNumber RuleCheck.Kept (λ f. firstBrokenAt f axles (now (booking .entry)) (now (text .entry)) (now (places .entry))) file ⌝ }
 {
     match file {
-        1 => bookings::check_new_booking(b, booking, places),
-        2 => bookings::check_old_booking(b, booking, text, places),
-        3 => RuleCheck::Kept,
-        4 => differences::check_differences(axles, text, places),
-        5 => RuleCheck::Kept,
+        AC2 => bookings::check_new_booking(b, booking, places),
+        ACC => bookings::check_old_booking(b, booking, text, places),
+        DRIFT => RuleCheck::Kept,
+        SUSPENSION => differences::check_differences(axles, text, places),
+        GAS => RuleCheck::Kept,
         _ => RuleCheck::Kept,
     }
 }

@@ -4,6 +4,9 @@ ghost use mathlib.Core.Bool.{false};
 ghost use Rattle.tables.specs.File.{ofNumber};
 ghost use Rattle.due.specs.Values.{valuesOf, NumberHeld};
 ghost use Rattle.rules.specs.Marks.{isMarked};
+use tables::DRIFT;
+use tables::GAS;
+use tables::SUSPENSION;
 use tables::pairs;
 
 // Whether CodErrore is filled.
@@ -12,9 +15,9 @@ pub fn is_marked(file: u32, axles: usize, text: &[u8], places: &[u32]) -> bool
     ensures { λ r. ⌜ r ≡ ofNumber false (λ f. isMarked f (valuesOf f axles (now (text .entry)) (now (places .entry)))) file ⌝ }
 {
     match file {
-        3 => places::length_of(places, pairs::DRIFT_COD_ERRORE) > 0,
-        4 => places::length_of(places, pairs::SUSPENSION_COD_ERRORE) > 0,
-        5 => places::length_of(places, pairs::GAS_COD_ERRORE) > 0,
+        DRIFT => places::length_of(places, pairs::DRIFT_COD_ERRORE) > 0,
+        SUSPENSION => places::length_of(places, pairs::SUSPENSION_COD_ERRORE) > 0,
+        GAS => places::length_of(places, pairs::GAS_COD_ERRORE) > 0,
         _ => false,
     }
 }

@@ -8,6 +8,9 @@ ghost use Rattle.tables.specs.File.{gas, ofNumber};
 ghost use Rattle.due.specs.Values.{valuesOf, Held};
 ghost use Rattle.rules.specs.Slices.{isCapital, goodStem, statedOf, exactly, oldBookingRight, sliceRight, isRead, identificationRight};
 use crate::Stated;
+use tables::AC2;
+use tables::ACC;
+use tables::GAS;
 use tables::pairs;
 
 fn is_capital(c: u8) -> bool
@@ -69,9 +72,9 @@ pub fn slice_right(file: u32, stated: Stated, booking: due::Booking, given: bool
     ensures { λ r. ⌜ r ≡ ofNumber true (λ f. sliceRight f stated booking given) file ⌝ }
 {
     match file {
-        1 => given,
-        2 => old_booking_right(stated, booking.category, given),
-        5 => {
+        AC2 => given,
+        ACC => old_booking_right(stated, booking.category, given),
+        GAS => {
             let fuel = booking.fuel;
             is_exactly(due::is_petrol(fuel), given)
         }
@@ -84,7 +87,7 @@ pub fn is_read(file: u32, booking: due::Booking, given: bool) -> bool
     ensures { λ r. ⌜ r ≡ ofNumber given (λ f. isRead f booking given) file ⌝ }
 {
     match file {
-        2 => {
+        ACC => {
             if !given {
                 return false;
             }

@@ -13,7 +13,7 @@ ghost use lib.ListN.{length, getD};
 ghost use Rattle.lines.specs.Bytes.{sameBytes};
 ghost use Rattle.lines.specs.Line.{heading as headingLine, entry as entryLine, writtenLine, writtenLength};
 ghost use Rattle.lines.specs.Writing.{Wrote};
-ghost use Rattle.tables.specs.File.{tableOf, ofNumber, isFile, leastSections, fixedSections, firstPair, room, leastPlaces};
+ghost use Rattle.tables.specs.File.{tableOf, ofNumber, isFile, leastSections, fixedSections, firstPair, leastPlaces};
 ghost use Rattle.tables.specs.Row.{entriesIn, names, nameIn, nameAt, headingAt, sectionOf, sectionDigit, likelySection, entryIn, rowsBefore, rowCount, rowAt};
 ghost use Rattle.tables.specs.Groups.{groupOf, tagOf, PassesTo, Lent, SectionLent, InRow, rowName, StandsAt, IsPlaceOf};
 
@@ -98,13 +98,6 @@ pub fn least_places() -> usize
     ensures { λ r. ⌜ r ≡ leastPlaces ⌝ }
 {
     278
-}
-
-// How many pairs a file has.
-pub fn room(file: u32) -> usize
-    ensures { λ r. ⌜ r ≡ ofNumber 0 room file ⌝ }
-{
-    of_file(&[0, 12, 6, 25, 43, 53], file)
 }
 
 // How many entries a section has.

@@ -2,6 +2,11 @@
 use kinds::numbers::KIND_COUNT;
 use refusals::Refusal;
 use refusals::RefusalKind;
+use tables::AC2;
+use tables::ACC;
+use tables::DRIFT;
+use tables::GAS;
+use tables::SUSPENSION;
 use tables::row_kinds;
 ghost use mathlib.Core.Path.{_≡_};
 ghost use mathlib.Core.Bool.{true};
@@ -49,11 +54,11 @@ fn is_right(file: u32, axles: u32) -> bool
     ensures { λ r. ⌜ r ≡ isRight file axles ⌝ }
 {
     match file {
-        1 => axles == 0,
-        2 => axles == 0,
-        3 => are_axles(axles),
-        4 => are_axles(axles),
-        5 => axles == 0,
+        AC2 => axles == 0,
+        ACC => axles == 0,
+        DRIFT => are_axles(axles),
+        SUSPENSION => are_axles(axles),
+        GAS => axles == 0,
         _ => false,
     }
 }
@@ -130,11 +135,11 @@ fn table_length(file: u32, axles: u32) -> usize
     ensures { λ r. ⌜ r ≡ ofNumber 0 (λ f. tableLength (sections f axles)) file ⌝ }
 {
     match file {
-        1 => 268,
-        2 => 135,
-        3 => 247 + 25 * axles as usize,
-        4 => 252 + 63 * axles as usize,
-        5 => 1162,
+        AC2 => 268,
+        ACC => 135,
+        DRIFT => 247 + 25 * axles as usize,
+        SUSPENSION => 252 + 63 * axles as usize,
+        GAS => 1162,
         _ => 0,
     }
 }
