@@ -2,3 +2,4 @@ pub mod Kind
 pub mod Digits
 pub mod Value
 pub mod Meaning
+pub mod Shapes

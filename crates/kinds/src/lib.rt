@@ -1,5 +1,7 @@
 // Kinds of value (01, Kinds of value): judges and readers of a value's own bytes.
 pub mod numbers; // numbers.rt: the numbers of the kinds and of the lists of words
+pub mod shapes; // shapes.rt: what a filled value of a kind must look like
+pub mod words; // words.rt: the words of the kinds
 
 ghost use mathlib.Core.Path.{_≡_};
 ghost use mathlib.Core.Bool.{true};
