@@ -13,6 +13,7 @@ use Rattle.kinds.specs.Shapes.{formNumber, decimalsOf, wordsIn, shapeOf,
 use Rattle.kinds.specs.declared.shapes.Shape.{Shape}
 use Rattle.kinds.proofs.Laws.{by-test}
 
+-- what a function says of the element at a place
 pub map-at : {A B : Type 0} (f : A → B) (xs : List A) (n : ℕ) (a : A) (b : B) → n < length xs → getD (map f xs) n b ≡ f (getD xs n a)
 map-at f [] n a b h = absurd (omega arith)
 map-at f (x ∷ xs) zero a b h = refl

@@ -6,7 +6,7 @@ use Rattle.kinds.specs.Kind.{WordList, words, vehicleTypes, categories, 
 use Rattle.kinds.specs.Value.{width}
 use Rattle.kinds.specs.declared.shapes.Shape.{Shape}
 
--- 01, Kinds of value: its kinds in their order there, then the three that are an entry's own, then a word
+-- the number of a kind's form (01, Kinds of value), whatever its width and its words; 0 for no kind
 unfoldable pub formNumber : Kind → ℕ
 formNumber (S w) = 1
 formNumber (C w) = 2
