@@ -1,12 +1,12 @@
 -- Names copied: byte after byte, and a law for each way out. Assumes nothing.
-use Prim.Native.Nat.{ℕ, _+_, _≤_, _<_}
+use Prim.Native.Nat.{ℕ, _+_, _-_, _≤_, _<_}
 use native.Mathlib.Omega.{arith}
 use native.Mathlib.Numerals.{add-one}
 use native.Mathlib.Nat.{zero-add}
 use mathlib.Core.Path.{_≡_, ap, sym, _∙_}
 use mathlib.Core.Option.{Option, none, some}
 use mathlib.Core.List.{List, [], _∷_, _++_, append-assoc}
-use lib.ListN.{length, getD, set, take, length-append}
+use lib.ListN.{length, getD, set, take, replicate, length-append}
 use lib.Seq.{paste, paste-suc, length-take-le, take-at}
 use borrow.Author.Tests.{le-leb, lt-leb, le-ltb, lt-ltb}
 use Rattle.lines.specs.Line.{heading, entry, lineEnd, writtenLine}
@@ -14,10 +14,13 @@ use Rattle.lines.specs.Writing.{put, Wrote}
 use Rattle.refusals.specs.Refusals as R
 use Rattle.refusals.specs.declared.RefusalKind.the-variants.{OutputTooShort}
 use Rattle.tables.specs.File.{tableOf}
-use Rattle.tables.specs.Row.{nameAt, headingAt}
+use Rattle.tables.specs.Row.{nameAt, headingAt, rowKind}
+use Rattle.kinds.specs.Kind.{kindOf}
+use Rattle.kinds.specs.Shapes.{wordsIn, inRow}
 use Rattle.refusals.specs.Answer.{refusal}
-use Rattle.names.specs.Names.{Name, nameWith, entryName, headingName, answerIs, Copies}
+use Rattle.names.specs.Names.{Name, nameWith, sectionOfEntry, entryName, headingName, entryKind, entryWord, answerIs, Copies}
 use Rattle.names.specs.Steps.{standing}
+use Rattle.names.proofs.EntryKinds.{word-missing, word-some}
 use Rattle.names.specs.declared.NameAnswer.{NameAnswer}
 use Rattle.names.specs.declared.NameAnswer.the-variants as NameAnswer
 
@@ -45,6 +48,15 @@ entry-size s w = omega (arith, w .place, length-append (s ++ (61 ∷ [])) lineEn
 pub heading-size : {d e : List ℕ} {r : ℕ} (s : List ℕ) → Wrote d 0 (writtenLine (heading s)) e r → r ≡ length s + 2
 heading-size s w = omega (arith, w .place, length-append s lineEnd)
 
+-- a word in its row
+pub row-long : (s row : List ℕ) → row ≡ inRow s → length s ≤ length row
+unfolding inRow
+row-long s row e = rw e (omega (arith, length-append s (replicate (14 - length s) 32)))
+
+row-word : (s row : List ℕ) (n : ℕ) → row ≡ inRow s → n ≡ length s → take n row ≡ s
+unfolding inRow
+row-word s row n e l = rw e (take-at s _ n (sym l))
+
 -- ---- ways out
 
 module _ {file : ℕ} {out : List ℕ} where
@@ -70,6 +82,10 @@ module _ {file : ℕ} {out : List ℕ} where
   unfolding headingName
   heading-none c l h = refused (rw (le-ltb _ _ l)) h
 
+  pub word-none : {r : NameAnswer} (k w n : ℕ) → rowKind n ≡ entryKind file k → length (wordsIn (kindOf n)) ≤ w → answerIs r ≡ refusal 16 file 0
+      → Copies file (entryWord file k w) out out r
+  word-none k w n e l h = refused (word-missing file k n e w l) h
+
   -- what was copied is the name
   module _ {after : List ℕ} {r : NameAnswer} where
     is-name : (line : List ℕ) (x : Option Name) (s : List ℕ) (c n : ℕ) → x ≡ some (nameWith s c) → take n line ≡ s → Copies file (some (nameWith (take n line) c)) out after r → Copies file x out after r
@@ -87,3 +103,10 @@ module _ {file : ℕ} {out : List ℕ} where
     heading-copied {d} {line} c n l m q h =
         let s = headingAt (tableOf file) c in
         is-name line (headingName file c) s c n (rw (lt-ltb _ _ l)) (first-bytes s lineEnd n q m) h
+
+    pub word-copied : (k w n c m : ℕ) (row : List ℕ) → rowKind n ≡ entryKind file k → w < length (wordsIn (kindOf n)) → sectionOfEntry (tableOf file) k ≡ c
+        → row ≡ inRow (getD (wordsIn (kindOf n)) w []) → m ≡ length (getD (wordsIn (kindOf n)) w []) → Copies file (some (nameWith (take m row) c)) out after r
+        → Copies file (entryWord file k w) out after r
+    word-copied k w n c m row e l s q z h =
+        let x = getD (wordsIn (kindOf n)) w [] in
+        is-name row (entryWord file k w) x c m (word-some file k n e w c l s) (row-word x row m q z) h

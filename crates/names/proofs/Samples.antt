@@ -1,14 +1,16 @@
--- Samples of what is named: how many there are of each file, and the first and last of axles. Assumes nothing.
+-- Samples of what is named: how many there are of each file, and the first and last of axles; of kinds and of words. Assumes nothing.
 use mathlib.Core.Path.{_≡_, refl}
 use mathlib.Core.Option.{none, some}
 use mathlib.Core.List.{[], _∷_, map}
 use lib.ListN.{length}
 use Rattle.lines.specs.Text.{bytes}
+use Rattle.kinds.specs.Kind.{S, N, Fixed, Deriva, PosAssiStaz, words}
+use Rattle.kinds.specs.Shapes.{wordsIn}
 use Rattle.tables.specs.Section.{entriesOf}
 use Rattle.tables.specs.Entries.{newBooking, oldBooking, tester, protocol, measurement, sixteen, driftAxle, suspensionAxle, analyser, counter, speedTest, allKeyDates, allKeyBodies, analysis, fuelAnalysis}
 use Rattle.tables.specs.File.{files, fixedSections, axleEntries, axlesFrom, axleSections, sections, allSections, ofNumber, tableOf}
 use Rattle.tables.specs.Row.{nameIn}
-use Rattle.names.specs.Names.{nameWith, sectionOfEntry, entryName, headingName}
+use Rattle.names.specs.Names.{nameWith, sectionOfEntry, entryName, headingName, entryKind, entryWord}
 
 pub counts :
     (map (λ f. length (entriesOf (allSections f))) files ≡ 12 ∷ 6 ∷ 25 ∷ 43 ∷ 53 ∷ [])
@@ -35,3 +37,21 @@ pub samples :
 unfolding entryName headingName sectionOfEntry tableOf ofNumber nameIn entriesOf newBooking oldBooking tester protocol measurement sixteen driftAxle suspensionAxle
     analyser counter speedTest allKeyDates allKeyBodies analysis fuelAnalysis fixedSections axleEntries axlesFrom axleSections sections
 samples = (refl, refl, refl, refl, refl, refl, refl, refl, refl, refl, refl, refl, refl, refl)
+
+-- kinds and words of entries
+pub kind-samples :
+    (entryKind 1 0 ≡ some (S 10))
+    × (entryKind 1 11 ≡ some PosAssiStaz)
+    × (entryKind 3 24 ≡ some Deriva)
+    × (entryKind 4 18 ≡ some (N 2))
+    × (entryKind 5 46 ≡ some (Fixed 3 5))
+    × (entryKind 5 53 ≡ none)
+    × (entryKind 6 0 ≡ none)
+    × (entryWord 1 1 2 ≡ some (nameWith (bytes "MOTOVEICOLO") 0))
+    × (entryWord 1 1 3 ≡ none)
+    × (entryWord 5 24 2 ≡ some (nameWith (bytes "RS SENZA ESITO") 0))
+    × (entryWord 3 9 2 ≡ none)
+    × (entryWord 1 0 0 ≡ none)
+unfolding entryKind entryWord wordsIn words sectionOfEntry tableOf ofNumber entriesOf newBooking oldBooking tester protocol measurement sixteen driftAxle
+    suspensionAxle analyser counter speedTest allKeyDates allKeyBodies analysis fuelAnalysis fixedSections axleEntries axlesFrom axleSections sections
+kind-samples = (refl, refl, refl, refl, refl, refl, refl, refl, refl, refl, refl, refl)
