@@ -1,5 +1,5 @@
 /* The judge of MCTCNet2 test sets: a whole set judged, one file read, one file written, names of entries and headings,
- * the due column of one file.
+ * the kinds of entries and their words, the due column of one file.
  *
  * Linked from libmctc.a. Every function answers for whatever bytes and numbers it is lent, keeps no state, allocates
  * nothing and always returns.
@@ -42,11 +42,14 @@
  *     2        0                                  line from 1, 0 for none
  *     3        judge: axles of drift              0
  *              read, due: axles; write: length
- *              names: length
+ *              names, word: length; kind: form
  *     4        judge: axles of suspension         0
- *              names: heading; due: entries
+ *              names, word: heading; due: entries
+ *              kind: most bytes
  *     5        judge: mark of drift, 0 or 1       0
+ *              kind: digits behind the point
  *     6        judge: mark of suspension          0
+ *              kind: words
  *     7        judge: mark of gas                 0
  *     8 ..15   0                                  0
  *
@@ -67,9 +70,10 @@ extern "C" {
 #define MCTC_PLACES_SIZE 278
 #define MCTC_ANSWER_SIZE 16
 
-/* How many bytes the longest name of an entry and the longest heading have: room for any of them. */
+/* How many bytes the longest name of an entry, the longest heading and the longest word have: room for any of them. */
 #define MCTC_LONGEST_NAME 34
 #define MCTC_LONGEST_HEADING 27
+#define MCTC_LONGEST_WORD 14
 
 /* Returned where the answer has fewer than 16 numbers. */
 #define MCTC_ANSWER_TOO_SHORT UINT32_C(4294967295)
@@ -110,7 +114,7 @@ extern "C" {
 /* The identification answer differs from gas: file 6, line 0. */
 #define MCTC_ANSWER_DIFFERS 15
 /* The file is not 1 to 5, or the axles are not 1 to 9 for 3 and 4, not 0 for 1, 2 and 5, or the file has no entry or
- * heading of that number: line 0. */
+ * heading of that number, or the entry no word of that number: line 0. */
 #define MCTC_FILE_OR_AXLES 16
 /* Start plus length of a pair is above the text's length: the line that the entry would have. */
 #define MCTC_PAIR_OUTSIDE 17
@@ -171,6 +175,52 @@ uint32_t mctc_entry_name(uint32_t file, uint32_t entry,
 uint32_t mctc_heading_name(uint32_t file, uint32_t heading,
                            uint8_t *output, size_t output_length,
                            uint32_t *answer, size_t answer_length);
+
+/* The form of an entry's kind: what a filled value must look like. `most` is answer 4, `decimals` answer 5. */
+
+/* S: 1 to `most` bytes, each 20 to 7E hex. */
+#define MCTC_FORM_S 1
+/* C: exactly `most` such bytes. */
+#define MCTC_FORM_C 2
+/* N: 1 to `most` decimal digits. */
+#define MCTC_FORM_N 3
+/* N(d): one or more digits, a point, exactly `decimals` digits, at most `most` bytes in all. */
+#define MCTC_FORM_FIXED 4
+/* D: ddmmyyyy, a Gregorian day, years 1900 to 2099. */
+#define MCTC_FORM_D 5
+/* H: hhmmss, 000000 to 235959. */
+#define MCTC_FORM_H 6
+/* Deriva: optional `-`, one or two digits, a point, two digits. */
+#define MCTC_FORM_DERIVA 7
+/* revs: 1 to 5 digits, with `#` before them where entered by hand. */
+#define MCTC_FORM_REVS 8
+/* DataPrimaImm: D, with day 00 allowed, and month 00 only with day 00. */
+#define MCTC_FORM_DATA_PRIMA_IMM 9
+/* AnnoPrimaImm: four digits. */
+#define MCTC_FORM_ANNO_PRIMA_IMM 10
+/* PosAssiStaz: nine letters S or N. */
+#define MCTC_FORM_POS_ASSI_STAZ 11
+/* A word: one of those that mctc_word copies. */
+#define MCTC_FORM_WORD 12
+
+/* Says what a filled value of a file's entry must look like, by the entry's number. Refuses with 16 where there is no
+ * such file or entry. The refusal carries the file as handed in and line 0.
+ *
+ * Accepted: answer 3 is the form, MCTC_FORM_S to MCTC_FORM_WORD; answer 4 is how many bytes a value has at most; answer
+ * 5 is how many digits stand behind the point, 0 where there is none; answer 6 is how many words the entry has, 0 where
+ * it is no word. Whether an entry must be filled at all, mctc_due says. */
+uint32_t mctc_kind(uint32_t file, uint32_t entry,
+                   uint32_t *answer, size_t answer_length);
+
+/* Copies a word that the value of a file's entry may be, by the numbers of both, words from 0 in the order of their
+ * list. Refuses, in this order, with 16 where there is no such file, entry or word, 18 where the output is shorter than
+ * the word. A refusal carries the file as handed in and line 0.
+ *
+ * Accepted: answer 3 is the length of the word, answer 4 the number of the heading that the entry stands under; output
+ * bytes past the length stay. Refused: the output stays. */
+uint32_t mctc_word(uint32_t file, uint32_t entry, uint32_t word,
+                   uint8_t *output, size_t output_length,
+                   uint32_t *answer, size_t answer_length);
 
 /* What is asked of an entry: its value is filled; is empty; may be either. */
 #define MCTC_DUE 1

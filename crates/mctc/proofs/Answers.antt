@@ -5,6 +5,7 @@ use mathlib.Core.Path.{_≡_, refl, ap}
 use mathlib.Core.List.{List, [], _∷_, _++_}
 use lib.ListN.{length, getD, set, take, drop, replicate}
 use lib.Seq.{length-take-le, take-all}
+use Rattle.kinds.specs.declared.shapes.Shape.{Shape}
 use Rattle.refusals.specs.Refusals.{numberOf}
 use Rattle.refusals.specs.declared.Refusal.{Refusal}
 use Rattle.files.specs.Alone as F
@@ -19,6 +20,8 @@ use Rattle.names.specs.Names as N
 use Rattle.names.specs.declared.Named.{Named}
 use Rattle.names.specs.declared.NameAnswer.{NameAnswer}
 use Rattle.names.specs.declared.NameAnswer.the-variants as NameAnswer
+use Rattle.names.specs.declared.KindAnswer.{KindAnswer}
+use Rattle.names.specs.declared.KindAnswer.the-variants as KindAnswer
 use Rattle.sets.specs.Judge as J
 use Rattle.sets.specs.declared.Acceptance.{Acceptance}
 use Rattle.sets.specs.declared.SetAnswer.{SetAnswer}
@@ -27,7 +30,7 @@ use Rattle.columns.specs.Column as C
 use Rattle.columns.specs.declared.ColumnAcceptance.{ColumnAcceptance}
 use Rattle.columns.specs.declared.ColumnAnswer.{ColumnAnswer}
 use Rattle.columns.specs.declared.ColumnAnswer.the-variants as ColumnAnswer
-use Rattle.mctc.specs.Answers.{answerSize, answered, refusalNumbers, readNumbers, writeNumbers, nameNumbers, markNumber, setNumbers, dueNumbers, Filled}
+use Rattle.mctc.specs.Answers.{answerSize, answered, refusalNumbers, readNumbers, writeNumbers, nameNumbers, kindNumbers, markNumber, setNumbers, dueNumbers, Filled}
 
 -- ---- numbers put one after another
 
@@ -68,6 +71,13 @@ module _ (a b : List ℕ) (r : ℕ) where
 
   pub name-accepted : (y : NameAnswer) (x : Named) → y ≡ NameAnswer.Named x → Filled (0 ∷ 0 ∷ 0 ∷ x .length ∷ x .section ∷ []) a b r → Filled (nameNumbers (N.answerIs y)) a b r
   name-accepted y x e h = rw e h
+
+  pub kind-refused : (y : KindAnswer) (x : Refusal) → y ≡ KindAnswer.Refused x → Filled (refusalNumbers x) a b r → Filled (kindNumbers (N.kindAnswerIs y)) a b r
+  kind-refused y x e h = rw e h
+
+  pub kind-shaped : (y : KindAnswer) (x : Shape) → y ≡ KindAnswer.Shaped x → Filled (0 ∷ 0 ∷ 0 ∷ x .form ∷ x .most ∷ x .decimals ∷ x .words ∷ []) a b r
+      → Filled (kindNumbers (N.kindAnswerIs y)) a b r
+  kind-shaped y x e h = rw e h
 
   pub set-refused : (y : SetAnswer) (x : Refusal) → y ≡ SetAnswer.Refused x → Filled (refusalNumbers x) a b r → Filled (setNumbers (J.answerIs y)) a b r
   set-refused y x e h = rw e h

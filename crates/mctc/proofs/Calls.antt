@@ -7,6 +7,8 @@ use mathlib.Core.Option.{Option}
 use mathlib.Core.List.{List}
 use lib.ListN.{length, getD, take}
 use borrow.Author.Tests.{le-leb, lt-leb}
+use Rattle.kinds.specs.Kind.{Kind}
+use Rattle.kinds.specs.declared.shapes.Shape.{Shape}
 use Rattle.refusals.specs.Answer.{Answer}
 use Rattle.refusals.proofs.Laws.{not-zero}
 use Rattle.tables.specs.File.{leastPlaces}
@@ -19,6 +21,7 @@ use Rattle.writing.specs.declared.WriteAnswer.the-variants as WriteAnswer
 use Rattle.writing.proofs.Theorem.{reads-back}
 use Rattle.names.specs.Names as N
 use Rattle.names.specs.declared.NameAnswer.{NameAnswer}
+use Rattle.names.specs.declared.KindAnswer.{KindAnswer}
 use Rattle.sets.specs.Judge as J
 use Rattle.sets.specs.Records.{Slices}
 use Rattle.files.specs.declared.FileAcceptance.{FileAcceptance}
@@ -32,8 +35,8 @@ use Rattle.sets.specs.Demand3.{IsAccepted, Demand3}
 use Rattle.judge.specs.Judged.{SetJudged}
 use Rattle.columns.specs.Column as C
 use Rattle.columns.specs.declared.ColumnAnswer.{ColumnAnswer}
-use Rattle.mctc.specs.Answers.{answerSize, readNumbers, writeNumbers, nameNumbers, setNumbers, dueNumbers, Filled}
-use Rattle.mctc.specs.Calls.{tooShort, ReadCall, WriteCall, NameCall, JudgeCall, DueCall}
+use Rattle.mctc.specs.Answers.{answerSize, readNumbers, writeNumbers, nameNumbers, kindNumbers, setNumbers, dueNumbers, Filled}
+use Rattle.mctc.specs.Calls.{tooShort, ReadCall, WriteCall, NameCall, KindCall, JudgeCall, DueCall}
 
 -- 0 is returned exactly where a set is accepted: no refusal has that number
 zero-accepts : (x : SetAnswer) (r : ℕ) → r ≡ getD (setNumbers (J.answerIs x)) 0 0 → (r ≡ 0) ↔ IsAccepted (J.answerIs x)
@@ -50,6 +53,9 @@ module _ (a : List ℕ) (l : length a < answerSize) where
 
   pub name-short : (file : ℕ) (x : Option N.Name) (o : List ℕ) → NameCall file x o o a a tooShort
   name-short file x o = let b = lt-leb answerSize (length a) l in record { number = rw b; answer = rw b; output = rw b }
+
+  pub kind-short : (file : ℕ) (x : Option Kind) → KindCall file x a a tooShort
+  kind-short file x = let b = lt-leb answerSize (length a) l in record { number = rw b; answer = rw b }
 
   pub judge-short : (stem : List ℕ) (s : Slices) (p : List ℕ) → JudgeCall stem s p p a a tooShort
   judge-short stem s p =
@@ -91,6 +97,12 @@ module _ (a b : List ℕ) (r : ℕ) (l : answerSize ≤ length a) where
       let e = le-leb answerSize (length a) l in
       let g = subst (λ (z : Answer Named). Filled (nameNumbers z) a b r) (h .answer) f in
       record { number = rw e (g .number); answer = rw e (g .answer); output = rw e (h .output) }
+
+  pub kind-done : (file : ℕ) (x : Option Kind) (y : KindAnswer) → N.kindAnswerIs y ≡ N.kindAnswerOf file x → Filled (kindNumbers (N.kindAnswerIs y)) a b r → KindCall file x a b r
+  kind-done file x y h f =
+      let e = le-leb answerSize (length a) l in
+      let g = subst (λ (z : Answer Shape). Filled (kindNumbers z) a b r) h f in
+      record { number = rw e (g .number); answer = rw e (g .answer) }
 
   pub judge-done : (stem : List ℕ) (s : Slices) (p q : List ℕ) (x : SetAnswer) → SetJudged stem s p q x → Filled (setNumbers (J.answerIs x)) a b r → JudgeCall stem s p q a b r
   judge-done stem s p q x h f =

@@ -4,6 +4,7 @@ use mathlib.Core.Path.{_≡_}
 use mathlib.Core.Bool.{Bool, cond}
 use mathlib.Core.List.{List, [], _∷_, _++_}
 use lib.ListN.{length, getD, drop, replicate}
+use Rattle.kinds.specs.declared.shapes.Shape.{Shape}
 use Rattle.refusals.specs.Refusals.{numberOf}
 use Rattle.refusals.specs.Answer.{Answer, refusal, acceptance}
 use Rattle.refusals.specs.declared.Refusal.{Refusal}
@@ -41,6 +42,10 @@ writeNumbers = numbersOf (λ a. a .length ∷ [])
 -- a copied name: its length, and the number of its section
 abbrev pub nameNumbers : Answer Named → List ℕ
 nameNumbers = numbersOf (λ a. a .length ∷ a .section ∷ [])
+
+-- the kind of an entry (01, Kinds of value): its form, the most bytes, the digits behind the point, how many words
+abbrev pub kindNumbers : Answer Shape → List ℕ
+kindNumbers = numbersOf (λ a. a .form ∷ a .most ∷ a .decimals ∷ a .words ∷ [])
 
 -- the due column of a file: its axle count, and how many entries the column has
 abbrev pub dueNumbers : Answer ColumnAcceptance → List ℕ

@@ -7,6 +7,7 @@ use mathlib.Core.Option.{Option}
 use mathlib.Core.List.{List}
 use lib.Dec.{leb}
 use lib.ListN.{length, getD, take}
+use Rattle.kinds.specs.Kind.{Kind}
 use Rattle.tables.specs.File.{leastPlaces}
 use Rattle.files.specs.Alone.{aloneAnswer, alonePlaces}
 use Rattle.writing.specs.Writing as W
@@ -19,7 +20,7 @@ use Rattle.sets.specs.Judge.{judge}
 use Rattle.sets.specs.Demand3.{HasRecord, Demand3, Leaves}
 use Rattle.columns.specs.Column as C
 use Rattle.columns.specs.Column.{dueColumn, placesOf, columnAfter}
-use Rattle.mctc.specs.Answers.{answerSize, answered, readNumbers, writeNumbers, nameNumbers, setNumbers, dueNumbers}
+use Rattle.mctc.specs.Answers.{answerSize, answered, readNumbers, writeNumbers, nameNumbers, kindNumbers, setNumbers, dueNumbers}
 
 -- what a call answers where the answer array is too short: the largest number, which no refusal has
 abbrev pub tooShort : ℕ
@@ -55,11 +56,16 @@ pub record WriteCall (s p : List ℕ) (file n : ℕ) (o t a b : List ℕ) (r : �
   -- "By this call a written file reads back": as many of the output's bytes as number 3 of the answer says, read alone (`ReadCall`)
   pub reads-back : r ≡ 0 → (q : List ℕ) → leastPlaces ≤ length q → IsReadBack file n s p (take (getD b 3 0) t) q
 
--- the name x copied, `entryName` or `headingName` (`names` Names) of the file and a number: output o before and t after
+-- the name x copied, `entryName`, `headingName` or `entryWord` (`names` Names) of the file and numbers: output o before and t after
 pub record NameCall (file : ℕ) (x : Option N.Name) (o t a b : List ℕ) (r : ℕ) : Type 0 where
   pub number : r ≡ returned (nameNumbers (N.answerOf file x o)) a
   pub answer : b ≡ answerAfter (nameNumbers (N.answerOf file x o)) a
   pub output : t ≡ whereFits a (N.outputOf x o) o
+
+-- the kind x of an entry in numbers (01, Kinds of value), `entryKind` (`names` Names) of the file and a number
+pub record KindCall (file : ℕ) (x : Option Kind) (a b : List ℕ) (r : ℕ) : Type 0 where
+  pub number : r ≡ returned (kindNumbers (N.kindAnswerOf file x)) a
+  pub answer : b ≡ answerAfter (kindNumbers (N.kindAnswerOf file x)) a
 
 -- a set of these slices judged (01, Judging: "The answer and places equal one definition over the inputs")
 pub record JudgeCall (stem : List ℕ) (s : Slices) (p q a b : List ℕ) (r : ℕ) : Type 0 where

@@ -1,6 +1,6 @@
 // The interface for C (include/mctc.h): a whole set judged, one file read alone, one file written, names of entries
-// and headings copied, the due column of one file. Each call fills an array of numbers that the caller lends with its
-// answer, and returns the first of them.
+// and headings copied, the kinds of entries and their words, the due column of one file. Each call fills an array of
+// numbers that the caller lends with its answer, and returns the first of them.
 ghost use mathlib.Core.Path.{_≡_};
 ghost use Prim.Native.Nat.{_≤_};
 ghost use lib.ListN.{length};
@@ -10,10 +10,11 @@ ghost use Rattle.names.specs.Names as N;
 ghost use Rattle.sets.specs.Judge as J;
 ghost use Rattle.sets.specs.Records.{slicesOf};
 ghost use Rattle.columns.specs.Column as C;
-ghost use Rattle.mctc.specs.Answers.{answerSize, refusalNumbers, readNumbers, writeNumbers, nameNumbers, markNumber, setNumbers, dueNumbers, Room, Filled};
-ghost use Rattle.mctc.specs.Calls.{ReadCall, WriteCall, NameCall, JudgeCall, DueCall};
+ghost use Rattle.mctc.specs.Answers.{answerSize, refusalNumbers, readNumbers, writeNumbers, nameNumbers, kindNumbers, markNumber, setNumbers, dueNumbers, Room, Filled};
+ghost use Rattle.mctc.specs.Calls.{ReadCall, WriteCall, NameCall, KindCall, JudgeCall, DueCall};
 use columns::ColumnAnswer;
 use files::FileAnswer;
+use names::KindAnswer;
 use names::NameAnswer;
 use refusals::Refusal;
 use sets::SetAnswer;
@@ -215,6 +216,53 @@ pub extern "C" fn mctc_heading_name(
         return TOO_SHORT;
     }
     let copied = names::copy_heading(file, section, output);
+    fill_name(answer, copied)
+}
+
+// What the kind of an entry says.
+fn fill_kind(answer: &mut [u32], found: KindAnswer) -> u32
+    requires { ⌜ answerSize ≤ length (now answer) ⌝ }
+    ensures { λ r. ⌜ Filled (kindNumbers (N.kindAnswerIs found)) (now (answer .entry)) (now (answer .exit)) r ⌝ }
+{
+    match found {
+        KindAnswer::Refused(x) => fill_refusal(answer, x),
+        KindAnswer::Shaped(a) => {
+            let form = a.form;
+            let most = a.most;
+            let decimals = a.decimals;
+            let words = a.words;
+            fill(answer, &[0, 0, 0, form, most, decimals, words])
+        }
+    }
+}
+
+// What a filled value of an entry must look like, by its number in the order of the file's pairs (01, Kinds of value).
+#[no_mangle]
+pub extern "C" fn mctc_kind(file: u32, entry: u32, answer: &mut [u32]) -> u32
+    ensures { λ r. ⌜ KindCall file (N.entryKind file entry) (now (answer .entry)) (now (answer .exit)) r ⌝ }
+{
+    if answer.len() < ANSWER_SIZE {
+        return TOO_SHORT;
+    }
+    let found = names::kind_of_entry(file, entry);
+    fill_kind(answer, found)
+}
+
+// A word that an entry's value may be, by its number in the order of its list (01, Kinds of value).
+#[no_mangle]
+pub extern "C" fn mctc_word(
+    file: u32,
+    entry: u32,
+    word: u32,
+    output: &mut [u8],
+    answer: &mut [u32],
+) -> u32
+    ensures { λ r. ⌜ NameCall file (N.entryWord file entry word) (now (output .entry)) (now (output .exit)) (now (answer .entry)) (now (answer .exit)) r ⌝ }
+{
+    if answer.len() < ANSWER_SIZE {
+        return TOO_SHORT;
+    }
+    let copied = names::copy_word(file, entry, word, output);
     fill_name(answer, copied)
 }
 
