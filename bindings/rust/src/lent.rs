@@ -81,6 +81,18 @@ extern "C" {
         answer: *mut u32,
         answer_length: usize,
     ) -> u32;
+
+    fn mctc_kind(file: u32, entry: u32, answer: *mut u32, answer_length: usize) -> u32;
+
+    fn mctc_word(
+        file: u32,
+        entry: u32,
+        word: u32,
+        output: *mut u8,
+        output_length: usize,
+        answer: *mut u32,
+        answer_length: usize,
+    ) -> u32;
 }
 
 // What the header asks of its callers, Rust grants for every slice: a pointer and a length belong together, the pointer
@@ -199,6 +211,26 @@ pub fn heading_name(file: u32, section: u32, output: &mut [u8], answer: &mut [u3
         mctc_heading_name(
             file,
             section,
+            output.as_mut_ptr(),
+            output.len(),
+            answer.as_mut_ptr(),
+            answer.len(),
+        )
+    }
+}
+
+/// The kind of an entry, by file and number.
+pub fn kind(file: u32, entry: u32, answer: &mut [u32]) -> u32 {
+    unsafe { mctc_kind(file, entry, answer.as_mut_ptr(), answer.len()) }
+}
+
+/// A word that an entry's value may be, by file and numbers.
+pub fn word(file: u32, entry: u32, word: u32, output: &mut [u8], answer: &mut [u32]) -> u32 {
+    unsafe {
+        mctc_word(
+            file,
+            entry,
+            word,
             output.as_mut_ptr(),
             output.len(),
             answer.as_mut_ptr(),

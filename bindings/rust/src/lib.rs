@@ -31,7 +31,7 @@ pub const ANSWER: usize = 16;
 /// The most entries of a file: gas has 53.
 const MOST_ENTRIES: usize = 53;
 
-/// No name and no heading is longer.
+/// No name, no heading and no word is longer.
 const LONGEST_NAME: usize = 64;
 
 /// A set as handed in: the files' common name and six texts, each empty where it is not given.
@@ -160,6 +160,66 @@ pub struct EntryName {
     pub section: u32,
 }
 
+/// The form of an entry's kind, whatever its width (document 01, Kinds of value).
+#[derive(Clone, Copy, Debug, PartialEq, Eq)]
+pub enum Form {
+    /// S: 1 to `most` printable bytes.
+    Text,
+    /// C: exactly `most` of them.
+    Exact,
+    /// N: 1 to `most` digits.
+    Number,
+    /// N(d): digits, a point, `decimals` digits.
+    Fixed,
+    /// D: ddmmyyyy.
+    Day,
+    /// H: hhmmss.
+    Time,
+    /// Deriva: optional `-`, one or two digits, a point, two digits.
+    Deriva,
+    /// revs: 1 to 5 digits, with `#` before them where entered by hand.
+    Revs,
+    /// D, with day 00 allowed, and month 00 only with day 00.
+    DataPrimaImm,
+    /// Four digits.
+    AnnoPrimaImm,
+    /// Nine letters S or N.
+    PosAssiStaz,
+    /// One of `words`.
+    Word,
+}
+
+impl Form {
+    fn from_number(number: u32) -> Form {
+        match number {
+            1 => Form::Text,
+            2 => Form::Exact,
+            3 => Form::Number,
+            4 => Form::Fixed,
+            5 => Form::Day,
+            6 => Form::Time,
+            7 => Form::Deriva,
+            8 => Form::Revs,
+            9 => Form::DataPrimaImm,
+            10 => Form::AnnoPrimaImm,
+            11 => Form::PosAssiStaz,
+            _ => Form::Word,
+        }
+    }
+}
+
+/// What a filled value of an entry must look like.
+#[derive(Clone, Debug, PartialEq, Eq)]
+pub struct Kind {
+    pub form: Form,
+    /// How many bytes a value has at most.
+    pub most: u32,
+    /// How many digits stand behind the point, 0 where there is none.
+    pub decimals: u32,
+    /// The words that the value may be, empty where it is no word.
+    pub words: Vec<String>,
+}
+
 /// Judges a whole set; the places have the pairs of all files that were read.
 pub fn judge(set: &Set, places: &mut Places) -> Result<Acceptance, Refusal> {
     answered(|answer| lent::judge(set, &mut places.0, answer)).map(|values| {
@@ -219,6 +279,25 @@ pub fn entry_name(file: u32, entry: u32) -> Result<EntryName, Refusal> {
 pub fn heading_name(file: u32, section: u32) -> Result<String, Refusal> {
     let mut output = [0; LONGEST_NAME];
     let [length, ..] = answered(|answer| lent::heading_name(file, section, &mut output, answer))?;
+    Ok(text_of(&output, length))
+}
+
+/// What a filled value of an entry must look like, entries numbered as in [`entry_name`].
+pub fn kind(file: u32, entry: u32) -> Result<Kind, Refusal> {
+    let [form, most, decimals, count, ..] = answered(|answer| lent::kind(file, entry, answer))?;
+    let words = (0..count).map(|number| word(file, entry, number));
+    Ok(Kind {
+        form: Form::from_number(form),
+        most,
+        decimals,
+        words: words.collect::<Result<_, _>>()?,
+    })
+}
+
+/// A word that an entry's value may be, numbered from 0 in the order of its list.
+fn word(file: u32, entry: u32, word: u32) -> Result<String, Refusal> {
+    let mut output = [0; LONGEST_NAME];
+    let [length, ..] = answered(|answer| lent::word(file, entry, word, &mut output, answer))?;
     Ok(text_of(&output, length))
 }
 

@@ -108,3 +108,20 @@ fn entries_and_headings_have_names() {
     );
     assert_eq!(mctc::heading_name(4, 10), Err(refusal(16, 4, 0)));
 }
+
+#[test]
+fn entries_have_kinds() {
+    let category = mctc::kind(1, 2).expect("CategoriaInternazionale");
+    assert_eq!((category.form, category.most), (mctc::Form::Word, 3));
+    assert_eq!(category.words.len(), 17);
+    assert_eq!(category.words.first().map(String::as_str), Some("M1"));
+    assert_eq!(category.words.last().map(String::as_str), Some("L7e"));
+    let carbon_monoxide = mctc::Kind {
+        form: mctc::Form::Fixed,
+        most: 5,
+        decimals: 3,
+        words: Vec::new(),
+    };
+    assert_eq!(mctc::kind(5, 46), Ok(carbon_monoxide));
+    assert_eq!(mctc::kind(5, 53), Err(refusal(16, 5, 0)));
+}

@@ -9,7 +9,7 @@ use crate::judge::{
 use crate::mutator;
 use crate::random::Random;
 use crate::reference::tables::{
-    entry_name, heading_name, table, AC2, DRIFT, GAS, IDENTIFICATION, SUSPENSION,
+    entry_name, entry_word, heading_name, table, AC2, DRIFT, GAS, IDENTIFICATION, SUSPENSION,
 };
 use crate::reference::PLACES;
 use crate::replay::to_text;
@@ -191,16 +191,13 @@ pub fn column_case(seed: u64) -> Case {
     }
 }
 
-/// Numbers that are no entry's and no section's in any file.
+/// Numbers that are no entry's, no section's and no word's in any file.
 const PAST_ALL: [u32; 5] = [64, 255, 256, 65_536, u32::MAX];
 
 /// Every name and heading, numbers past the last, and files that have none; the output too short, just long enough
 /// and longer.
 pub fn name_cases() -> Vec<Case> {
-    let files = (0..=IDENTIFICATION + 1).chain(PAST_ALL);
-    let numbers = || (0..60).chain(PAST_ALL);
-    let pairs = files.flat_map(|file| numbers().map(move |number| (file, number)));
-    pairs
+    files_and_numbers()
         .flat_map(|(file, number)| {
             let entry = entry_name(file, number).map_or(0, |(name, _)| name.len());
             let heading = heading_name(file, number).map_or(0, str::len);
@@ -216,13 +213,48 @@ pub fn name_cases() -> Vec<Case> {
             });
             entries.chain(headings)
         })
-        .map(|call| Case {
-            seed: 0,
-            call,
-            changes: Vec::new(),
-            known: None,
-        })
+        .map(case_of)
         .collect()
+}
+
+/// The kind of every entry, and numbers out of range as for names.
+pub fn kind_cases() -> Vec<Case> {
+    files_and_numbers()
+        .map(|(file, entry)| case_of(Call::Kind { file, entry }))
+        .collect()
+}
+
+/// Every word of every entry, numbers out of range and sizes of the output as for names.
+pub fn word_cases() -> Vec<Case> {
+    let words = |(file, entry)| (0..20).chain(PAST_ALL).map(move |word| (file, entry, word));
+    files_and_numbers()
+        .flat_map(words)
+        .flat_map(|(file, entry, word)| {
+            let length = entry_word(file, entry, word).map_or(0, |(word, _)| word.len());
+            output_sizes(length).map(move |size| Call::Word {
+                file,
+                entry,
+                word,
+                output: vec![OUTPUT_BEFORE; size],
+            })
+        })
+        .map(case_of)
+        .collect()
+}
+
+/// Files and numbers of entries or sections, in and out of range.
+fn files_and_numbers() -> impl Iterator<Item = (u32, u32)> {
+    let files = (0..=IDENTIFICATION + 1).chain(PAST_ALL);
+    files.flat_map(|file| (0..60).chain(PAST_ALL).map(move |number| (file, number)))
+}
+
+fn case_of(call: Call) -> Case {
+    Case {
+        seed: 0,
+        call,
+        changes: Vec::new(),
+        known: None,
+    }
 }
 
 /// Sizes of the output about the length of a name.
@@ -473,7 +505,7 @@ fn run_sort(
     Ok(())
 }
 
-/// Makes and compares so many calls of each sort, and those for every name and heading.
+/// Makes and compares so many calls of each sort, and those for every name, heading, kind and word.
 pub fn run_of(subject: &dyn Judge, amounts: Amounts) -> Result<Report, String> {
     let mut report = Report::default();
     let sets = (0..amounts.sets).map(|at| set_case(FIRST_SET + at));
@@ -506,8 +538,8 @@ pub fn run_of(subject: &dyn Judge, amounts: Amounts) -> Result<Report, String> {
         }
         Ok(())
     })?;
-    run_sort(subject, &mut report, name_cases().into_iter(), |_, _, _| {
-        Ok(())
-    })?;
+    for cases in [name_cases(), kind_cases(), word_cases()] {
+        run_sort(subject, &mut report, cases.into_iter(), |_, _, _| Ok(()))?;
+    }
     Ok(report)
 }

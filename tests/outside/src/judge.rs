@@ -1,7 +1,8 @@
 //! The calls, the trait that the judges implement, and one call made.
 
 use crate::reference::judging::{due_alone, judge_set, read_alone, Slices};
-use crate::reference::tables::{entry_name, heading_name};
+use crate::reference::kinds::shape;
+use crate::reference::tables::{entry_kind, entry_name, entry_word, heading_name};
 use crate::reference::writing::write_file;
 use crate::reference::{Refusal, PLACES};
 
@@ -53,8 +54,9 @@ pub trait Judge {
     /// Makes the call. The answer holds 01's number (0 for acceptance), file and line; with
     /// acceptance, from [3] on: axle counts of drift and suspension and the marks of drift,
     /// suspension and gas (judge), the axle count (read), the length (write), the axle count
-    /// and the number of entries (due), the length and the number of the section (names);
-    /// else 0. What comes back is the number.
+    /// and the number of entries (due), the length and the number of the section (names,
+    /// words), form, most bytes, decimals and words (kind); else 0. What comes back is the
+    /// number.
     fn answer(&self, call: &Call, lent: Arrays) -> u32;
 }
 
@@ -129,10 +131,17 @@ fn reference_result(
             let heading = heading_name(*file, *section);
             copy_name(*file, heading.map(|heading| (heading, *section)), output)
         }
+        Call::Kind { file, entry } => {
+            let kind = entry_kind(*file, *entry).ok_or(Refusal::new(16, *file, 0))?;
+            Ok(shape(kind).map(|number| number as u32).to_vec())
+        }
+        Call::Word {
+            file, entry, word, ..
+        } => copy_name(*file, entry_word(*file, *entry, *word), output),
     }
 }
 
-/// A name into the output; its length and the number of its section. 16 where there is none, 18 where the output is too
+/// A name or a word into the output; its length and the number of its section. 16 where there is none, 18 where the output is too
 /// short.
 fn copy_name(
     file: u32,
@@ -182,6 +191,16 @@ pub enum Call {
         section: u32,
         output: Vec<u8>,
     },
+    Kind {
+        file: u32,
+        entry: u32,
+    },
+    Word {
+        file: u32,
+        entry: u32,
+        word: u32,
+        output: Vec<u8>,
+    },
 }
 
 impl Call {
@@ -191,7 +210,10 @@ impl Call {
             Call::Judge { places, .. } | Call::Read { places, .. } => (places, &[], &[]),
             Call::Write { places, output, .. } => (places, &[], output),
             Call::Due { places, column, .. } => (places, column, &[]),
-            Call::EntryName { output, .. } | Call::HeadingName { output, .. } => (&[], &[], output),
+            Call::EntryName { output, .. }
+            | Call::HeadingName { output, .. }
+            | Call::Word { output, .. } => (&[], &[], output),
+            Call::Kind { .. } => (&[], &[], &[]),
         };
         Outcome {
             places: places.to_vec(),

@@ -31,6 +31,10 @@ impl Judge for Library {
             Call::HeadingName { file, section, .. } => {
                 lent::heading_name(*file, *section, output, answer)
             }
+            Call::Kind { file, entry } => lent::kind(*file, *entry, answer),
+            Call::Word {
+                file, entry, word, ..
+            } => lent::word(*file, *entry, *word, output, answer),
         }
     }
 }

@@ -68,13 +68,14 @@ fn run_all() -> Result<(), String> {
     let amounts = comparison::ONE_RUN.times(runs);
     let report = comparison::run_of(subject.as_ref(), amounts)?;
     println!(
-        "{}: agrees with the reference on {} sets, {} files read alone, {} writings, {} due columns, {} names and headings",
+        "{}: agrees with the reference on {} sets, {} files read alone, {} writings, {} due columns, {} names and headings, {} kinds and words",
         subject.name(),
         amounts.sets,
         amounts.reads,
         amounts.writes,
         amounts.columns,
-        report.names()
+        report.names(),
+        report.kinds()
     );
     report.print();
     println!("seconds: {:.1}", start.elapsed().as_secs_f64());

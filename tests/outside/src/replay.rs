@@ -5,6 +5,7 @@
 //! - `write text file axles | places | output size`
 //! - `due file ac2 text | places lent | column lent`
 //! - `entry_name file entry | output size`, `heading_name file section | output size`
+//! - `kind file entry`, `word file entry word | output size`
 //!
 //! Bytes as hexadecimal digits, `-` for none.
 
@@ -94,6 +95,13 @@ pub fn to_text(call: &Call) -> String {
             section,
             output,
         } => format!("heading_name {file} {section} | {}", output.len()),
+        Call::Kind { file, entry } => format!("kind {file} {entry}"),
+        Call::Word {
+            file,
+            entry,
+            word,
+            output,
+        } => format!("word {file} {entry} {word} | {}", output.len()),
     }
 }
 
@@ -164,6 +172,23 @@ pub fn from_text(line: &str) -> Result<Call, String> {
             Ok(Call::HeadingName {
                 file,
                 section,
+                output,
+            })
+        }
+        ("kind", [numbers]) => {
+            let (file, entry) = two_numbers(numbers)?;
+            Ok(Call::Kind { file, entry })
+        }
+        ("word", [numbers, size]) => {
+            let numbers = numbers_from_text(numbers)?;
+            let [file, entry, word] = *numbers.as_slice() else {
+                return Err("not file, entry and word".to_string());
+            };
+            let output = output(size)?;
+            Ok(Call::Word {
+                file,
+                entry,
+                word,
                 output,
             })
         }

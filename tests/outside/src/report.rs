@@ -26,7 +26,7 @@ const COLUMN_NOT_DUE: &str = "column, not due";
 const COLUMN_FREE: &str = "column, free";
 
 /// The calls and the numbers that each must reach.
-const CALLS: [(&str, &[usize]); 6] = [
+const CALLS: [(&str, &[usize]); 8] = [
     (
         "judge",
         &[0, 1, 2, 3, 4, 5, 6, 7, 8, 9, 10, 11, 12, 13, 14, 15],
@@ -36,12 +36,14 @@ const CALLS: [(&str, &[usize]); 6] = [
     ("due", &[0, 1, 3, 4, 5, 6, 7, 8, 9, 11, 16, 18]),
     ("entry name", &[0, 16, 18]),
     ("heading", &[0, 16, 18]),
+    ("kind", &[0, 16]),
+    ("word", &[0, 16, 18]),
 ];
 
 #[derive(Default)]
 pub struct Report {
     /// By call, then by number.
-    counts: [[u64; NUMBERS]; 6],
+    counts: [[u64; NUMBERS]; 8],
     /// How often each noted refusal was reached at each entry.
     reached: BTreeMap<&'static str, BTreeMap<EntryOf, u64>>,
     /// Written files that were read back.
@@ -164,6 +166,8 @@ impl Report {
             Call::Due { .. } => 3,
             Call::EntryName { .. } => 4,
             Call::HeadingName { .. } => 5,
+            Call::Kind { .. } => 6,
+            Call::Word { .. } => 7,
         };
         self.counts[which][refusal.number as usize] += 1;
         let (file, line) = (refusal.file, refusal.line);
@@ -212,7 +216,12 @@ impl Report {
 
     /// How many calls for names and headings were made.
     pub fn names(&self) -> u64 {
-        self.counts[4..].iter().flatten().sum()
+        self.counts[4..6].iter().flatten().sum()
+    }
+
+    /// How many calls for kinds and words were made.
+    pub fn kinds(&self) -> u64 {
+        self.counts[6..].iter().flatten().sum()
     }
 
     /// How often a noted refusal was reached at an entry.

@@ -1,7 +1,8 @@
 //! The runner itself: it finds the faults of wrong judges, and its calls can be made again.
 
 use outside::comparison::{
-    column_case, name_cases, read_case, run_of, set_case, write_case, Amounts,
+    column_case, kind_cases, name_cases, read_case, run_of, set_case, word_cases, write_case,
+    Amounts,
 };
 use outside::judge::{Arrays, Call, Judge, Reference};
 use outside::replay;
@@ -23,6 +24,8 @@ enum Fault {
     ColumnPastEntries,
     NameCut,
     HeadingOfFirstSection,
+    WiderByOne,
+    WordsFirstByte,
 }
 
 /// Enough to find each fault.
@@ -84,6 +87,8 @@ impl Judge for Wrong {
             }
             (Fault::NameCut, Call::EntryName { .. }) if accepted => answer[3] -= 1,
             (Fault::HeadingOfFirstSection, Call::HeadingName { .. }) => answer[4] = 0,
+            (Fault::WiderByOne, Call::Kind { .. }) if accepted => answer[4] += 1,
+            (Fault::WordsFirstByte, Call::Word { .. }) if accepted => output[0] = b'M',
             _ => {}
         }
         answer[0]
@@ -128,6 +133,8 @@ fn faults_are_found() {
         Fault::ColumnPastEntries,
         Fault::NameCut,
         Fault::HeadingOfFirstSection,
+        Fault::WiderByOne,
+        Fault::WordsFirstByte,
     ] {
         match run_of(&Wrong(fault), FEW) {
             Ok(_) => panic!("{fault:?} was not found"),
@@ -150,7 +157,8 @@ fn calls_as_text_come_back() {
             column_case(seed),
         ]
     });
-    for case in generated.chain(name_cases()) {
+    let listed = [name_cases(), kind_cases(), word_cases()];
+    for case in generated.chain(listed.into_iter().flatten()) {
         let again = replay::from_text(&replay::to_text(&case.call)).expect("a call");
         assert!(again == case.call, "seed {}", case.seed);
     }

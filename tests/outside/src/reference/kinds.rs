@@ -49,6 +49,35 @@ pub fn fits(kind: Kind, value: &[u8]) -> bool {
     }
 }
 
+/// A kind in numbers: its form, the most bytes, the digits behind the point, how many words it lists.
+pub fn shape(kind: Kind) -> [usize; 4] {
+    match kind {
+        Kind::Text(width) => [1, width, 0, 0],
+        Kind::Exact(width) => [2, width, 0, 0],
+        Kind::Number(width) => [3, width, 0, 0],
+        Kind::Decimal { decimals, width } => [4, width, decimals, 0],
+        Kind::Date => [5, "ddmmyyyy".len(), 0, 0],
+        Kind::Time => [6, "hhmmss".len(), 0, 0],
+        Kind::Drift => [7, "-99.99".len(), 2, 0],
+        Kind::Revs => [8, "#99999".len(), 0, 0],
+        Kind::FirstRegistration => [9, "ddmmyyyy".len(), 0, 0],
+        Kind::Year => [10, 4, 0, 0],
+        Kind::Axles => [11, 9, 0, 0],
+        Kind::Word(words) => {
+            let longest = words.iter().map(|word| word.len()).max();
+            [12, longest.unwrap_or(0), 0, words.len()]
+        }
+    }
+}
+
+/// The word of this number, from 0.
+pub fn word_of(kind: Kind, number: u32) -> Option<&'static str> {
+    match kind {
+        Kind::Word(words) => words.get(number as usize).copied(),
+        _ => None,
+    }
+}
+
 fn all_printable(value: &[u8]) -> bool {
     value.iter().all(|byte| is_printable(*byte))
 }

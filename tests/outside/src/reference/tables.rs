@@ -2,7 +2,7 @@
 
 use std::sync::OnceLock;
 
-use super::kinds::Kind;
+use super::kinds::{word_of, Kind};
 
 pub const AC2: u32 = 1;
 pub const ACC: u32 = 2;
@@ -46,9 +46,27 @@ impl Table {
 
 /// The name of an entry, numbered from 0 in the order of the file's pairs, and the number of its section.
 pub fn entry_name(file: u32, entry: u32) -> Option<(&'static str, u32)> {
+    let (entry, section) = entry_of(file, entry)?;
+    Some((&entry.name, section))
+}
+
+/// The kind of an entry, numbered likewise.
+pub fn entry_kind(file: u32, entry: u32) -> Option<Kind> {
+    let (entry, _) = entry_of(file, entry)?;
+    Some(entry.kind)
+}
+
+/// A word that an entry's value may be, numbered from 0, and the number of the entry's section.
+pub fn entry_word(file: u32, entry: u32, word: u32) -> Option<(&'static str, u32)> {
+    let (entry, section) = entry_of(file, entry)?;
+    Some((word_of(entry.kind, word)?, section))
+}
+
+/// An entry and the number of its section.
+fn entry_of(file: u32, entry: u32) -> Option<(&'static Entry, u32)> {
     let sections = sections_of(file).iter().zip(0..);
-    let mut entries = sections
-        .flat_map(|(section, at)| section.entries.iter().map(move |entry| (&*entry.name, at)));
+    let mut entries =
+        sections.flat_map(|(section, at)| section.entries.iter().map(move |entry| (entry, at)));
     entries.nth(entry as usize)
 }
 
