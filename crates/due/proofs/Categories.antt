@@ -29,12 +29,12 @@ abbrev pub mOrNNumber : ℕ → Bool
 mOrNNumber k = ltb k 6
 
 -- a test's answers for the numbers below n
-abbrev answers : (ℕ → Bool) → ℕ → List Bool
+abbrev pub answers : (ℕ → Bool) → ℕ → List Bool
 answers p zero = []
 answers p (suc n) = p 0 ∷ answers (λ k. p (suc k)) n
 
 -- tests with the same answers below n and from n on are equal
-same-test : (n : ℕ) (p q : ℕ → Bool) → answers p n ≡ answers q n → ((k : ℕ) → n ≤ k → p k ≡ q k) → (k : ℕ) → p k ≡ q k
+pub same-test : (n : ℕ) (p q : ℕ → Bool) → answers p n ≡ answers q n → ((k : ℕ) → n ≤ k → p k ≡ q k) → (k : ℕ) → p k ≡ q k
 same-test zero p q e o k = o k (omega arith)
 same-test (suc n) p q e o zero = cc
 same-test (suc n) p q e o (suc k) = same-test n (λ j. p (suc j)) (λ j. q (suc j)) (cc) (λ j h. o (suc j) (omega arith)) k

@@ -4,6 +4,8 @@ ghost use mathlib.Core.Bool.{_&&_};
 ghost use Prim.Native.Nat.{_+_, _*_, _<_, _≤_};
 ghost use lib.Dec.{ltb};
 ghost use lib.ListN.{length};
+ghost use Rattle.lines.specs.Bytes.{sameBytes};
+ghost use Rattle.lines.specs.Text.{bytes};
 ghost use Rattle.places.specs.Places.{placeSize, lengthOf, pairsAt};
 ghost use Rattle.tables.specs.File.{ac2, ofNumber};
 ghost use Rattle.due.specs.Values.{newValues, Held, NumberHeld, PairHeld};
@@ -239,7 +241,7 @@ fn condition_count(file: u32) -> usize
 }
 
 // What an entry hangs on, by its file's number and its place in entry order.
-fn condition_at(file: u32, entry: usize) -> Condition
+pub fn condition_at(file: u32, entry: usize) -> Condition
     ensures { λ r. ⌜ r ≡ conditionIn file entry ⌝ }
 {
     let start = first_condition(file);
@@ -250,7 +252,7 @@ fn condition_at(file: u32, entry: usize) -> Condition
 }
 
 // L1e, L2e, L6e
-fn is_moped(category: usize) -> bool
+pub fn is_moped(category: usize) -> bool
     ensures { λ r. ⌜ r ≡ isMoped category ⌝ }
 {
     match category {
@@ -260,7 +262,7 @@ fn is_moped(category: usize) -> bool
 }
 
 // L3e, L4e, L5e, L7e
-fn is_motorcycle(category: usize) -> bool
+pub fn is_motorcycle(category: usize) -> bool
     ensures { λ r. ⌜ r ≡ isMotorcycle category ⌝ }
 {
     match category {
@@ -279,7 +281,7 @@ pub fn is_l(category: usize) -> bool
     }
 }
 
-fn is_o(category: usize) -> bool
+pub fn is_o(category: usize) -> bool
     ensures { λ r. ⌜ r ≡ isO category ⌝ }
 {
     match category {
@@ -289,7 +291,7 @@ fn is_o(category: usize) -> bool
 }
 
 // M or N
-fn is_m_or_n(category: usize) -> bool
+pub fn is_m_or_n(category: usize) -> bool
     ensures { λ r. ⌜ r ≡ isMorN category ⌝ }
 {
     category < 6
@@ -305,7 +307,7 @@ pub fn is_petrol(fuel: Fuel) -> bool
     }
 }
 
-fn is_diesel(fuel: Fuel) -> bool
+pub fn is_diesel(fuel: Fuel) -> bool
     ensures { λ r. ⌜ r ≡ isDiesel fuel ⌝ }
 {
     match fuel {
@@ -458,7 +460,7 @@ pub fn first_not_as_due(
     i
 }
 
-fn fuel_of(value: &[u8]) -> Fuel
+pub fn fuel_of(value: &[u8]) -> Fuel
     ensures { λ r. ⌜ r ≡ fuelIn (now (value .entry)) ⌝ }
 {
     if lines::equal(value, b"BENZINA") {
@@ -470,7 +472,7 @@ fn fuel_of(value: &[u8]) -> Fuel
     Fuel::OtherFuel
 }
 
-fn version_of(value: &[u8]) -> Version
+pub fn version_of(value: &[u8]) -> Version
     ensures { λ r. ⌜ r ≡ versionIn (now (value .entry)) ⌝ }
 {
     if lines::equal(value, b"200") {
@@ -483,13 +485,20 @@ fn version_of(value: &[u8]) -> Version
 }
 
 // 91/441/CEE or later: by the place in the list of petrol directives, which is in order of time.
-fn is_late(value: &[u8]) -> bool
+pub fn is_late(value: &[u8]) -> bool
     ensures { λ r. ⌜ r ≡ isLate (now (value .entry)) ⌝ }
 {
     match kinds::word_index(PETROL_DIRECTIVES, value) {
         2..=3 => true,
         _ => false,
     }
+}
+
+// Whether a motorcycle's directive is NESSUNA.
+pub fn is_nessuna(directive: &[u8]) -> bool
+    ensures { λ r. ⌜ r ≡ sameBytes (now (directive .entry)) (bytes "NESSUNA") ⌝ }
+{
+    lines::equal(directive, b"NESSUNA")
 }
 
 // What AC2 says. Its pairs lie within its text, as reading it has made sure.
@@ -503,10 +512,7 @@ pub fn booking_of(text: &[u8], places: &[u32]) -> Booking
     );
     let fuel = fuel_of(places::value_of(text, places, pairs::AC2_ALIMENTAZIONE_1));
     let late = is_late(places::value_of(text, places, pairs::AC2_DIRETTIVA_BENZINA_AUTO));
-    let nessuna = lines::equal(
-        places::value_of(text, places, pairs::AC2_DIRETTIVA_MOTOCICLO),
-        b"NESSUNA",
-    );
+    let nessuna = is_nessuna(places::value_of(text, places, pairs::AC2_DIRETTIVA_MOTOCICLO));
     Booking {
         category,
         six: places::length_of(places, pairs::AC2_TARGA_NOMINALE) == 6,
@@ -523,6 +529,13 @@ pub fn is_serial(link: &[u8]) -> bool
     lines::equal(link, b"RS SENZA ESITO")
 }
 
+// Whether the rev counter's link is ESTERNO.
+pub fn is_external(link: &[u8]) -> bool
+    ensures { λ r. ⌜ r ≡ sameBytes (now (link .entry)) (bytes "ESTERNO") ⌝ }
+{
+    lines::equal(link, b"ESTERNO")
+}
+
 // The links at these pairs, with this version of the bench.
 fn links_at(k: LinkPairs, speedtest: Version, text: &[u8], places: &[u32]) -> Links
     requires { ⌜ PairHeld (now text) (now places) (k .link) × PairHeld (now text) (now places) (k .version) × PairHeld (now text) (now places) (k .counterlink) × PairHeld (now text) (now places) (k .counterversion) ⌝ }
@@ -530,7 +543,7 @@ fn links_at(k: LinkPairs, speedtest: Version, text: &[u8], places: &[u32]) -> Li
 {
     let serial = is_serial(places::value_of(text, places, k.link));
     let analyser = version_of(places::value_of(text, places, k.version));
-    let external = lines::equal(places::value_of(text, places, k.counterlink), b"ESTERNO");
+    let external = is_external(places::value_of(text, places, k.counterlink));
     let counter = version_of(places::value_of(text, places, k.counterversion));
     Links {
         serial,

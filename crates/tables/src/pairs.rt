@@ -54,6 +54,8 @@ pub const SUSPENSION_DIFFERENZA: usize = 61;
 
 pub const SUSPENSION_AXLE_PAIRS: usize = 3;
 
+pub const GAS_FIRST: usize = 86;
+
 pub const GAS_MARCA_ANALIZZATORE: usize = 86;
 
 pub const GAS_TIPO_ANALIZZATORE: usize = 87;

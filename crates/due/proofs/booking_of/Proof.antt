@@ -35,24 +35,21 @@ is-late-requires c κs = search needs
 value-of-requires-4 : tie.Need-value-of-requires-4
 value-of-requires-4 c κs = new-held _ _ (c .before .before .before .before .before .before .before .before .pre) 9 (lit< tt)
 
-slice-aggregate-equal : tie.Need-slice-aggregate-equal
-slice-aggregate-equal c = search needs
-
-equal-requires : tie.Need-equal-requires
-equal-requires c κs = search needs
+is-nessuna-requires : tie.Need-is-nessuna-requires
+is-nessuna-requires c κs = search needs
 
 length-of-requires : tie.Need-length-of-requires
-length-of-requires c κs = new-held _ _ (c .before .before .before .before .before .before .before .before .before .before .before .pre) 0 (lit< tt) .0
+length-of-requires c κs = new-held _ _ (c .before .before .before .before .before .before .before .before .before .before .pre) 0 (lit< tt) .0
 
 returns : tie.Need-returns
 returns c =
-    let s = c .before .before .before .before .before .before .before .before .before .before .before .before in
+    let s = c .before .before .before .before .before .before .before .before .before .before .before in
     let t = s .args .text .now in
     let p = s .args .places .now in
-    let q2 : c .before .before .before .before .before .before .before .before .word-index .result ≡ wordIndex (wordsOf 1) (valueOf t p 2) = rw (c .before .before .before .before .before .before .before .before .before .value-of .ensures) at (c .before .before .before .before .before .before .before .before .word-index .ensures) in
-    let q5 : c .before .before .before .before .before .before .fuel-of .result ≡ fuelIn (valueOf t p 5) = rw (c .before .before .before .before .before .before .before .value-of2 .ensures) at (c .before .before .before .before .before .before .fuel-of .ensures) in
-    let q8 : c .before .before .before .before .is-late .result ≡ isLate (valueOf t p 8) = rw (c .before .before .before .before .before .value-of3 .ensures) at (c .before .before .before .before .is-late .ensures) in
-    let q9 : c .before .equal .result ≡ sameBytes (valueOf t p 9) (bytes "NESSUNA") = rw (c .before .before .before .value-of4 .ensures) at (c .before .equal .ensures) in
+    let q2 : c .before .before .before .before .before .before .before .word-index .result ≡ wordIndex (wordsOf 1) (valueOf t p 2) = rw (c .before .before .before .before .before .before .before .before .value-of .ensures) at (c .before .before .before .before .before .before .before .word-index .ensures) in
+    let q5 : c .before .before .before .before .before .fuel-of .result ≡ fuelIn (valueOf t p 5) = rw (c .before .before .before .before .before .before .value-of2 .ensures) at (c .before .before .before .before .before .fuel-of .ensures) in
+    let q8 : c .before .before .before .is-late .result ≡ isLate (valueOf t p 8) = rw (c .before .before .before .before .value-of3 .ensures) at (c .before .before .before .is-late .ensures) in
+    let q9 : c .before .is-nessuna .result ≡ sameBytes (valueOf t p 9) (bytes "NESSUNA") = rw (c .before .before .value-of4 .ensures) at (c .before .is-nessuna .ensures) in
     let q0 : c .length-of .result ≡ length (valueOf t p 0) = c .length-of .ensures ∙ sym (value-length t (startOf p 0, lengthOf p 0) (new-held t p (s .pre) 0 (lit< tt) .1)) in
     rw (q2, q5, q8, q9, q0) (sym (booking-at t p))
 
@@ -67,7 +64,6 @@ booking-of-spec =
     value-of-requires-3
     is-late-requires
     value-of-requires-4
-    slice-aggregate-equal
-    equal-requires
+    is-nessuna-requires
     length-of-requires
     returns)

@@ -18,11 +18,8 @@ version-of-requires c κs = search needs
 value-of-requires-3 : tie.Need-value-of-requires-3
 value-of-requires-3 c κs = search needs
 
-slice-aggregate-equal : tie.Need-slice-aggregate-equal
-slice-aggregate-equal c = search needs
-
-equal-requires : tie.Need-equal-requires
-equal-requires c κs = search needs
+is-external-requires : tie.Need-is-external-requires
+is-external-requires c κs = search needs
 
 value-of-requires-4 : tie.Need-value-of-requires-4
 value-of-requires-4 c κs = search needs
@@ -32,9 +29,9 @@ version-of-requires-2 c κs = search needs
 
 returns : tie.Need-returns
 returns c =
-    let q = rw (c .before .before .before .before .before .before .before .before .value-of .ensures) at (c .before .before .before .before .before .before .before .is-serial .ensures) in
-    let r = rw (c .before .before .before .before .before .before .value-of2 .ensures) at (c .before .before .before .before .before .version-of .ensures) in
-    let s = rw (c .before .before .before .before .value-of3 .ensures) at (c .before .before .equal .ensures) in
+    let q = rw (c .before .before .before .before .before .before .before .value-of .ensures) at (c .before .before .before .before .before .before .is-serial .ensures) in
+    let r = rw (c .before .before .before .before .before .value-of2 .ensures) at (c .before .before .before .before .version-of .ensures) in
+    let s = rw (c .before .before .before .value-of3 .ensures) at (c .before .before .is-external .ensures) in
     let t = rw (c .before .value-of4 .ensures) at (c .version-of2 .ensures) in
     rw (q, r, s, t)
 
@@ -47,8 +44,7 @@ links-at-spec =
     value-of-requires-2
     version-of-requires
     value-of-requires-3
-    slice-aggregate-equal
-    equal-requires
+    is-external-requires
     value-of-requires-4
     version-of-requires-2
     returns)

@@ -1,0 +1,382 @@
+// Why an entry is due or not, and a file given or not (01, Due entries and row 11): what is asked of it, and the values
+// that decide, each with its file, its entry and the test that it must pass. Tests, too, are answered here, of a value alone.
+ghost use mathlib.Core.Path.{_≡_};
+ghost use Rattle.tables.specs.File.{gas};
+ghost use Rattle.due.specs.Conditions.{is200, is210};
+ghost use Rattle.rules.specs.Slices.{statedOf};
+ghost use Rattle.reasons.specs.Tests.{categoryIn, isTest, testOf, passesSome};
+ghost use Rattle.reasons.specs.Reasons.{reasonNumbers, reasonsOf};
+ghost use Rattle.reasons.specs.Asked.{askedNumber, entryAsked, entryReasons, fileAsked, fileReasons};
+use due::Condition;
+use due::Version;
+use kinds::numbers::CATEGORIES;
+use tables::AC2;
+use tables::ACC;
+use tables::DRIFT;
+use tables::GAS;
+use tables::SUSPENSION;
+use tables::pairs;
+
+// The numbers of the tests.
+const MOPED: u32 = 1;
+
+const MOTORCYCLE: u32 = 2;
+
+const M_OR_N: u32 = 3;
+
+const NOT_O: u32 = 4;
+
+const NOT_L: u32 = 5;
+
+const SIX_BYTES: u32 = 6;
+
+const PETROL: u32 = 7;
+
+const DIESEL: u32 = 8;
+
+const LATE_DIRECTIVE: u32 = 9;
+
+const NO_DIRECTIVE: u32 = 10;
+
+const SERIAL_LINK: u32 = 11;
+
+const EXTERNAL_COUNTER: u32 = 12;
+
+const VERSION_200: u32 = 13;
+
+const VERSION_210: u32 = 14;
+
+const NINE_STEM: u32 = 15;
+
+// The file of the identification answer.
+const IDENTIFICATION: u32 = 6;
+
+// Entries of AC2 and of gas, by their places in entry order: each its pair less the file's first.
+const PLATE: u32 = pairs::AC2_TARGA_NOMINALE as u32;
+
+const CATEGORY: u32 = pairs::AC2_CATEGORIA_INTERNAZIONALE as u32;
+
+const FUEL: u32 = pairs::AC2_ALIMENTAZIONE_1 as u32;
+
+const CAR_DIRECTIVE: u32 = pairs::AC2_DIRETTIVA_BENZINA_AUTO as u32;
+
+const MOTORCYCLE_DIRECTIVE: u32 = pairs::AC2_DIRETTIVA_MOTOCICLO as u32;
+
+const COUNTER_LINK: u32 = (pairs::GAS_TIPO_COLLEGAMENTO_CONTAGIRI - pairs::GAS_FIRST) as u32;
+
+const COUNTER_VERSION: u32 = (pairs::GAS_NUM_VERSIONE_PROTOCOLLO_CONTAGIRI
+    - pairs::GAS_FIRST) as u32;
+
+const BENCH_VERSION: u32 = (pairs::GAS_NUM_VERSIONE_PROTOCOLLO_PROVA_VELOCITA
+    - pairs::GAS_FIRST) as u32;
+
+const VERSION: u32 = (pairs::GAS_NUM_VERSIONE_PROTOCOLLO - pairs::GAS_FIRST) as u32;
+
+const LINK: u32 = (pairs::GAS_TIPO_COLLEGAMENTO - pairs::GAS_FIRST) as u32;
+
+fn category_of(value: &[u8]) -> usize
+    ensures { λ r. ⌜ r ≡ categoryIn (now (value .entry)) ⌝ }
+{
+    kinds::word_index(CATEGORIES, value)
+}
+
+fn is_200(version: Version) -> bool
+    ensures { λ r. ⌜ r ≡ is200 version ⌝ }
+{
+    match version {
+        Version::V200 => true,
+        Version::V210 => false,
+        Version::OtherVersion => false,
+    }
+}
+
+fn is_210(version: Version) -> bool
+    ensures { λ r. ⌜ r ≡ is210 version ⌝ }
+{
+    match version {
+        Version::V200 => false,
+        Version::V210 => true,
+        Version::OtherVersion => false,
+    }
+}
+
+fn has_nine(stem: &[u8]) -> bool
+    ensures { λ r. ⌜ r ≡ statedOf (now (stem .entry)) .nine ⌝ }
+{
+    let stated = rules::stated_of(stem);
+    stated.nine
+}
+
+// Whether there is a test of this number.
+pub fn is_test(test: u32) -> bool
+    ensures { λ r. ⌜ r ≡ isTest test ⌝ }
+{
+    match test {
+        1..=15 => true,
+        _ => false,
+    }
+}
+
+// Whether a value passes the test of this number; none passes where there is no such test.
+pub fn passes(test: u32, value: &[u8]) -> bool
+    ensures { λ r. ⌜ r ≡ passesSome (testOf test) (now (value .entry)) ⌝ }
+{
+    match test {
+        MOPED => due::is_moped(category_of(value)),
+        MOTORCYCLE => due::is_motorcycle(category_of(value)),
+        M_OR_N => due::is_m_or_n(category_of(value)),
+        NOT_O => !due::is_o(category_of(value)),
+        NOT_L => !due::is_l(category_of(value)),
+        SIX_BYTES => value.len() == 6,
+        PETROL => due::is_petrol(due::fuel_of(value)),
+        DIESEL => due::is_diesel(due::fuel_of(value)),
+        LATE_DIRECTIVE => due::is_late(value),
+        NO_DIRECTIVE => due::is_nessuna(value),
+        SERIAL_LINK => due::is_serial(value),
+        EXTERNAL_COUNTER => due::is_external(value),
+        VERSION_200 => is_200(due::version_of(value)),
+        VERSION_210 => is_210(due::version_of(value)),
+        NINE_STEM => has_nine(value),
+        _ => false,
+    }
+}
+
+// What a condition asks of its entries, as a number.
+fn asked_number(condition: Condition) -> u32
+    ensures { λ r. ⌜ r ≡ askedNumber condition ⌝ }
+{
+    match condition {
+        Condition::Always => 1,
+        Condition::Free => 3,
+        Condition::CodiceCIC => 4,
+        Condition::Alimentazione => 4,
+        Condition::DieselEntry => 4,
+        Condition::CarDirective => 4,
+        Condition::MotorcycleDirective => 4,
+        Condition::COMinAcc => 4,
+        Condition::ExternalCounter => 4,
+        Condition::SpeedTest => 4,
+        Condition::AnalyserKey => 4,
+        Condition::AnalyserChecksum => 4,
+        Condition::CounterKey => 4,
+        Condition::CounterChecksum => 4,
+        Condition::SpeedTestKey => 4,
+        Condition::SpeedTestChecksum => 4,
+    }
+}
+
+// What is asked of an entry: 1 due, 3 free, 4 due exactly when its reasons hold, 0 where there is no such entry.
+pub fn entry_asked(file: u32, entry: u32) -> u32
+    ensures { λ r. ⌜ r ≡ entryAsked file entry ⌝ }
+{
+    if (entry as usize) < tables::room(file) {
+        return asked_number(due::condition_at(file, entry as usize));
+    }
+    0
+}
+
+// What is asked of a file: 1 given, 3 free, 4 given exactly when its reasons hold, 5 only when they hold, 0 where there is
+// no such file.
+pub fn file_asked(file: u32) -> u32
+    ensures { λ r. ⌜ r ≡ fileAsked file ⌝ }
+{
+    match file {
+        AC2 => 1,
+        ACC => 5,
+        DRIFT => 3,
+        SUSPENSION => 3,
+        GAS => 4,
+        IDENTIFICATION => 4,
+        _ => 0,
+    }
+}
+
+// Four numbers for each of at most three reasons: its test, the file and the entry of its value, its group. Of a group
+// one reason must hold.
+const NO_REASONS: [u32; 12] = [0, 0, 0, 0, 0, 0, 0, 0, 0, 0, 0, 0];
+
+// Of gas, the file with links, whichever condition it is; conditions that look at AC2 alone have the same in every file.
+fn condition_reasons(condition: Condition) -> [u32; 12]
+    ensures { λ r. ⌜ r ≡ reasonNumbers (reasonsOf gas condition) ⌝ }
+{
+    match condition {
+        Condition::Always => NO_REASONS,
+        Condition::Free => NO_REASONS,
+        Condition::CodiceCIC => [
+            MOPED,
+            AC2,
+            CATEGORY,
+            1,
+            SIX_BYTES,
+            AC2,
+            PLATE,
+            2,
+            0,
+            0,
+            0,
+            0,
+        ],
+        Condition::Alimentazione => [NOT_O, AC2, CATEGORY, 1, 0, 0, 0, 0, 0, 0, 0, 0],
+        Condition::DieselEntry => [DIESEL, AC2, FUEL, 1, 0, 0, 0, 0, 0, 0, 0, 0],
+        Condition::CarDirective => [PETROL, AC2, FUEL, 1, M_OR_N, AC2, CATEGORY, 2, 0, 0, 0, 0],
+        Condition::MotorcycleDirective => [
+            PETROL,
+            AC2,
+            FUEL,
+            1,
+            MOTORCYCLE,
+            AC2,
+            CATEGORY,
+            2,
+            0,
+            0,
+            0,
+            0,
+        ],
+        Condition::COMinAcc => [
+            LATE_DIRECTIVE,
+            AC2,
+            CAR_DIRECTIVE,
+            1,
+            0,
+            0,
+            0,
+            0,
+            0,
+            0,
+            0,
+            0,
+        ],
+        Condition::ExternalCounter => [
+            EXTERNAL_COUNTER,
+            GAS,
+            COUNTER_LINK,
+            1,
+            0,
+            0,
+            0,
+            0,
+            0,
+            0,
+            0,
+            0,
+        ],
+        Condition::SpeedTest => [
+            MOPED,
+            AC2,
+            CATEGORY,
+            1,
+            NO_DIRECTIVE,
+            AC2,
+            MOTORCYCLE_DIRECTIVE,
+            1,
+            0,
+            0,
+            0,
+            0,
+        ],
+        Condition::AnalyserKey => [
+            VERSION_210,
+            GAS,
+            VERSION,
+            1,
+            SERIAL_LINK,
+            GAS,
+            LINK,
+            2,
+            0,
+            0,
+            0,
+            0,
+        ],
+        Condition::AnalyserChecksum => [
+            VERSION_200,
+            GAS,
+            VERSION,
+            1,
+            SERIAL_LINK,
+            GAS,
+            LINK,
+            2,
+            0,
+            0,
+            0,
+            0,
+        ],
+        Condition::CounterKey => [
+            VERSION_210,
+            GAS,
+            COUNTER_VERSION,
+            1,
+            EXTERNAL_COUNTER,
+            GAS,
+            COUNTER_LINK,
+            2,
+            0,
+            0,
+            0,
+            0,
+        ],
+        Condition::CounterChecksum => [
+            VERSION_200,
+            GAS,
+            COUNTER_VERSION,
+            1,
+            EXTERNAL_COUNTER,
+            GAS,
+            COUNTER_LINK,
+            2,
+            0,
+            0,
+            0,
+            0,
+        ],
+        Condition::SpeedTestKey => [
+            VERSION_210,
+            GAS,
+            BENCH_VERSION,
+            1,
+            MOPED,
+            AC2,
+            CATEGORY,
+            2,
+            NO_DIRECTIVE,
+            AC2,
+            MOTORCYCLE_DIRECTIVE,
+            2,
+        ],
+        Condition::SpeedTestChecksum => [
+            VERSION_200,
+            GAS,
+            BENCH_VERSION,
+            1,
+            MOPED,
+            AC2,
+            CATEGORY,
+            2,
+            NO_DIRECTIVE,
+            AC2,
+            MOTORCYCLE_DIRECTIVE,
+            2,
+        ],
+    }
+}
+
+// The reasons of an entry, by its file's number and its place in entry order.
+pub fn entry_reasons(file: u32, entry: u32) -> [u32; 12]
+    ensures { λ r. ⌜ r ≡ entryReasons file entry ⌝ }
+{
+    condition_reasons(due::condition_at(file, entry as usize))
+}
+
+// The reasons for which a file is given or not.
+pub fn file_reasons(file: u32) -> [u32; 12]
+    ensures { λ r. ⌜ r ≡ fileReasons file ⌝ }
+{
+    match file {
+        ACC => [NOT_L, AC2, CATEGORY, 1, NINE_STEM, 0, 0, 1, 0, 0, 0, 0],
+        GAS => [PETROL, AC2, FUEL, 1, 0, 0, 0, 0, 0, 0, 0, 0],
+        IDENTIFICATION => [SERIAL_LINK, GAS, LINK, 1, 0, 0, 0, 0, 0, 0, 0, 0],
+        _ => NO_REASONS,
+    }
+}
