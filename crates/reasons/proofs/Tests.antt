@@ -5,11 +5,13 @@ use mathlib.Core.Path.{_≡_, refl, ap, sym, _∙_}
 use mathlib.Core.Bool.{Bool, true, false, _&&_}
 use mathlib.Core.Option.{none}
 use mathlib.Core.List.{List}
-use borrow.Author.Tests.{lt-leb}
+use borrow.Author.Tests.{leb-true, lt-leb}
+use Rattle.lines.proofs.Bools.{and-left, and-right}
 use lib.Dec.{leb}
 use lib.ListN.{List·getD-eq-default}
 use Rattle.kinds.proofs.Laws.{NoneAfter, past-after}
 use Rattle.due.proofs.Categories.{same-test}
+use Rattle.reasons.specs.Asked.{isOfSeven}
 use Rattle.reasons.specs.Tests.{ValueTest, numberedTests, testOf, isSome, isTest, passesSome}
 
 no-test : (n : ℕ) → 16 ≤ n → testOf n ≡ none
@@ -33,3 +35,7 @@ none-passes (suc n) v r = rw (no-test (suc n) (past-after 1 15 (suc n) (omega ar
 -- what a value passes by the number, by the test
 pub passes-at : (m : ℕ) (v : List ℕ) {n : ℕ} {r : Bool} → n ≡ m → r ≡ passesSome (testOf m) v → r ≡ passesSome (testOf n) v
 passes-at m v e h = h ∙ ap (λ (k : ℕ). passesSome (testOf k) v) (sym e)
+
+-- the fields of the seven
+pub of-seven : (k : ℕ) → isOfSeven k ≡ true → (3 ≤ k) × (k ≤ 9)
+of-seven k e = (leb-true 3 k (and-left (leb 3 k) (leb k 9) e), leb-true k 9 (and-right (leb 3 k) (leb k 9) e))

@@ -1,16 +1,19 @@
 -- What is asked of an entry and of a file, by numbers: 1 always, 3 free, 4 exactly when its reasons hold, 5 only when they
 -- hold; 0 where there is no such entry or file (01, Due entries and row 11).
-use Prim.Native.Nat.{ℕ}
-use mathlib.Core.Bool.{Bool, true, cond, not, _||_}
-use mathlib.Core.List.{List, []}
-use lib.Dec.{eqb, ltb}
+use Prim.Native.Nat.{ℕ, _-_}
+use mathlib.Core.Bool.{Bool, true, cond, not, _&&_, _||_}
+use mathlib.Core.List.{List, [], map}
+use lib.Dec.{eqb, leb, ltb}
+use lib.ListN.{getD}
 use Rattle.tables.specs.File.{File, ac2, acc, drift, suspension, gas, ofNumber, room}
+use Rattle.tables.specs.Value.{placeOf}
 use Rattle.due.specs.Due.{conditionAt, conditionIn, when}
 use Rattle.due.specs.declared.Due.{Due}
 use Rattle.due.specs.declared.Due.the-variants.{IsDue, IsFree}
 use Rattle.due.specs.declared.Condition.{Condition}
 use Rattle.due.specs.declared.Condition.the-variants as Condition
 use Rattle.rules.specs.Slices.{exactly}
+use Rattle.rules.specs.Identification.{sevenNames}
 use Rattle.reasons.specs.Reasons.{Reason, reasonsOf, givenReasons, identificationReasons, reasonNumbers}
 
 -- ---- entries
@@ -64,3 +67,12 @@ fileAsked n = cond (eqb n 6) 4 (ofNumber 0 givenNumber n)
 
 unfoldable pub fileReasons : ℕ → List ℕ
 fileReasons n = reasonNumbers (cond (eqb n 6) identificationReasons (ofNumber [] givenReasons n))
+
+-- ---- fields of the identification answer, from 0: GAS, the address, ID, and the seven
+
+abbrev pub isOfSeven : ℕ → Bool
+isOfSeven k = leb 3 k && leb k 9
+
+-- the entry of gas whose value the field is
+unfoldable pub fieldEntry : ℕ → ℕ
+fieldEntry k = getD (map (placeOf gas) sevenNames) (k - 3) 0

@@ -1,12 +1,13 @@
 // Why an entry is due or not, and a file given or not (01, Due entries and row 11): what is asked of it, and the values
 // that decide, each with its file, its entry and the test that it must pass. Tests, too, are answered here, of a value alone.
 ghost use mathlib.Core.Path.{_≡_};
+ghost use Prim.Native.Nat.{_≤_};
 ghost use Rattle.tables.specs.File.{gas};
 ghost use Rattle.due.specs.Conditions.{is200, is210};
 ghost use Rattle.rules.specs.Slices.{statedOf};
 ghost use Rattle.reasons.specs.Tests.{categoryIn, isTest, testOf, passesSome};
 ghost use Rattle.reasons.specs.Reasons.{reasonNumbers, reasonsOf};
-ghost use Rattle.reasons.specs.Asked.{askedNumber, entryAsked, entryReasons, fileAsked, fileReasons};
+ghost use Rattle.reasons.specs.Asked.{askedNumber, entryAsked, entryReasons, fileAsked, fileReasons, isOfSeven, fieldEntry};
 use due::Condition;
 use due::Version;
 use kinds::numbers::CATEGORIES;
@@ -73,6 +74,17 @@ const BENCH_VERSION: u32 = (pairs::GAS_NUM_VERSIONE_PROTOCOLLO_PROVA_VELOCITA
 const VERSION: u32 = (pairs::GAS_NUM_VERSIONE_PROTOCOLLO - pairs::GAS_FIRST) as u32;
 
 const LINK: u32 = (pairs::GAS_TIPO_COLLEGAMENTO - pairs::GAS_FIRST) as u32;
+
+// The seven of the identification answer, in the order of its fields.
+const FIELDS: [u32; 7] = [
+    (pairs::GAS_MARCA_ANALIZZATORE - pairs::GAS_FIRST) as u32,
+    (pairs::GAS_TIPO_ANALIZZATORE - pairs::GAS_FIRST) as u32,
+    (pairs::GAS_NUM_OMOLOGA_ANALIZZATORE - pairs::GAS_FIRST) as u32,
+    (pairs::GAS_NUM_SERIE_ANALIZZATORE - pairs::GAS_FIRST) as u32,
+    (pairs::GAS_DATA_SCADENZA_ANALIZZATORE - pairs::GAS_FIRST) as u32,
+    (pairs::GAS_NUM_VERS_SOFTWARE_ANALIZZATORE - pairs::GAS_FIRST) as u32,
+    VERSION,
+];
 
 fn category_of(value: &[u8]) -> usize
     ensures { λ r. ⌜ r ≡ categoryIn (now (value .entry)) ⌝ }
@@ -379,4 +391,22 @@ pub fn file_reasons(file: u32) -> [u32; 12]
         IDENTIFICATION => [SERIAL_LINK, GAS, LINK, 1, 0, 0, 0, 0, 0, 0, 0, 0],
         _ => NO_REASONS,
     }
+}
+
+// Whether a field of the identification answer, counted from 0, is one of the seven that gas has too.
+pub fn is_of_seven(field: u32) -> bool
+    ensures { λ r. ⌜ r ≡ isOfSeven field ⌝ }
+{
+    match field {
+        3..=9 => true,
+        _ => false,
+    }
+}
+
+// The entry of gas whose value that field is.
+pub fn field_entry(field: u32) -> u32
+    requires { ⌜ (3 ≤ field) × (field ≤ 9) ⌝ }
+    ensures { λ r. ⌜ r ≡ fieldEntry field ⌝ }
+{
+    FIELDS[(field - 3) as usize]
 }

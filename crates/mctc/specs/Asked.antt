@@ -1,0 +1,64 @@
+-- What the calls that explain say (01, Due entries, Identification answer and row 11): no call of these judges, they give what
+-- the judge goes by.
+use Prim.Native.Nat.{ℕ}
+use mathlib.Core.Path.{_≡_}
+use mathlib.Core.Bool.{cond}
+use mathlib.Core.List.{List, [], _∷_}
+use lib.Dec.{eqb}
+use Rattle.serial.specs.Reading.{Ordered, readIdentification}
+use Rattle.serial.specs.declared.FieldEnds.{FieldEnds}
+use Rattle.serial.specs.declared.IdentificationRead.{IdentificationRead}
+use Rattle.serial.specs.declared.IdentificationRead.the-variants.{Malformed, Fields}
+use Rattle.reasons.specs.Tests.{isTest, testOf, passesSome}
+use Rattle.reasons.specs.Asked.{entryAsked, entryReasons, fileAsked, fileReasons, isOfSeven, fieldEntry}
+use Rattle.mctc.specs.Answers.{markNumber}
+use Rattle.mctc.specs.Calls.{returned, answerAfter}
+
+-- 16, "no such file": with the file as handed in
+abbrev pub noSuch : ℕ → List ℕ
+noSuch file = 16 ∷ file ∷ 0 ∷ []
+
+abbrev pub accepted : List ℕ → List ℕ
+accepted ns = 0 ∷ 0 ∷ 0 ∷ ns
+
+-- what is asked, and for which reasons; 16 where nothing is
+abbrev pub askedNumbers : ℕ → ℕ → List ℕ → List ℕ
+askedNumbers file asked reasons = cond (eqb asked 0) (noSuch file) (accepted (asked ∷ reasons))
+
+abbrev pub conditionNumbers : ℕ → ℕ → List ℕ
+conditionNumbers file k = askedNumbers file (entryAsked file k) (entryReasons file k)
+
+abbrev pub fileNumbers : ℕ → List ℕ
+fileNumbers file = askedNumbers file (fileAsked file) (fileReasons file)
+
+-- whether a value passes a test
+abbrev pub testNumbers : ℕ → List ℕ → List ℕ
+testNumbers test v = cond (isTest test) (accepted (markNumber (passesSome (testOf test) v) ∷ [])) (noSuch 0)
+
+-- where each of the ten fields of the identification answer ends
+abbrev pub endNumbers : FieldEnds → List ℕ
+endNumbers e =
+    accepted
+    (e .gas ∷ e .address ∷ e .id ∷ e .mar ∷ e .model ∷ e .numom ∷ e .numser ∷ e .datasca ∷ e .numver ∷ e .vermctcnet ∷ [])
+
+-- 14 where it is not of the form
+abbrev pub fieldNumbers : IdentificationRead → List ℕ
+fieldNumbers Malformed = 14 ∷ 6 ∷ 0 ∷ []
+fieldNumbers (Fields e) = endNumbers e
+
+-- they are places of at most 512 bytes
+abbrev pub EndsFit : IdentificationRead → Type 0
+EndsFit Malformed = Unit {0}
+EndsFit (Fields e) = Ordered 512 e
+
+abbrev pub identificationNumbers : List ℕ → List ℕ
+identificationNumbers s = fieldNumbers (readIdentification s)
+
+-- the entry of gas whose value a field of the seven is
+abbrev pub entryNumbers : ℕ → List ℕ
+entryNumbers field = cond (isOfSeven field) (accepted (fieldEntry field ∷ [])) (noSuch 0)
+
+-- a call that lends nothing but the answer array: a before, b after
+pub record AskCall (ns a b : List ℕ) (r : ℕ) : Type 0 where
+  pub number : r ≡ returned ns a
+  pub answer : b ≡ answerAfter ns a
