@@ -33,4 +33,4 @@ pairOf f n = firstPair f + placeOf f n
 
 -- pair k is there, and lies within the text
 abbrev pub PairHeld : List ℕ → List ℕ → ℕ → Type 0
-PairHeld t p k = (placeSize * k + 1 < length p) × (startOf p k + lengthOf p k ≤ length t)
+PairHeld t p k = (placeSize * (k + 1) ≤ length p) × (startOf p k + lengthOf p k ≤ length t)

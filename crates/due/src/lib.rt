@@ -421,7 +421,7 @@ fn is_as_due(condition: Condition, c: Conditions, filled: bool) -> bool
 }
 
 fn is_filled(places: &[u32], k: usize) -> bool
-    requires { ⌜ placeSize * k + 1 < length (now places) ⌝ }
+    requires { ⌜ placeSize * (k + 1) ≤ length (now places) ⌝ }
     ensures { λ r. ⌜ r ≡ ltb 0 (lengthOf (now (places .entry)) k) ⌝ }
 {
     0 < places::length_of(places, k)

@@ -62,7 +62,7 @@ module _ (ks : List (Option Kind)) (xs : List Pair) (first : ℕ) (p : List ℕ)
           }
 
       module _ (k : Kind) (h : getD ks r none ≡ some k) where
-        pub pairing-room : placeSize * (first + length (ofEntries ks xs)) ≤ length p → placeSize * e + 1 < length q
+        pub pairing-room : placeSize * (first + length (ofEntries ks xs)) ≤ length p → placeSize * (e + 1) ≤ length q
         pairing-room m = omega (arith, w .left, w .all, ap length (entries-put ks xs (0, 0) r lk lx k h))
 
         pub pairing-put : Pairing ks xs first p (setPair e (getD xs r (0, 0)) q) (e + 1) (r + 1)

@@ -9,7 +9,7 @@ const PLACE_SIZE: usize = 2;
 
 // The start of pair k.
 pub fn start_of(places: &[u32], k: usize) -> u32
-    requires { ⌜ placeSize * k + 1 < length (now places) ⌝ }
+    requires { ⌜ placeSize * (k + 1) ≤ length (now places) ⌝ }
     ensures { λ r. ⌜ r ≡ startOf (now (places .entry)) k ⌝ }
 {
     places[PLACE_SIZE * k]
@@ -17,7 +17,7 @@ pub fn start_of(places: &[u32], k: usize) -> u32
 
 // The length of pair k.
 pub fn length_of(places: &[u32], k: usize) -> u32
-    requires { ⌜ placeSize * k + 1 < length (now places) ⌝ }
+    requires { ⌜ placeSize * (k + 1) ≤ length (now places) ⌝ }
     ensures { λ r. ⌜ r ≡ lengthOf (now (places .entry)) k ⌝ }
 {
     places[PLACE_SIZE * k + 1]
@@ -25,7 +25,7 @@ pub fn length_of(places: &[u32], k: usize) -> u32
 
 // Pair k becomes this start and this length.
 pub fn set_pair(places: &mut [u32], k: usize, start: u32, size: u32)
-    requires { ⌜ placeSize * k + 1 < length (now places) ⌝ }
+    requires { ⌜ placeSize * (k + 1) ≤ length (now places) ⌝ }
     ensures { λ _. ⌜ now (places .exit) ≡ setPair k (start, size) (now (places .entry)) ⌝ }
 {
     places[PLACE_SIZE * k] = start;
@@ -34,7 +34,7 @@ pub fn set_pair(places: &mut [u32], k: usize, start: u32, size: u32)
 
 // The value that pair k names, which lies within the text.
 pub fn value_of<'a>(text: &'a [u8], places: &[u32], k: usize) -> &'a [u8]
-    requires { ⌜ (placeSize * k + 1 < length (now places)) × (startOf (now places) k + lengthOf (now places) k ≤ length (now text)) ⌝ }
+    requires { ⌜ (placeSize * (k + 1) ≤ length (now places)) × (startOf (now places) k + lengthOf (now places) k ≤ length (now text)) ⌝ }
     ensures { λ r. ⌜ now r ≡ valueOf (now (text .entry)) (now (places .entry)) k ⌝ }
 {
     let start = start_of(places, k) as usize;

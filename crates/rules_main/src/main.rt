@@ -106,7 +106,7 @@ fn entry_count(file: u32, axles: usize) -> usize
 }
 
 fn pair_within(text: &[u8], places: &[u32], k: usize) -> bool
-    requires { ⌜ placeSize * k + 1 < length (now places) ⌝ }
+    requires { ⌜ placeSize * (k + 1) ≤ length (now places) ⌝ }
     ensures { λ r. ⌜ (r ≡ true → Within (now (text .entry)) (pairsAt (now (places .entry)) k 1)) ⌝ }
 {
     let start = places::start_of(places, k) as usize;
@@ -234,7 +234,7 @@ fn differs(due: Due, filled: bool) -> bool {
 }
 
 fn show_entry(due: Due, text: &[u8], places: &[u32], k: usize)
-    requires { ⌜ placeSize * k + 1 < length (now places) ⌝ }
+    requires { ⌜ placeSize * (k + 1) ≤ length (now places) ⌝ }
 {
     let filled = 0 < places::length_of(places, k);
     print_due(due);

@@ -99,7 +99,7 @@ module _ {wrong : Kind → Pair → Bool} {number : ℕ} {t : List (Option Kind)
           same = h .same ∙ check-heading wrong number (take count t) p r k i w;
         }
 
-    pub turn-room : {x : ℕ} → EntryRow t count r x → placeSize * k + 1 < length p
+    pub turn-room : {x : ℕ} → EntryRow t count r x → placeSize * (k + 1) ≤ length p
     turn-room e = omega (arith, h .room, entry-room t count (h .most) e)
 
     pub turn-entry : {x : ℕ} → EntryRow t count r x → wrong (kindOf x) (startOf p k, lengthOf p k) ≡ false → Turn wrong number t count p first (r + 1) (k + 1)

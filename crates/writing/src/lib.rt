@@ -65,7 +65,7 @@ fn is_right(file: u32, axles: u32) -> bool
 
 // Number 17: whether start plus length of pair k is above the text's length.
 fn is_outside(text: &[u8], places: &[u32], k: usize) -> bool
-    requires { ⌜ placeSize * k + 1 < length (now places) ⌝ }
+    requires { ⌜ placeSize * (k + 1) ≤ length (now places) ⌝ }
     ensures { λ r. ⌜ r ≡ ltb (length (now (text .entry))) (startOf (now (places .entry)) k + lengthOf (now (places .entry)) k) ⌝ }
 {
     let start = places::start_of(places, k) as usize;
