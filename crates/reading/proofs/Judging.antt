@@ -1,33 +1,17 @@
 -- What the checks after a scan answer, one after the other, and with the scan before them. Assumes nothing.
-use Prim.Native.Nat.{ℕ, _+_, _<_, _≤_}
+use Prim.Native.Nat.{ℕ, _<_, _≤_}
 use mathlib.Core.Path.{_≡_, ap, sym, _∙_}
-use mathlib.Core.Bool.{false, not}
-use mathlib.Core.Option.{none}
 use mathlib.Core.List.{List}
 use native.Mathlib.Omega.{arith}
-use lib.ListN.{length, getD, length-replicate}
+use lib.ListN.{length, length-replicate}
 use borrow.Author.Tests.{le-leb, lt-leb}
-use Rattle.kinds.specs.Value.{kindKept}
-use Rattle.places.specs.Places.{valueAt}
 use Rattle.tables.specs.Section.{Section}
-use Rattle.tables.specs.Row.{entriesIn, entryAt, rowCount, rowsBefore, rowKinds}
+use Rattle.tables.specs.Row.{rowCount, rowsBefore, rowKinds}
 use Rattle.reading.specs.Tables.{mostBytes}
-use Rattle.reading.specs.Reading.{Slots, emptySlots, stopped, scanned, passes, fails, sectionsFound, checkGap, checkAbsent, isWrong, checkKinds, Reading, refused, readSlots, judgeSlots, readScan, readText}
+use Rattle.reading.specs.Reading.{Slots, emptySlots, stopped, scanned, passes, fails, sectionsFound, checkGap, checkAbsent, checkKinds, Reading, refused, readSlots, judgeSlots, readScan, readText}
 use Rattle.reading.specs.Scanning.{Ready, Scanned}
-use Rattle.reading.proofs.Lookup.{heading-kind, entry-kind}
 use Rattle.lines.specs.Bytes.{allPrintable}
 use Rattle.reading.proofs.Reduce.{empty-at}
-
--- ---- the test of a row's value
-
-pub wrong-heading : (t : List Section) (s : List ℕ) (a : Slots) (c : ℕ) → c < length t → isWrong (rowKinds t) s a (rowsBefore t c) ≡ false
-wrong-heading t s a c l = rw (heading-kind t c l)
-
-pub wrong-entry : (t : List Section) (s : List ℕ) (a : Slots) (c i r : ℕ) → c < length t → i < length (entriesIn t c) → r ≡ rowsBefore t c + 1 + i
-    → isWrong (rowKinds t) s a r ≡ not (kindKept (entryAt t c i .kind) (valueAt s (getD (a .starts) r 0, getD (a .lengths) r 0)))
-wrong-entry t s a c i r l m e =
-    let k = ap (λ (n : ℕ). getD (rowKinds t) n none) e ∙ entry-kind t c i l m in
-    rw k
 
 -- ---- the checks in their order
 

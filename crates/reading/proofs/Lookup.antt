@@ -11,11 +11,10 @@ use lib.Seq.{getD-append-add}
 use borrow.Author.Tests.{ltb-true, ltb-false}
 use Rattle.lines.specs.Bytes.{sameBytes}
 use Rattle.lines.proofs.Bools.{clash}
-use Rattle.kinds.specs.Kind.{Kind}
 use Rattle.kinds.specs.Value.{wordIndex}
-use Rattle.tables.specs.Section.{Entry, Section}
-use Rattle.tables.specs.Row.{noEntry, noSection, headings, names, headingAt, entriesIn, entryAt, indexOf, sectionOf, entryIn, rowCount, rowsBefore, rowAt, rowKinds}
-use Rattle.tables.proofs.Rows.{kinds-count, rows-le}
+use Rattle.tables.specs.Section.{Section}
+use Rattle.tables.specs.Row.{noSection, headings, names, headingAt, entriesIn, indexOf, sectionOf, entryIn, rowCount, rowsBefore, rowAt, rowKinds}
+use Rattle.tables.proofs.Rows.{rows-le}
 use Rattle.orders.specs.AnyOrder.{Name}
 use Rattle.orders.specs.Rows.{Row, headingRow, entryRow, rows, rowNumber}
 use Rattle.orders.proofs.Rows.{Case, case-bytes, Apart, Distinct}
@@ -23,7 +22,7 @@ use Rattle.orders.proofs.Assign.{number-past}
 use Rattle.orders.proofs.Sound.{distinct-headings}
 use Rattle.orders.proofs.Places.{number-at, entryPlace, headingOf, namesOf, rows-entry, number-apart, no-name, rows-append}
 use Rattle.reading.specs.Fitting.{nameTable}
-use Rattle.reading.specs.Reading.{headingRowOf, entryRowOf, lastOf, ownerRow}
+use Rattle.reading.specs.Reading.{headingRowOf, entryRowOf}
 
 -- ---- the place of a name
 
@@ -214,47 +213,3 @@ heading-none (x ∷ t) (suc c) l = heading-none t c (omega arith)
 
 pub heading-found : (t : List Section) (h : Name) → sectionOf t h < length t → headingAbove t (sectionOf t h) ≡ some h
 heading-found t h l = heading-some t (sectionOf t h) l ∙ ap some (index-inv h (headings t) (rw length-map l))
-
--- ---- from a row back to its section
-
-pub heading-kind : (t : List Section) (c : ℕ) → c < length t → getD (rowKinds t) (rowsBefore t c) none ≡ none
-unfolding rowCount
-heading-kind [] c l = absurd (omega arith)
-heading-kind (x ∷ t) zero l = refl
-heading-kind (x ∷ t) (suc c) l =
-    let m = map (λ e. some (e .kind)) (x .entries) in
-    let n : length (x .entries) ≡ length m = simp length-map in
-    rw n (getD-append-add m (rowKinds t) (rowsBefore t c) none ∙ heading-kind t c (omega arith))
-
--- the kind of entry i of a list, with other rows behind
-kind-in : (es : List Entry) (ks : List (Option Kind)) (i : ℕ) → i < length es → getD (map (λ e. some (e .kind)) es ++ ks) i none ≡ some (getD es i noEntry .kind)
-kind-in [] ks i l = absurd (omega arith)
-kind-in (e ∷ es) ks zero l = refl
-kind-in (e ∷ es) ks (suc i) l = kind-in es ks i (omega arith)
-
--- the kind of entry i of section c, by its row
-pub entry-kind : (t : List Section) (c i : ℕ) → c < length t → i < length (entriesIn t c) → getD (rowKinds t) (rowsBefore t c + 1 + i) none ≡ some (entryAt t c i .kind)
-unfolding rowCount
-entry-kind [] c i l m = absurd (omega arith)
-entry-kind (x ∷ t) zero i l m =
-    let q : 0 + 1 + i ≡ suc i = omega arith in
-    rw q (kind-in (x .entries) (rowKinds t) i m)
-entry-kind (x ∷ t) (suc c) i l m =
-    let k = map (λ e. some (e .kind)) (x .entries) in
-    let q : suc (length (x .entries) + rowsBefore t c) + 1 + i ≡ suc (length k + (rowsBefore t c + 1 + i)) = simp length-map (omega arith) in
-    rw q (getD-append-add k (rowKinds t) (rowsBefore t c + 1 + i) none ∙ entry-kind t c i (omega arith) m)
-
-owner-in : (t : List Section) (c i r : ℕ) → c < length t → r ≡ rowsBefore t c + i → i ≤ length (entriesIn t c) → ownerRow (rowKinds t) r ≡ rowsBefore t c
-unfolding ownerRow
-owner-in t c i zero l e m = omega arith
-owner-in t c zero (suc r) l e m =
-    let q : getD (rowKinds t) (suc r) none ≡ none = ap (λ (n : ℕ). getD (rowKinds t) n none) (e ∙ omega arith) ∙ heading-kind t c l in
-    ap (λ (k : Option Kind). lastOf k (suc r) (ownerRow (rowKinds t) r)) q ∙ omega arith
-owner-in t c (suc i) (suc r) l e m =
-    let q : getD (rowKinds t) (suc r) none ≡ some (entryAt t c i .kind) =
-    ap (λ (n : ℕ). getD (rowKinds t) n none) (e ∙ omega arith) ∙ entry-kind t c i l (omega arith) in
-    ap (λ (k : Option Kind). lastOf k (suc r) (ownerRow (rowKinds t) r)) q ∙ owner-in t c i r l (omega arith) (omega arith)
-
--- the rows of section c stand under its heading
-pub owner-at : (t : List Section) (c r : ℕ) → c < length t → rowsBefore t c ≤ r → r < rowsBefore t (suc c) → ownerRow (rowKinds t) r ≡ rowsBefore t c
-owner-at t c r l p q = owner-in t c (r - rowsBefore t c) r l (omega arith) (omega (arith, rows-next t c l))
