@@ -20,7 +20,8 @@ use Rattle.files.specs.declared.FileAnswer.the-variants as FileAnswer
 use Rattle.files.proofs.Pairs.{same-file, AloneRead, refused-inv, short-inv, alone-length, alone-pairs, alone-cleared}
 use Rattle.due.specs.Booking.{bookingIn}
 use Rattle.due.specs.declared.Booking.{Booking}
-use Rattle.due.specs.Values.{pairsOf, newValues, Held}
+use Rattle.tables.specs.Value.{pairsOf}
+use Rattle.due.specs.Values.{newValues, Held}
 use Rattle.due.proofs.Pairs.{new-count}
 use Rattle.columns.specs.Column.{Outcome, refuses, gives, givesBeside, givesAfter, fitting, dueColumn, placesOf, Gives}
 use Rattle.columns.specs.declared.ColumnAcceptance.{ColumnAcceptance}

@@ -6,7 +6,7 @@ use mathlib.Core.Bool.{Bool, true, false, cond}
 use mathlib.Core.List.{List, [], _++_, map}
 use lib.ListN.{length, drop}
 use borrow.Author.Tests.{le-leb, lt-leb}
-use Rattle.refusals.specs.Refusals.{numberOf}
+use Rattle.refusals.specs.Refusals.{numberOf, refusalWith}
 use Rattle.refusals.specs.Answer.{refusal, acceptance}
 use Rattle.refusals.specs.declared.Refusal.{Refusal}
 use Rattle.refusals.specs.declared.RefusalKind.the-variants.{OutputTooShort}
@@ -112,7 +112,7 @@ module _ (file : ℕ) (t p q : List ℕ) (n : ℕ) (x : AloneRead file t p q n) 
     many = column-size a ∙ sym em
 
     pub too-short : length out < m → (k : ℕ) → k ≡ leastPlaces
-        → Gives file (fitting file (length out) (givesRead file a t (readAlone file t))) p (cleared k q) out out (Refused (record { kind = OutputTooShort; file = file; line = 0 }))
+        → Gives file (fitting file (length out) (givesRead file a t (readAlone file t))) p (cleared k q) out out (Refused (refusalWith OutputTooShort file 0))
     too-short l k ek =
         let o : fitting file (length out) (givesRead file a t (readAlone file t)) ≡ refuses 18 file 0
         = ap (fitting file (length out)) (outcome-is a)

@@ -29,7 +29,7 @@ use Rattle.kinds.specs.Value.{wordIndex}
 use Rattle.tables.specs.Row.{names, indexOf}
 use Rattle.tables.proofs.Files.{of-file}
 use Rattle.due.specs.Booking.{bookingIn}
-use Rattle.due.specs.Values.{valuesOf}
+use Rattle.tables.specs.Value.{valuesOf}
 use Rattle.due.specs.Conditions.{noLinks, linksOf, linksNumbered, withLinks, conditionsOf}
 use Rattle.due.specs.Due.{NamedCondition, exceptions, conditionOf, fixedConditions, conditionAt, conditionIn, dueOf, dueIn}
 use Rattle.due.specs.Table.{conditionTable, firstCondition, fixedCount}

@@ -11,27 +11,14 @@ use Rattle.places.specs.Places.{startOf, lengthOf, pairsAt, valueAt, valueOf, W
 use Rattle.places.proofs.Values.{within-at}
 use Rattle.tables.specs.Section.{entriesOf}
 use Rattle.tables.specs.Entries.{newBooking, oldBooking, tester, protocol, measurement, sixteen, driftAxle, suspensionAxle, analyser, counter, speedTest, allKeyDates, allKeyBodies, analysis, fuelAnalysis}
-use Rattle.tables.specs.File.{File, ac2, acc, drift, suspension, gas, fixedSections, axleEntries, axlesFrom, axleSections, sections, entries, room, rooms, firstPair, leastPlaces, fileNumber, ofNumber}
-use Rattle.tables.specs.Value.{placeOf, axlePlaceOf}
+use Rattle.tables.specs.File.{File, ac2, acc, drift, suspension, gas, fixedSections, axleEntries, axlesFrom, axleSections, sections, entries, room, rooms, firstPair, leastPlaces, fileNumber, ofNumber, mostAxles}
+use Rattle.tables.specs.Value.{placeOf, axlePlaceOf, valuesOf}
 use Rattle.tables.proofs.Numbers.{first-pairs, room-in}
 use Rattle.tables.proofs.Axles.{entries-length, entries-most}
 use Rattle.tables.proofs.Files.{of-file, of-any, of-map}
-use Rattle.due.specs.Values.{valuesOf, pairOf, Held, NumberHeld, PairHeld}
+use Rattle.due.specs.Values.{pairOf, Held, NumberHeld, PairHeld}
 
 -- ---- the numbers of `tables::pairs`, by the names of their entries
-
-pub ac2-pairs : map (pairOf ac2) (
-    "TargaNominale" ∷ "TipoVeicolo" ∷ "CategoriaInternazionale" ∷ "DataPrimaImm" ∷ "Alimentazione_1" ∷ "Turbo" ∷ "CorrettorePressione" ∷
-    "DirettivaEmissioniGasBenzinaAuto" ∷ "DirettivaEmissioniGasMotociclo" ∷ "AzionamentoFrenoStazionamento" ∷ "PosAssiStaz" ∷ [])
-    ≡ 0 ∷ 1 ∷ 2 ∷ 4 ∷ 5 ∷ 6 ∷ 7 ∷ 8 ∷ 9 ∷ 10 ∷ 11 ∷ []
-unfolding placeOf wordIndex sameBytes entries sections fixedSections axleSections entriesOf newBooking firstPair rooms
-ac2-pairs = refl
-
-pub acc-pairs : map (pairOf acc) (
-    "TipoVeicolo" ∷ "DescrizioneVeicolo" ∷ "AnnoPrimaImm" ∷ "Alimentazione_1" ∷ "FrenoStazionamento" ∷ "NumAssiStazionamento" ∷ [])
-    ≡ 12 ∷ 13 ∷ 14 ∷ 15 ∷ 16 ∷ 17 ∷ []
-unfolding placeOf wordIndex sameBytes entries sections fixedSections axleSections entriesOf newBooking oldBooking firstPair rooms room
-acc-pairs = refl
 
 pub drift-pairs : pairOf drift "CodErrore" ≡ 29
 unfolding placeOf wordIndex sameBytes entries sections fixedSections axleSections axlesFrom entriesOf newBooking oldBooking sixteen tester protocol measurement firstPair rooms room
@@ -92,7 +79,7 @@ value-at t p a (suc n) (suc k) l =
 pub value-held : (f : File) (n : ℕ) (t p : List ℕ) (k m : ℕ) → k < length (entries f n) → firstPair f + k ≡ m → getD (valuesOf f n t p) k [] ≡ valueOf t p m
 value-held f n t p k m l e = value-at t p (firstPair f) (length (entries f n)) k l ∙ ap (valueOf t p) e
 
-pub pair-held : (f : File) (n : ℕ) (t p : List ℕ) (k m : ℕ) → n ≤ 9 → Held f n t p → k < length (entries f n) → firstPair f + k ≡ m → PairHeld t p m
+pub pair-held : (f : File) (n : ℕ) (t p : List ℕ) (k m : ℕ) → n ≤ mostAxles → Held f n t p → k < length (entries f n) → firstPair f + k ≡ m → PairHeld t p m
 unfolding leastPlaces
 pair-held f n t p k m l h i e =
     let c : startOf p (firstPair f + k) + lengthOf p (firstPair f + k) ≤ length t = within-at t p (firstPair f) (length (entries f n)) k (h .1) i in
@@ -108,7 +95,7 @@ module _ (t p : List ℕ) where
   pub gas-held : Held gas 0 t p → (k : ℕ) → k < 53 → PairHeld t p (86 + k)
   gas-held h k l = pair-held gas 0 t p k (86 + k) (omega arith) h (rw (gas-count 0) l) (rw (first-pairs .4) refl)
 
-  pub axle-held : (n : ℕ) → n ≤ 9 → Held suspension n t p → (k m : ℕ) → k < 16 + 3 * n → 43 + k ≡ m → PairHeld t p m
+  pub axle-held : (n : ℕ) → n ≤ mostAxles → Held suspension n t p → (k m : ℕ) → k < 16 + 3 * n → 43 + k ≡ m → PairHeld t p m
   axle-held n s h k m l e = pair-held suspension n t p k m s h (rw (suspension-count n) l) (rw (first-pairs .3) e)
 
 -- the pairs of a file's first entries lie within its text where all do

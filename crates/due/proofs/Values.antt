@@ -30,9 +30,9 @@ use Rattle.tables.specs.Entries.{
   fuelAnalysis,
 }
 use Rattle.tables.specs.File.{gas, entries, sections, fixedSections, axleSections, axleEntries, axlesFrom, room, rooms, firstPair}
-use Rattle.tables.specs.Value.{placeOf}
+use Rattle.tables.specs.Value.{placeOf, valuesOf}
 use Rattle.due.specs.Booking.{fuelIn, isLate, bookingIn}
-use Rattle.due.specs.Values.{newValues, valuesOf}
+use Rattle.due.specs.Values.{newValues}
 use Rattle.due.specs.Conditions.{versionIn, linksIn, linksAt}
 use Rattle.due.specs.Due.{filled, filledPairs}
 

@@ -6,8 +6,7 @@ use Rattle.lines.specs.Bytes.{sameBytes}
 use Rattle.lines.specs.Text.{bytes}
 use Rattle.tables.specs.File.{File, ac2, acc, drift, suspension, gas, ofNumber}
 use Rattle.places.specs.Places.{valueOf}
-use Rattle.tables.specs.Value.{of}
-use Rattle.due.specs.Values.{valuesOf}
+use Rattle.tables.specs.Value.{of, valuesOf}
 use Rattle.due.specs.Booking.{bookingIn}
 use Rattle.due.specs.declared.Version.{Version}
 use Rattle.due.specs.declared.Version.the-variants.{V200, V210, OtherVersion}

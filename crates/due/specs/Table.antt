@@ -1,22 +1,34 @@
 -- The conditions of all files in one table, as the code has them: for the contracts of the code, no rule of 01 stands here.
 use Prim.Native.Nat.{ℕ}
-use mathlib.Core.List.{List, _++_}
+use mathlib.Core.List.{List, [], _∷_, _++_}
 use lib.ListN.{length}
-use Rattle.tables.specs.File.{File, ac2, acc, drift, suspension, gas, ofNumber, entries}
+use Rattle.tables.specs.File.{File, ac2, acc, drift, suspension, gas, filesBefore, ofNumber, entries}
 use Rattle.due.specs.Due.{fixedConditions}
 use Rattle.due.specs.declared.Condition.{Condition}
 
--- those of the fixed sections, file after file; suspension has drift's
+-- the files whose conditions it has, one after another
+abbrev pub tabled : List File
+tabled = ac2 ∷ acc ∷ drift ∷ gas ∷ []
+
+-- suspension has drift's
+abbrev pub tabledAs : File → File
+tabledAs ac2 = ac2
+tabledAs acc = acc
+tabledAs drift = drift
+tabledAs suspension = drift
+tabledAs gas = gas
+
+-- those of several files' fixed sections
+abbrev pub joinedConditions : List File → List Condition
+joinedConditions [] = []
+joinedConditions (f ∷ fs) = fixedConditions f ++ joinedConditions fs
+
 unfoldable pub conditionTable : List Condition
-conditionTable = fixedConditions ac2 ++ (fixedConditions acc ++ (fixedConditions drift ++ fixedConditions gas))
+conditionTable = joinedConditions tabled
 
 -- where a file's begin among them
 unfoldable pub firstCondition : File → ℕ
-firstCondition ac2 = 0
-firstCondition acc = 12
-firstCondition drift = 18
-firstCondition suspension = 18
-firstCondition gas = 34
+firstCondition f = length (joinedConditions (filesBefore (tabledAs f) tabled))
 
 -- how many a file's fixed sections have, by the file's number
 abbrev pub fixedCount : ℕ → ℕ

@@ -1,19 +1,11 @@
--- The values of a file at its pairs, and what a function needs to take them from a text (01, Judging).
-use Prim.Native.Nat.{ℕ, _+_, _*_, _≤_, _<_}
+-- AC2's values at its pairs, and what a function needs to take a file's values from a text (01, Judging).
+use Prim.Native.Nat.{ℕ, _+_, _*_, _≤_}
 use Prim.Native.String.{String}
-use mathlib.Core.List.{List, map}
+use mathlib.Core.List.{List}
 use lib.ListN.{length}
-use Rattle.places.specs.Places.{Pair, placeSize, startOf, lengthOf, pairsAt, valueAt, Within}
+use Rattle.places.specs.Places.{placeSize, startOf, lengthOf, pairsAt, Within}
 use Rattle.tables.specs.File.{File, ac2, entries, firstPair, leastPlaces, ofNumber}
-use Rattle.tables.specs.Value.{placeOf}
-
--- the pairs of a file with n axles, in entry order
-abbrev pub pairsOf : File → ℕ → List ℕ → List Pair
-pairsOf f n p = pairsAt p (firstPair f) (length (entries f n))
-
--- the values of a file with n axles: its text t, its pairs in p
-abbrev pub valuesOf : File → ℕ → List ℕ → List ℕ → List (List ℕ)
-valuesOf f n t p = map (valueAt t) (pairsOf f n p)
+use Rattle.tables.specs.Value.{placeOf, pairsOf, valuesOf}
 
 -- AC2's
 abbrev pub newValues : List ℕ → List ℕ → List (List ℕ)

@@ -1,7 +1,7 @@
 -- One file read alone: a law for each way out. Assumes nothing.
 use Prim.Native.Nat.{ℕ, zero, suc, _-_, _≤_, _<_}
 use native.Mathlib.Omega.{arith}
-use mathlib.Core.Path.{_≡_, subst, _∙_}
+use mathlib.Core.Path.{_≡_, ap, subst, _∙_}
 use mathlib.Core.Bool.{true, false}
 use mathlib.Core.List.{List}
 use lib.ListN.{length}
@@ -9,7 +9,7 @@ use borrow.Author.Tests.{le-leb, lt-leb, eq-eqb, ne-eqb}
 use Rattle.refusals.specs.declared.RefusalKind.the-variants.{PlacesTooShort, FileOrAxles, SliceNotAsDue}
 use Rattle.places.specs.Places.{cleared}
 use Rattle.tables.specs.File.{fixedSections, leastPlaces, leastSections, ofNumber, isFile, tableOf}
-use Rattle.files.specs.Files.{readNumbered}
+use Rattle.files.specs.Files.{readNumbered, axlesOf}
 use Rattle.files.specs.Steps.{ReadsText}
 use Rattle.files.specs.Alone.{refusedAs, readGiven, readAlone, aloneAnswer, alonePlaces, ReadsCleared, ReadsAlone}
 use Rattle.files.specs.declared.Fault.{Fault}
@@ -18,6 +18,7 @@ use Rattle.files.specs.declared.FileAnswer.the-variants.{Accepted}
 use Rattle.files.specs.declared.TextAnswer.{TextAnswer}
 use Rattle.files.specs.declared.TextAnswer.the-variants.{Sections, Faulty}
 use Rattle.tables.specs.File.{sections, axleSections, axlesFrom}
+use Rattle.tables.proofs.Files.{of-map}
 use Rattle.reading.proofs.Tables.{number-distinct}
 use Rattle.reading.proofs.Theorem.{sound}
 use Rattle.files.proofs.Theorem.{by-inv}
@@ -42,7 +43,9 @@ module _ (n : ℕ) (s p : List ℕ) where
     cleared-read c e a k =
         let v = subst (λ (y : TextAnswer). ReadsText n s y p q ls) e w in
         let g = filled ∙ v .1 in
-        record { answer = rw (g, k); places = rw g (v .2) }
+        let z : c - 0 ≡ c = omega arith in
+        let axles = k ∙ of-map (λ (m : ℕ). c - m) 0 (λ f. length (fixedSections f)) n ∙ ap (λ (m : ℕ). ofNumber m (λ f. axlesOf f c) n) z in
+        record { answer = rw (g, axles); places = rw g (v .2) }
 
 pub fixed-least : (n : ℕ) → ofNumber 0 (λ f. length (fixedSections f)) n ≤ ofNumber 0 leastSections n
 unfolding ofNumber leastSections sections fixedSections axleSections axlesFrom

@@ -105,7 +105,7 @@ module _ (n : ℕ) (s p q : List ℕ) (axles : ℕ) (l : leastPlaces ≤ length 
       let some : ofNumber 0 leastSections n ≡ leastSections f = by-number 0 leastSections f n g in
       let r : readFile f s ≡ read c ps ls = sym (ap₂ (λ (t : List Section) (m : ℕ). readBy t m s) (ap tableOf g ∙ table-of f) some) ∙ v .1 in
       let i = sound (allSections f) (leastSections f) s (tables-distinct f) c ps ls (by-inv (allSections f) (leastSections f) s c ps ls r .1) .is in
-      let k : axles ≡ c - ofNumber 0 (λ f. length (fixedSections f)) n = ap axles-in a in
+      let k : axles ≡ ofNumber c (λ f. axlesOf f c) n = ap axles-in a in
       record {
         enough = l;
         file = f;
@@ -117,7 +117,7 @@ module _ (n : ℕ) (s p q : List ℕ) (axles : ℕ) (l : leastPlaces ≤ length 
         is = read-sound f s c ps ls r;
         least = omega (arith, fixed-least n, i .enough);
         most = i .most;
-        axles-are = k ∙ ap (λ (m : ℕ). c - m) fixed;
+        axles-are = k ∙ by-number c (λ f. axlesOf f c) f n g;
         places-are = d ∙ ap (λ (m : ℕ). setPairs m ps (cleared leastPlaces p)) (by-number 0 firstPair f n g);
       }
 
@@ -209,8 +209,8 @@ alone-complete f n vs s h p l =
     let full : eqb (length s) 0 ≡ false = ne-eqb (length s) 0 (λ z. omega (arith, text-length (sections f n) vs s (h .fits), some-bytes f n)) in
     let file : isFile (fileNumber f) ≡ true = of-file false (λ g. true) f in
     let e : readNumbered (fileNumber f) s ≡ read c ps (r .2) = ap₂ (λ (t : List Section) (m : ℕ). readBy t m s) (table-of f) (of-file 0 leastSections f) ∙ r .3 in
-    let fixed : ofNumber 0 (λ g. length (fixedSections g)) (fileNumber f) ≡ length (fixedSections f) = of-file 0 (λ g. length (fixedSections g)) f in
+    let axles : ofNumber c (λ g. axlesOf g c) (fileNumber f) ≡ axlesOf f c = of-file c (λ g. axlesOf g c) f in
     let first : ofNumber 0 firstPair (fileNumber f) ≡ firstPair f = of-file 0 firstPair f in
     let m : length ps ≡ length (entries f n) = k .many ∙ ap (λ (i : ℕ). length (entries f i)) (r .4) in
     let there = own-pairs f n ps (cleared leastPlaces p) m (pairs-fit f s c ps k) (omega (arith, cleared-length leastPlaces p l)) in
-    (rw (b, file, full, e, fixed, r .4), rw (b, file, full, e, first, there) (r .5))
+    (rw (b, file, full, e, axles, r .4), rw (b, file, full, e, first, there) (r .5))

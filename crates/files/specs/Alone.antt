@@ -6,11 +6,12 @@ use mathlib.Core.List.{List}
 use lib.Dec.{eqb, leb}
 use lib.ListN.{length}
 use Rattle.refusals.specs.Answer.{Answer, refusal, acceptance, refusalOf}
+use Rattle.refusals.specs.Refusals.{refusalWith}
 use Rattle.refusals.specs.declared.RefusalKind.{RefusalKind}
-use Rattle.tables.specs.File.{fixedSections, firstPair, leastPlaces, ofNumber, isFile}
+use Rattle.tables.specs.File.{firstPair, leastPlaces, ofNumber, isFile}
 use Rattle.places.specs.Places.{setPairs, cleared}
 use Rattle.reading.specs.Reading.{Reading, refused, read}
-use Rattle.files.specs.Files.{readNumbered}
+use Rattle.files.specs.Files.{readNumbered, axlesOf}
 use Rattle.files.specs.declared.FileAcceptance.{FileAcceptance}
 use Rattle.files.specs.declared.FileAnswer.{FileAnswer}
 use Rattle.files.specs.declared.FileAnswer.the-variants.{Accepted, Refused}
@@ -25,7 +26,7 @@ abbrev pub accepted : ℕ → FileAcceptance
 accepted axles = record { axles = axles }
 
 abbrev pub refusedAs : RefusalKind → ℕ → ℕ → FileAnswer
-refusedAs k f l = Refused (record { kind = k; file = f; line = l })
+refusedAs k f l = Refused (refusalWith k f l)
 
 -- 11, then 3 to 9, of the file of a number
 unfoldable pub readGiven : ℕ → List ℕ → Reading
@@ -38,7 +39,7 @@ readAlone n s = cond (isFile n) (readGiven n s) (refused 16 0)
 -- "a refusal's file is as in writing": the file as handed in
 abbrev pub answerOf : ℕ → Reading → Answer FileAcceptance
 answerOf n (refused k l) = refusal k n l
-answerOf n (read c pairs ls) = acceptance (accepted (c - ofNumber 0 (λ f. length (fixedSections f)) n))
+answerOf n (read c pairs ls) = acceptance (accepted (ofNumber c (λ f. axlesOf f c) n))
 
 -- the pairs of a text that was read, from the file's first pair on
 abbrev pub pairsSet : ℕ → Reading → List ℕ → List ℕ

@@ -3,6 +3,7 @@ use Prim.Native.Nat.{ℕ}
 use mathlib.Core.Path.{_≡_, refl, ap, ap₂, sym, subst, _∙_}
 use mathlib.Core.Bool.{Bool, true, false, cond}
 use mathlib.Core.List.{List}
+use Rattle.refusals.specs.Refusals.{refusalWith}
 use Rattle.refusals.specs.Answer.{Answer, refusal, acceptance, require}
 use Rattle.refusals.specs.declared.RefusalKind.the-variants.{SliceNotAsDue}
 use Rattle.places.specs.Places.{setPairs}
@@ -40,7 +41,7 @@ module _ (file : ℕ) (stated : Stated) (b : Booking) (s t p : List ℕ) (d : Fi
 
   -- 11
   pub file-wrong : (r : Bool) → r ≡ ofNumber true (λ f. sliceRight f stated b (isGiven t)) file → r ≡ false
-      → JudgesFile f (fileJudged file stated s t p) (Stop (record { kind = SliceNotAsDue; file = file; line = 0 })) p p
+      → JudgesFile f (fileJudged file stated s t p) (Stop (refusalWith SliceNotAsDue file 0)) p p
   file-wrong r e q = (chain false (isRead f a (isGiven t)) (right-is r false e q) refl ∙ ap (λ (m : ℕ). refusal 11 m 0) (d .number), refl)
 
   module _ (r : Bool) (e : r ≡ ofNumber true (λ f. sliceRight f stated b (isGiven t)) file) (q : r ≡ true) (u : Bool) (eu : u ≡ ofNumber (isGiven t) (λ f. isRead f b (isGiven t)) file) where

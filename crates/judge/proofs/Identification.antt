@@ -7,7 +7,7 @@ use mathlib.Core.List.{List, []}
 use Rattle.refusals.specs.Answer.{Answer, acceptance, require}
 use Rattle.refusals.specs.declared.RefusalKind.the-variants.{SliceNotAsDue, IdentificationForm, IdentificationDiffers}
 use Rattle.tables.specs.File.{gas}
-use Rattle.due.specs.Values.{valuesOf}
+use Rattle.tables.specs.Value.{valuesOf}
 use Rattle.rules.specs.Slices.{identificationRight}
 use Rattle.rules.specs.Identification.{sevenOf, sameFields}
 use Rattle.serial.specs.Reading.{readIdentification, addressIn, sevenIn}
@@ -15,13 +15,13 @@ use Rattle.serial.specs.declared.FieldEnds.{FieldEnds}
 use Rattle.serial.specs.declared.IdentificationRead.{IdentificationRead}
 use Rattle.serial.specs.declared.IdentificationRead.the-variants.{Malformed, Fields}
 use Rattle.sets.specs.Records.{isGiven}
-use Rattle.sets.specs.Judge.{judgeFields, judgeIdentification}
+use Rattle.sets.specs.Judge.{judgeFields, judgeIdentification, identificationNumber}
 use Rattle.judge.specs.Steps.{noFigures, identificationJudged, JudgesIdentification, identificationRefused}
 use Rattle.judge.specs.declared.Step.the-variants.{Go}
 
 module _ (g i p : List ℕ) where
   abbrev chain : Bool → Bool → IdentificationRead → Answer (List ℕ)
-  chain x y r = require x 11 6 0 (cond y (judgeFields (valuesOf gas 0 g p) i r) (acceptance []))
+  chain x y r = require x 11 identificationNumber 0 (cond y (judgeFields (valuesOf gas 0 g p) i r) (acceptance []))
 
   chained : identificationJudged g i p ≡ chain (identificationRight (isGiven g) (valuesOf gas 0 g p) (isGiven i)) (isGiven i) (readIdentification i)
   unfolding judgeIdentification
@@ -51,7 +51,7 @@ module _ (g i p : List ℕ) where
       module _ (x : FieldEnds) (e : readIdentification i ≡ Fields x) where
         -- 15
         pub identification-differs : sameFields (sevenIn i x) (sevenOf (valuesOf gas 0 g p)) ≡ false → JudgesIdentification (identificationJudged g i p) (identificationRefused IdentificationDiffers)
-        identification-differs q = read-as (Fields x) e ∙ ap (λ (b : Bool). require b 15 6 0 (acceptance (addressIn i x))) q
+        identification-differs q = read-as (Fields x) e ∙ ap (λ (b : Bool). require b 15 identificationNumber 0 (acceptance (addressIn i x))) q
 
         pub identification-same : sameFields (sevenIn i x) (sevenOf (valuesOf gas 0 g p)) ≡ true → JudgesIdentification (identificationJudged g i p) (Go noFigures)
-        identification-same q = (addressIn i x, read-as (Fields x) e ∙ ap (λ (b : Bool). require b 15 6 0 (acceptance (addressIn i x))) q)
+        identification-same q = (addressIn i x, read-as (Fields x) e ∙ ap (λ (b : Bool). require b 15 identificationNumber 0 (acceptance (addressIn i x))) q)

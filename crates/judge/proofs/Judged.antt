@@ -7,6 +7,7 @@ use mathlib.Core.List.{List, _++_}
 use lib.Dec.{leb}
 use lib.ListN.{length, drop, replicate}
 use borrow.Author.Tests.{le-leb, lt-leb}
+use Rattle.refusals.specs.Refusals.{refusalWith}
 use Rattle.refusals.specs.Answer.{Answer, refusal, acceptance, require}
 use Rattle.refusals.specs.declared.Refusal.{Refusal}
 use Rattle.refusals.specs.declared.RefusalKind.the-variants.{PlacesTooShort, StemForm}
@@ -49,9 +50,9 @@ module _ (stem : List ℕ) (s : Slices) (p : List ℕ) where
   whole-is = refl
 
   module _ (least : ℕ) (el : least ≡ leastPlaces) where
-    pub set-short : length p < least → SetJudged stem s p p (Refused (record { kind = PlacesTooShort; file = 0; line = 0 }))
+    pub set-short : length p < least → SetJudged stem s p p (Refused (refusalWith PlacesTooShort 0 0))
     set-short h =
-        judged stem s p p (Refused (record { kind = PlacesTooShort; file = 0; line = 0 }))
+        judged stem s p p (Refused (refusalWith PlacesTooShort 0 0))
         (whole-is ∙ ap (λ (x : Bool). whole x (goodStem stem) all) (lt-leb leastPlaces (length p) (omega (arith, el, h))))
 
     module _ (h : least ≤ length p) (m : List ℕ) (em : m ≡ cleared least p) where
@@ -64,9 +65,9 @@ module _ (stem : List ℕ) (s : Slices) (p : List ℕ) where
       pub still-enough : leastPlaces ≤ length m
       still-enough = omega (arith, ap length cleared-is, cleared-length leastPlaces p enough, enough)
 
-      pub set-stem : goodStem stem ≡ false → SetJudged stem s p m (Refused (record { kind = StemForm; file = 0; line = 0 }))
+      pub set-stem : goodStem stem ≡ false → SetJudged stem s p m (Refused (refusalWith StemForm 0 0))
       set-stem g =
-          judged stem s p m (Refused (record { kind = StemForm; file = 0; line = 0 }))
+          judged stem s p m (Refused (refusalWith StemForm 0 0))
           (whole-is ∙ ap₂ (λ (x y : Bool). whole x y all) (le-leb leastPlaces (length p) enough) g ∙ ap (λ (z : List ℕ). (refusal 2 0 0, z)) (sym cleared-is))
 
       module _ (g : goodStem stem ≡ true) (st : Stated) (es : st ≡ statedOf stem) (n : List ℕ) (r : SetAnswer) (w : JudgesSlices files (judgeSlices st s) r m n) where

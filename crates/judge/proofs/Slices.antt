@@ -16,13 +16,14 @@ use Rattle.tables.proofs.Axles.{entries-most}
 use Rattle.files.proofs.Pairs.{few-axles, rooms-fit, own-pairs}
 use Rattle.due.specs.Booking.{bookingIn}
 use Rattle.due.specs.declared.Booking.{Booking}
-use Rattle.due.specs.Values.{pairsOf, valuesOf, newValues, Held}
+use Rattle.tables.specs.Value.{pairsOf, valuesOf}
+use Rattle.due.specs.Values.{newValues, Held}
 use Rattle.rules.specs.Slices.{sliceRight, isRead, identificationRight}
 use Rattle.rules.specs.declared.Stated.{Stated}
 use Rattle.due.proofs.Pairs.{gas-count}
 use Rattle.serial.specs.Reading.{readIdentification}
 use Rattle.sets.specs.Records.{Slices, isGiven}
-use Rattle.sets.specs.Judge.{FileRead, SetRead, notRead, judgeBooking, judgeFields, judgeFile, judgeIdentification, fileGiven, identificationStep, setRead, Slice, fileSlice, identificationSlice, laterSlices, eachAccepted, judgeSlices, setFiles}
+use Rattle.sets.specs.Judge.{FileRead, SetRead, notRead, judgeBooking, judgeFields, judgeFile, judgeIdentification, fileGiven, identificationStep, setRead, Slice, fileSlice, identificationSlice, laterSlices, eachAccepted, judgeSlices, setFiles, identificationNumber}
 use Rattle.sets.specs.declared.SetAnswer.{SetAnswer}
 use Rattle.sets.specs.declared.SetAnswer.the-variants.{Accepted, Refused}
 use Rattle.sets.proofs.File.{FilePassed, Passed, file-sound, booking-file}
@@ -149,7 +150,7 @@ module _ (stated : Stated) (S : Slices) (p : List ℕ) where
   unfolding judgeIdentification identificationRight
   no-values v w i = on (isGiven i)
     where
-      on : (b : Bool) → require (not b) 11 6 0 (cond b (judgeFields v i (readIdentification i)) (acceptance [])) ≡ require (not b) 11 6 0 (cond b (judgeFields w i (readIdentification i)) (acceptance []))
+      on : (b : Bool) → require (not b) 11 identificationNumber 0 (cond b (judgeFields v i (readIdentification i)) (acceptance [])) ≡ require (not b) 11 identificationNumber 0 (cond b (judgeFields w i (readIdentification i)) (acceptance []))
       on true = refl
       on false = refl
 

@@ -4,7 +4,7 @@ use native.Mathlib.Omega.{arith}
 use mathlib.Core.Path.{_≡_, refl, ap, ap₂, sym, subst, _∙_}
 use mathlib.Core.List.{List, map}
 use lib.ListN.{length, take, drop}
-use Rattle.refusals.specs.Refusals.{numberOf}
+use Rattle.refusals.specs.Refusals.{numberOf, refusalWith}
 use Rattle.refusals.specs.Answer.{refusal, acceptance}
 use Rattle.refusals.specs.declared.Refusal.{Refusal}
 use Rattle.places.specs.Places.{Pair, placeSize, setPairs, pairsAt, valueAt, Within}
@@ -26,7 +26,8 @@ use Rattle.files.proofs.Theorem as T
 use Rattle.files.proofs.Pairs.{few-axles, pairs-fit, own-pairs}
 use Rattle.due.specs.Booking.{bookingIn}
 use Rattle.due.specs.declared.Booking.{Booking}
-use Rattle.due.specs.Values.{pairsOf, newValues, Held}
+use Rattle.tables.specs.Value.{pairsOf}
+use Rattle.due.specs.Values.{newValues, Held}
 use Rattle.due.proofs.Pairs.{new-count}
 use Rattle.sets.specs.Judge.{fileRead, fileChecks, firstFailed, checkedFile, judgeReading, judgeText}
 use Rattle.judge.specs.Steps.{fileNumbered, IsNumber, figuresOf, IsBooking, FileReady, ValuesReady, valuesStep, JudgesValues, JudgesFile, textJudged, JudgesBooking}
@@ -64,7 +65,7 @@ module _ (file : ℕ) (number : IsNumber file) (t p q ls : List ℕ) (r : TextAn
 
   -- 3 to 9
   pub text-faulty : (booking : List (List ℕ) → List (List ℕ)) (x : Fault) → r ≡ Faulty x
-      → JudgesFile f (judgeText f booking t) (Stop (record { kind = x .kind; file = file; line = x .line })) p q
+      → JudgesFile f (judgeText f booking t) (Stop (refusalWith (x .kind) file (x .line))) p q
   unfolding judgeText
   text-faulty booking x e =
       let v = subst (λ (y : TextAnswer). ReadsText file t y p q ls) e w in (
@@ -146,9 +147,9 @@ module _ (file : ℕ) (number : IsNumber file) (t p q ls : List ℕ) (r : TextAn
 -- ---- AC2
 
 module _ (t p q ls : List ℕ) (r : TextAnswer) (w : ReadsText 1 t r p q ls) where
-  pub booking-faulty : (x : Fault) → r ≡ Faulty x → JudgesBooking (judgeText ac2 (λ own. own) t) (B.Stop (record { kind = x .kind; file = 1; line = x .line })) p q
+  pub booking-faulty : (x : Fault) → r ≡ Faulty x → JudgesBooking (judgeText ac2 (λ own. own) t) (B.Stop (refusalWith (x .kind) 1 (x .line))) p q
   booking-faulty x e =
-      subst (λ (f : File). JudgesFile f (judgeText f (λ own. own) t) (Stop (record { kind = x .kind; file = 1; line = x .line })) p q) new-number
+      subst (λ (f : File). JudgesFile f (judgeText f (λ own. own) t) (Stop (refusalWith (x .kind) 1 (x .line))) p q) new-number
       (text-faulty 1 (ap fileNumber new-number) t p q ls r w (λ own. own) x e)
 
   module _ (enough : leastPlaces ≤ length p) (c : ℕ) (e : r ≡ Sections c) where

@@ -7,7 +7,7 @@ use mathlib.Core.List.{List, [], _∷_}
 use lib.Dec.{ltb}
 use lib.ListN.{length, getD, take}
 use borrow.Author.Tests.{lt-ltb, le-ltb}
-use Rattle.refusals.specs.Refusals.{numberOf}
+use Rattle.refusals.specs.Refusals.{numberOf, refusalWith}
 use Rattle.refusals.specs.Answer.{refusal}
 use Rattle.refusals.specs.declared.RefusalKind.the-variants.{NotAsDue}
 use Rattle.places.specs.Places.{Pair, placeSize, pairsAt}
@@ -28,7 +28,8 @@ use Rattle.due.proofs.Entries.{conditions-file}
 use Rattle.due.proofs.FirstNotAsDue.{first-at-values}
 use Rattle.rules.specs.Rule.{firstBroken}
 use Rattle.rules.specs.Rules.{rulesOf, firstBrokenAt}
-use Rattle.due.specs.Values.{pairsOf, valuesOf, newValues, Held, NumberHeld}
+use Rattle.tables.specs.Value.{pairsOf, valuesOf}
+use Rattle.due.specs.Values.{newValues, Held, NumberHeld}
 use Rattle.rules.specs.declared.BrokenRule.{BrokenRule}
 use Rattle.rules.specs.declared.RuleCheck.{RuleCheck}
 use Rattle.rules.specs.declared.RuleCheck.the-variants.{Kept, Broken}
@@ -121,7 +122,7 @@ module _ (file c : ℕ) (b : Booking) (s t p ls : List ℕ) (w : ValuesReady fil
     many : length vs ≡ size
     many = values-length t p (firstPair f) size
 
-    pub values-due : e < count → (l : ℕ) → l ≡ getD (take count ls) e 0 → JudgesValues f c s t p ls (Stop (record { kind = NotAsDue; file = file; line = l }))
+    pub values-due : e < count → (l : ℕ) → l ≡ getD (take count ls) e 0 → JudgesValues f c s t p ls (Stop (refusalWith NotAsDue file l))
     values-due i l el =
         due-failed (lt-ltb (firstNotAsDue f conditions vs) (length vs) (omega (arith, many, ec, h, i)))
         ∙ ap₂ (λ (x y : ℕ). refusal 10 x y) (w .number) (sym (el ∙ ap₂ (λ (x y : ℕ). getD (take x ls) y 0) ec h))
@@ -135,7 +136,7 @@ module _ (file c : ℕ) (b : Booking) (s t p ls : List ℕ) (w : ValuesReady fil
           due-passed (le-ltb (firstNotAsDue f conditions vs) (length vs) (omega (arith, many, ec, h, i)))
           ∙ ap (λ (y : RuleCheck). checkedFile f (readAt f c t p) (take size ls) (firstFailed (checkRule y ∷ []))) (rule-is ∙ q)
 
-      pub values-broken : (x : BrokenRule) → r ≡ Broken x → (l : ℕ) → l ≡ getD (take count ls) (x .entry) 0 → JudgesValues f c s t p ls (Stop (record { kind = x .kind; file = file; line = l }))
+      pub values-broken : (x : BrokenRule) → r ≡ Broken x → (l : ℕ) → l ≡ getD (take count ls) (x .entry) 0 → JudgesValues f c s t p ls (Stop (refusalWith (x .kind) file l))
       values-broken x q l el =
           judged (Broken x) q ∙ ap₂ (λ (y z : ℕ). refusal (numberOf (x .kind)) y z) (w .number) (sym (el ∙ ap (λ (y : ℕ). getD (take y ls) (x .entry) 0) ec))
 

@@ -5,6 +5,7 @@ use mathlib.Core.Bool.{true, false}
 use mathlib.Core.List.{List, [], _∷_}
 use lib.ListN.{length, getD, take, drop}
 use Rattle.refusals.specs.Answer.{Answer, acceptance, refusalOf}
+use Rattle.refusals.specs.Refusals.{refusalWith}
 use Rattle.refusals.specs.declared.Refusal.{Refusal}
 use Rattle.refusals.specs.declared.RefusalKind.{RefusalKind}
 use Rattle.places.specs.Places.{setPairs}
@@ -13,11 +14,12 @@ use Rattle.tables.specs.Row.{mostRows}
 use Rattle.files.specs.Files.{axlesOf}
 use Rattle.due.specs.Booking.{bookingIn}
 use Rattle.due.specs.declared.Booking.{Booking}
-use Rattle.due.specs.Values.{pairsOf, valuesOf, newValues, Held}
+use Rattle.tables.specs.Value.{pairsOf, valuesOf}
+use Rattle.due.specs.Values.{newValues, Held}
 use Rattle.rules.specs.Marks.{isMarked}
 use Rattle.rules.specs.declared.Stated.{Stated}
 use Rattle.sets.specs.Records.{Slices, isGiven}
-use Rattle.sets.specs.Judge.{acceptanceOf, FileRead, SetRead, fileRead, checkedFile, firstFailed, fileChecks, judgeText, judgeFile, judgeIdentification, setRead, laterSlices, eachAccepted, setFiles, answerIs}
+use Rattle.sets.specs.Judge.{acceptanceOf, FileRead, SetRead, fileRead, checkedFile, firstFailed, fileChecks, judgeText, judgeFile, judgeIdentification, setRead, laterSlices, eachAccepted, setFiles, answerIs, identificationNumber}
 use Rattle.sets.specs.declared.Acceptance.{Acceptance}
 use Rattle.sets.specs.declared.SetAnswer.{SetAnswer}
 use Rattle.sets.specs.declared.SetAnswer.the-variants.{Accepted, Refused}
@@ -145,7 +147,7 @@ IdentificationReady g p = 0 < length g → Held gas 0 g p
 
 -- a refusal of slice 6
 abbrev pub identificationRefused : RefusalKind → Step
-identificationRefused k = Stop (record { kind = k; file = 6; line = 0 })
+identificationRefused k = Stop (refusalWith k identificationNumber 0)
 
 -- ---- the set
 

@@ -4,7 +4,8 @@ ghost use Prim.Native.Nat.{_≤_};
 ghost use lib.ListN.{length, getD};
 ghost use Rattle.tables.specs.File.{ac2 as bookingFile, files, mostAxles, leastPlaces};
 ghost use Rattle.tables.specs.Row.{mostRows};
-ghost use Rattle.due.specs.Values.{valuesOf, Held, NumberHeld};
+ghost use Rattle.tables.specs.Value.{valuesOf};
+ghost use Rattle.due.specs.Values.{Held, NumberHeld};
 ghost use Rattle.sets.specs.Records.{slicesOf};
 ghost use Rattle.sets.specs.Judge.{judgeText, judgeBooking, judgeSlices};
 ghost use Rattle.judge.specs.Steps.{fileNumbered, IsNumber, figuresFrom, figuresIn, acceptanceWith, IsBooking, FileReady, ValuesReady, JudgesValues, JudgesFile, textJudged, fileJudged, JudgesBooking, Asked, Next, identificationJudged, JudgesIdentification, IdentificationReady, identificationRefused, JudgesSlices, JudgesLater};
@@ -24,6 +25,9 @@ use tables::DRIFT;
 use tables::GAS;
 use tables::MOST_ROWS;
 use tables::SUSPENSION;
+
+// The identification answer's number (01, the set), as a refusal's file.
+const IDENTIFICATION: u32 = 6;
 
 // What acceptance takes from a file that passed: its axle count, and whether its CodErrore is filled.
 struct Figures {
@@ -241,7 +245,7 @@ fn refuse_identification(kind: RefusalKind) -> Step
 {
     Step::Stop(Refusal {
         kind: kind,
-        file: 6,
+        file: IDENTIFICATION,
         line: 0,
     })
 }

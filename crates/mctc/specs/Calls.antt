@@ -11,7 +11,7 @@ use Rattle.kinds.specs.Kind.{Kind}
 use Rattle.tables.specs.File.{leastPlaces}
 use Rattle.files.specs.Alone.{aloneAnswer, alonePlaces}
 use Rattle.writing.specs.Writing as W
-use Rattle.writing.specs.Writing.{Quote, fitting, quoteFile, outputOf, bytesOf}
+use Rattle.writing.specs.Writing.{quoteFor, outputAfter}
 use Rattle.writing.specs.ReadBack.{IsReadBack}
 use Rattle.names.specs.Names as N
 use Rattle.rules.specs.Slices.{goodStem}
@@ -44,15 +44,11 @@ pub record ReadCall (file : ℕ) (s p q a b : List ℕ) (r : ℕ) : Type 0 where
   pub answer : b ≡ answerAfter (readNumbers (aloneAnswer file s p)) a
   pub places : q ≡ whereFits a (alonePlaces file s p) p
 
--- the checks of writing (01, Writing: "Order 1, 16, 17, 9, 18"), for an output of this length
-abbrev pub quoteFor : ℕ → ℕ → List ℕ → List ℕ → List ℕ → Quote
-quoteFor file n s p out = fitting (quoteFile file n s p) (length out)
-
 -- one file written (01, Writing: "From text, places, file and axle count one file is written"): output o before and t after
 pub record WriteCall (s p : List ℕ) (file n : ℕ) (o t a b : List ℕ) (r : ℕ) : Type 0 where
   pub number : r ≡ returned (writeNumbers (W.answerOf file (quoteFor file n s p o))) a
   pub answer : b ≡ answerAfter (writeNumbers (W.answerOf file (quoteFor file n s p o))) a
-  pub output : t ≡ whereFits a (outputOf (quoteFor file n s p o) (bytesOf file n s p) o) o
+  pub output : t ≡ whereFits a (outputAfter file n s p o) o
   -- "By this call a written file reads back": as many of the output's bytes as number 3 of the answer says, read alone (`ReadCall`)
   pub reads-back : r ≡ 0 → (q : List ℕ) → leastPlaces ≤ length q → IsReadBack file n s p (take (getD b 3 0) t) q
 

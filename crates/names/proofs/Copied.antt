@@ -11,7 +11,7 @@ use lib.Seq.{paste, paste-suc, length-take-le, take-at}
 use borrow.Author.Tests.{le-leb, lt-leb, le-ltb, lt-ltb}
 use Rattle.lines.specs.Line.{heading, entry, lineEnd, writtenLine}
 use Rattle.lines.specs.Writing.{put, Wrote}
-use Rattle.refusals.specs.Refusals as R
+use Rattle.refusals.specs.Refusals.{refusalWith}
 use Rattle.refusals.specs.declared.RefusalKind.the-variants.{OutputTooShort}
 use Rattle.tables.specs.File.{tableOf}
 use Rattle.tables.specs.Row.{nameAt, headingAt, rowKind}
@@ -62,7 +62,7 @@ row-word s row n e l = rw e (take-at s _ n (sym l))
 module _ {file : ℕ} {out : List ℕ} where
   -- 18
   pub too-short : (line : List ℕ) (c n : ℕ) → n ≤ length line → length out < n
-      → Copies file (some (nameWith (take n line) c)) out out (NameAnswer.Refused (R.refusal OutputTooShort file 0))
+      → Copies file (some (nameWith (take n line) c)) out out (NameAnswer.Refused (refusalWith OutputTooShort file 0))
   too-short line c n h l = let b = lt-leb n (length out) l in record { answer = rw (length-take-le n line h, b); output = rw (length-take-le n line h, b) }
 
   -- the bytes are there

@@ -43,5 +43,6 @@ numberOf PairOutside = 17
 -- output too short
 numberOf OutputTooShort = 18
 
-abbrev pub refusal : RefusalKind → ℕ → ℕ → Refusal
-refusal k f l = record { kind = k; file = f; line = l }
+-- the code's refusal of this kind, with file and line
+abbrev pub refusalWith : RefusalKind → ℕ → ℕ → Refusal
+refusalWith k f l = record { kind = k; file = f; line = l }

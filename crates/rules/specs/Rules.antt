@@ -3,7 +3,8 @@ use Prim.Native.Nat.{ℕ}
 use mathlib.Core.List.{List, []}
 use Rattle.tables.specs.File.{File, ac2, acc, drift, suspension, gas}
 use Rattle.rules.specs.Rule.{Rule, firstBroken}
-use Rattle.due.specs.Values.{newValues, valuesOf}
+use Rattle.tables.specs.Value.{valuesOf}
+use Rattle.due.specs.Values.{newValues}
 use Rattle.rules.specs.declared.RuleCheck.{RuleCheck}
 use Rattle.rules.specs.Bookings.{newRules, oldRules}
 use Rattle.rules.specs.Differences.{differencesFrom}

@@ -1,8 +1,9 @@
 // Differenza% of each axle (01, Results: Suspension; row 13).
 ghost use mathlib.Core.Path.{_≡_};
 ghost use Prim.Native.Nat.{_≤_};
-ghost use Rattle.tables.specs.File.{suspension};
-ghost use Rattle.due.specs.Values.{valuesOf, Held};
+ghost use Rattle.tables.specs.File.{suspension, mostAxles};
+ghost use Rattle.tables.specs.Value.{valuesOf};
+ghost use Rattle.due.specs.Values.{Held};
 ghost use Rattle.rules.specs.Rule.{firstBroken};
 ghost use Rattle.rules.specs.Differences.{difference, differenceFits, differencesFrom};
 use crate::BrokenRule;
@@ -29,7 +30,7 @@ fn axle_fits(left: &[u8], right: &[u8], value: &[u8]) -> bool
 }
 
 pub fn check_differences(axles: usize, text: &[u8], places: &[u32]) -> RuleCheck
-    requires { ⌜ (axles ≤ 9) × Held suspension axles (now text) (now places) ⌝ }
+    requires { ⌜ (axles ≤ mostAxles) × Held suspension axles (now text) (now places) ⌝ }
     ensures { λ r. ⌜ r ≡ firstBroken suspension (differencesFrom (valuesOf suspension axles (now (text .entry)) (now (places .entry))) 0 axles) ⌝ }
 {
     let mut i = 0;

@@ -8,7 +8,7 @@ mod slices; // slices.rt: the stem, and which slices are due and read
 
 ghost use mathlib.Core.Path.{_≡_};
 ghost use Prim.Native.Nat.{_≤_};
-ghost use Rattle.tables.specs.File.{ac2, ofNumber};
+ghost use Rattle.tables.specs.File.{ac2, ofNumber, mostAxles};
 ghost use Rattle.due.specs.Values.{newValues, Held, NumberHeld};
 ghost use Rattle.due.specs.Booking.{bookingIn};
 ghost use Rattle.rules.specs.Rules.{firstBrokenAt};
@@ -91,7 +91,7 @@ pub fn first_broken(
     text: &[u8],
     places: &[u32],
 ) -> RuleCheck
-    requires { ⌜ (axles ≤ 9) × Held ac2 0 (now booking) (now places) × (b ≡ bookingIn (newValues (now booking) (now places))) × NumberHeld file axles (now text) (now places) ⌝ }
+    requires { ⌜ (axles ≤ mostAxles) × Held ac2 0 (now booking) (now places) × (b ≡ bookingIn (newValues (now booking) (now places))) × NumberHeld file axles (now text) (now places) ⌝ }
     ensures { λ r. ⌜ r ≡ ofNumber RuleCheck.Kept (λ f. firstBrokenAt f axles (now (booking .entry)) (now (text .entry)) (now (places .entry))) file ⌝ }
 {
     match file {

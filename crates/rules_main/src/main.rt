@@ -12,7 +12,7 @@ ghost use mathlib.Core.Bool.{true};
 ghost use Prim.Native.Nat.{_+_, _*_, _<_, _≤_, min};
 ghost use lib.ListN.{length};
 ghost use Rattle.places.specs.Places.{placeSize, pairsAt, Within};
-ghost use Rattle.tables.specs.File.{ac2, gas as gasFile, entries, firstPair, leastPlaces, ofNumber};
+ghost use Rattle.tables.specs.File.{ac2, gas as gasFile, entries, firstPair, leastPlaces, ofNumber, mostAxles};
 ghost use Rattle.serial.specs.Reading.{Ordered};
 ghost use Rattle.due.specs.Values.{Held, NumberHeld};
 use due::Booking;
@@ -92,7 +92,7 @@ fn read_both(file: u32, booking: &[u8], text: &[u8], places: &mut [u32], lines: 
 
 // How many entries a file with this many axles has.
 fn entry_count(file: u32, axles: usize) -> usize
-    requires { ⌜ axles ≤ 9 ⌝ }
+    requires { ⌜ axles ≤ mostAxles ⌝ }
     ensures { λ r. ⌜ (r ≡ ofNumber 0 (λ f. length (entries f axles)) file) × (ofNumber 0 firstPair file + r ≤ 139) ⌝ }
 {
     match file {
@@ -134,7 +134,7 @@ fn pairs_within(text: &[u8], places: &[u32], first: usize, count: usize) -> bool
 }
 
 fn is_held(file: u32, axles: usize, text: &[u8], places: &[u32]) -> bool
-    requires { ⌜ (axles ≤ 9) × (leastPlaces ≤ length (now places)) ⌝ }
+    requires { ⌜ (axles ≤ mostAxles) × (leastPlaces ≤ length (now places)) ⌝ }
     ensures { λ r. ⌜ (r ≡ true → NumberHeld file axles (now (text .entry)) (now (places .entry))) ⌝ }
 {
     let count = entry_count(file, axles);
@@ -187,7 +187,7 @@ fn print_refusal(
     places: &[u32],
     lines: &[u32],
 )
-    requires { ⌜ (axles ≤ 9) × (leastPlaces ≤ length (now places)) ⌝ }
+    requires { ⌜ (axles ≤ mostAxles) × (leastPlaces ≤ length (now places)) ⌝ }
 {
     let count = entry_count(file, axles);
     if count <= entry {
@@ -263,7 +263,7 @@ fn show_mark(marked: bool) {
 }
 
 fn show_due(file: u32, axles: usize, booking: &[u8], text: &[u8], places: &[u32], lines: &[u32])
-    requires { ⌜ (axles ≤ 9) × Held ac2 0 (now booking) (now places) × NumberHeld file axles (now text) (now places) ⌝ }
+    requires { ⌜ (axles ≤ mostAxles) × Held ac2 0 (now booking) (now places) × NumberHeld file axles (now text) (now places) ⌝ }
 {
     let c = due::conditions_of(file, due::booking_of(booking, places), text, places);
     let first = tables::first_pair(file);
@@ -277,7 +277,7 @@ fn show_due(file: u32, axles: usize, booking: &[u8], text: &[u8], places: &[u32]
 // ---- bookings and Differenza%
 
 fn show_rules(file: u32, axles: usize, booking: &[u8], text: &[u8], places: &[u32], lines: &[u32])
-    requires { ⌜ (axles ≤ 9) × Held ac2 0 (now booking) (now places) × NumberHeld file axles (now text) (now places) ⌝ }
+    requires { ⌜ (axles ≤ mostAxles) × Held ac2 0 (now booking) (now places) × NumberHeld file axles (now text) (now places) ⌝ }
 {
     let b = due::booking_of(booking, places);
     match rules::first_broken(file, axles, b, booking, text, places) {
@@ -301,7 +301,7 @@ fn show_held(
     places: &[u32],
     lines: &[u32],
 )
-    requires { ⌜ (axles ≤ 9) × (leastPlaces ≤ length (now places)) ⌝ }
+    requires { ⌜ (axles ≤ mostAxles) × (leastPlaces ≤ length (now places)) ⌝ }
 {
     if !is_held(1, 0, booking, places) {
         io::write_all(1, b"not within\n");

@@ -35,7 +35,7 @@ use Rattle.serial.specs.declared.IdentificationRead.{IdentificationRead}
 use Rattle.serial.specs.declared.IdentificationRead.the-variants.{Malformed, Fields}
 use Rattle.serial.proofs.Exact.{Written, read-sound, Found, read-complete}
 use Rattle.sets.specs.Records.{isGiven, Address, EachAsDue}
-use Rattle.sets.specs.Judge.{judgeFields, judgeIdentification}
+use Rattle.sets.specs.Judge.{judgeFields, judgeIdentification, identificationNumber}
 use Rattle.sets.proofs.Steps.{require-inv}
 
 -- ---- gas's seven values, where kinds and due entries are kept, are fields of an answer
@@ -109,14 +109,14 @@ pub identification-sound : (gasGiven : Bool) (g : List (List ℕ)) (s v : List �
     → (identificationRight gasGiven g (isGiven s) ≡ true) × Address (isGiven s) v × (isGiven s ≡ true → s ≡ identificationOf v (sevenOf g))
 unfolding judgeIdentification
 identification-sound gasGiven g s v e =
-    let i = require-inv (identificationRight gasGiven g (isGiven s)) 11 6 0 (cond (isGiven s) (judgeFields g s (readIdentification s)) (acceptance [])) v e in
+    let i = require-inv (identificationRight gasGiven g (isGiven s)) 11 identificationNumber 0 (cond (isGiven s) (judgeFields g s (readIdentification s)) (acceptance [])) v e in
     let r = given (isGiven s) (i .1) in
     (i .0, r .0, r .1)
   where
     fields : (r : IdentificationRead) → readIdentification s ≡ r → judgeFields g s r ≡ acceptance v → (addressOk v ≡ true) × (s ≡ identificationOf v (sevenOf g))
     fields Malformed q e = clash (cc)
     fields (Fields x) q e =
-        let i = require-inv (sameFields (sevenIn s x) (sevenOf g)) 15 6 0 (acceptance (addressIn s x)) v e in
+        let i = require-inv (sameFields (sevenIn s x) (sevenOf g)) 15 identificationNumber 0 (acceptance (addressIn s x)) v e in
         let f : sevenIn s x ≡ sevenOf g = fields-same (sevenIn s x) (sevenOf g) (i .0) in
         let a : addressIn s x ≡ v = cc (i .1) in
         let w : Written s x = read-sound s x q in

@@ -117,15 +117,19 @@ judgeFile f stated a s =
 
 -- ---- slice 6
 
+-- 01, the set: the identification answer's number, as a refusal's file
+abbrev pub identificationNumber : ℕ
+identificationNumber = 6
+
 -- 14, 15
 abbrev pub judgeFields : List (List ℕ) → List ℕ → IdentificationRead → Answer (List ℕ)
-judgeFields g s Malformed = refusal 14 6 0
-judgeFields g s (Fields e) = require (sameFields (sevenIn s e) (sevenOf g)) 15 6 0 (acceptance (addressIn s e))
+judgeFields g s Malformed = refusal 14 identificationNumber 0
+judgeFields g s (Fields e) = require (sameFields (sevenIn s e) (sevenOf g)) 15 identificationNumber 0 (acceptance (addressIn s e))
 
 -- 11, 14, 15; what it gives is the address
 unfoldable pub judgeIdentification : Bool → List (List ℕ) → List ℕ → Answer (List ℕ)
 judgeIdentification gasGiven g s =
-    require (identificationRight gasGiven g (isGiven s)) 11 6 0
+    require (identificationRight gasGiven g (isGiven s)) 11 identificationNumber 0
     (cond (isGiven s) (judgeFields g s (readIdentification s)) (acceptance []))
 
 -- ---- the set

@@ -14,7 +14,8 @@ use Rattle.kinds.specs.Value.{wordIndex}
 use Rattle.kinds.proofs.Laws.{by-test}
 use Rattle.tables.specs.Section.{Section}
 use Rattle.tables.specs.File.{File, ac2, acc, drift, suspension, gas, fixedSections, axleSections, axlesFrom, sections, allSections, tableOf}
-use Rattle.tables.specs.Row.{headings, headingAt, indexOf, sectionOf, likelySection}
+use Rattle.tables.specs.Row.{headings, headingAt, indexOf, sectionOf}
+use Rattle.tables.specs.Groups.{likelySection}
 use Rattle.tables.specs.Test.{distinct, distinctHeadings}
 use Rattle.tables.proofs.Files.{of-any}
 use Rattle.tables.proofs.Tests.{headings-distinct}

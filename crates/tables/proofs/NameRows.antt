@@ -46,7 +46,7 @@ use Rattle.tables.specs.File.{
   axleEntries,
 }
 use Rattle.tables.specs.Row.{names, nameIn, entriesIn, mostRows}
-use Rattle.tables.specs.Groups.{testers, gasEntries, group, groupOf, inRow, tagOf, Lent, InRow, rowName, StandsAt}
+use Rattle.tables.specs.Groups.{testers, gasEntries, group, groupOf, inRow, tagOf, Lent, InRow, rowName, StandsAt, rowSize}
 use Rattle.tables.proofs.Files.{of-file, of-any}
 use Rattle.tables.proofs.Sections.{at-file, entries-none, drift-entries, suspension-entries}
 
@@ -99,7 +99,7 @@ module _ {ns : List (List ℕ)} {rows : List (List ℕ)} {lengths tags : List �
       record {
         row-in = rw rows-many h;
         length-in = rw lengths-many h;
-        fits = rw (length-at k, row-at k h) (omega (arith, length-append n (replicate (34 - length n) 32)));
+        fits = rw (length-at k, row-at k h) (omega (arith, length-append n (replicate (rowSize - length n) 32)));
       }
 
   -- the first bytes of the row are the name
@@ -107,7 +107,7 @@ module _ {ns : List (List ℕ)} {rows : List (List ℕ)} {lengths tags : List �
   unfolding inRow
   row-name k h =
       let n = getD ns k [] in
-      rw (length-at k, row-at k h) (take-at n (replicate (34 - length n) 32) (length n) refl)
+      rw (length-at k, row-at k h) (take-at n (replicate (rowSize - length n) 32) (length n) refl)
 
 -- ---- a section in its group
 

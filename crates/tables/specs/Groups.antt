@@ -1,7 +1,10 @@
--- The names of entries as the code lays them out: those that one file needs, or several files share, together.
+-- How the code looks names up: the names of entries as it lays them out, those that one file needs, or several files share,
+-- together; of a heading, the section that it can be.
 use Prim.Native.Nat.{ℕ, _+_, _*_, _%_, _-_, _≤_, _<_}
 use mathlib.Core.Path.{_≡_}
 use mathlib.Core.List.{List, [], _++_, map}
+use mathlib.Core.Bool.{cond, _&&_}
+use lib.Dec.{leb, ltb}
 use lib.ListN.{length, getD, take, drop, replicate}
 use Rattle.tables.specs.Section.{Entry}
 use Rattle.tables.specs.declared.SectionPlace.{SectionPlace}
@@ -27,13 +30,24 @@ group gas = gasEntries
 unfoldable pub groupOf : ℕ → List Entry
 groupOf n = ofNumber newBooking group n
 
+-- as many bytes as the longest name has
+abbrev pub rowSize : ℕ
+rowSize = 34
+
 -- a name in its row: blanks follow it
 unfoldable pub inRow : List ℕ → List ℕ
-inRow n = n ++ replicate (34 - length n) 32
+inRow n = n ++ replicate (rowSize - length n) 32
 
 -- the tag of a name: one byte from its length and its first byte, which tells nearly all names of a section apart
 unfoldable pub tagOf : List ℕ → ℕ
 tagOf s = (length s % 32 * 8 + getD s 0 0) % 256
+
+-- the one section that a heading can be: that of the digit before its last byte (an axle's number; in gas the fuel's), else the first
+abbrev pub sectionDigit : ℕ → ℕ
+sectionDigit b = cond (leb 49 b && leb b 57) (b - 48) 0
+
+unfoldable pub likelySection : List ℕ → ℕ
+likelySection h = cond (ltb (length h) 2) 0 (sectionDigit (getD h (length h - 2) 0))
 
 -- of the rows from a to e, r is the first with the tag t; e where none has it
 pub record PassesTo (tags : List ℕ) (t a e r : ℕ) : Type 0 where

@@ -2,8 +2,8 @@
 use Prim.Native.Nat.{ℕ, zero, suc, _+_, _-_}
 use mathlib.Core.List.{List, [], _∷_, _++_, map}
 use mathlib.Core.Option.{Option, none, some}
-use mathlib.Core.Bool.{cond, _&&_}
-use lib.Dec.{leb, ltb}
+use mathlib.Core.Bool.{cond}
+use lib.Dec.{ltb}
 use lib.ListN.{length, getD, take}
 use Rattle.kinds.specs.Kind.{Kind, NoKind, numbered, kindOf}
 use Rattle.kinds.specs.Value.{wordIndex}
@@ -48,13 +48,6 @@ indexOf s xs = wordIndex xs s
 -- the section of a heading; the number of sections where it is none of them
 abbrev pub sectionOf : List Section → List ℕ → ℕ
 sectionOf t h = indexOf h (headings t)
-
--- the one section that a heading can be: that of the digit before its last byte (an axle's number; in gas the fuel's), else the first
-abbrev pub sectionDigit : ℕ → ℕ
-sectionDigit b = cond (leb 49 b && leb b 57) (b - 48) 0
-
-unfoldable pub likelySection : List ℕ → ℕ
-likelySection h = cond (ltb (length h) 2) 0 (sectionDigit (getD h (length h - 2) 0))
 
 -- the entry of a name in section c; the number of its entries where it is none of them
 abbrev pub entryIn : List Section → ℕ → List ℕ → ℕ

@@ -1,13 +1,22 @@
--- Values of a file, in entry order, by the names of their entries.
+-- Values of a file, in entry order: at its pairs, and by the names of their entries.
 use Prim.Native.Nat.{ℕ, _+_}
 use Prim.Native.String.{String}
-use mathlib.Core.List.{List, []}
+use mathlib.Core.List.{List, [], map}
 use mathlib.Core.Bool.{Bool}
 use lib.Dec.{ltb}
 use lib.ListN.{length, getD}
 use Rattle.lines.specs.Text.{bytes}
-use Rattle.tables.specs.File.{File, entries, axleEntries}
+use Rattle.places.specs.Places.{Pair, pairsAt, valueAt}
+use Rattle.tables.specs.File.{File, entries, axleEntries, firstPair}
 use Rattle.tables.specs.Row.{names, indexOf}
+
+-- the pairs of a file with n axles, in entry order (01, Judging)
+abbrev pub pairsOf : File → ℕ → List ℕ → List Pair
+pairsOf f n p = pairsAt p (firstPair f) (length (entries f n))
+
+-- the values of a file with n axles: its text t, its pairs in p
+abbrev pub valuesOf : File → ℕ → List ℕ → List ℕ → List (List ℕ)
+valuesOf f n t p = map (valueAt t) (pairsOf f n p)
 
 -- where an entry of the fixed sections stands in entry order; their number of entries for a name that is none of them
 unfoldable pub placeOf : File → String → ℕ

@@ -14,8 +14,8 @@ ghost use Rattle.lines.specs.Bytes.{sameBytes};
 ghost use Rattle.lines.specs.Line.{heading as headingLine, entry as entryLine, writtenLine, writtenLength};
 ghost use Rattle.lines.specs.Writing.{Wrote};
 ghost use Rattle.tables.specs.File.{tableOf, ofNumber, isFile, leastSections, fixedSections, room as roomOf, firstPair, leastPlaces};
-ghost use Rattle.tables.specs.Row.{entriesIn, names, nameIn, nameAt, headingAt, sectionOf, sectionDigit, likelySection, entryIn, rowsBefore, rowCount, rowAt};
-ghost use Rattle.tables.specs.Groups.{groupOf, tagOf, PassesTo, Lent, SectionLent, InRow, rowName, StandsAt, IsPlaceOf};
+ghost use Rattle.tables.specs.Row.{entriesIn, names, nameIn, nameAt, headingAt, sectionOf, entryIn, rowsBefore, rowCount, rowAt};
+ghost use Rattle.tables.specs.Groups.{groupOf, tagOf, sectionDigit, likelySection, PassesTo, Lent, SectionLent, InRow, rowName, StandsAt, IsPlaceOf};
 
 // The numbers of the files (01, the set).
 pub const AC2: u32 = 1;

@@ -17,7 +17,8 @@ use Rattle.tables.specs.Row.{rowKinds}
 use Rattle.reading.specs.Fitting.{EachKept}
 use Rattle.reading.specs.Reading.{Check, passes, fails}
 use Rattle.reading.specs.Writing.{writeText}
-use Rattle.writing.specs.Writing.{axlesRight, pairsOf, valuesOf, firstWrongPair, isOutside, isWrongKind, Quote, refuse, quote, unless, quotePairs, isRight, quoteRight, quoteFile, fitting, written, answerOf, outputOf, bytesOf}
+use Rattle.tables.specs.Value.{pairsOf, valuesOf}
+use Rattle.writing.specs.Writing.{axlesRight, firstWrongPair, isOutside, isWrongKind, Quote, refuse, quote, unless, quotePairs, isRight, quoteRight, quoteFile, fitting, written, answerOf, outputOf, bytesOf}
 use Rattle.refusals.specs.Answer.{Answer, refusal, acceptance}
 use Rattle.writing.specs.declared.WriteAcceptance.{WriteAcceptance}
 use Rattle.writing.specs.Steps.{Ready, sectionsText}

@@ -26,7 +26,8 @@ use Rattle.reading.proofs.Sections.{kinds-take, rows-entries}
 use Rattle.reading.proofs.Formed.{text-length, short-text}
 use Rattle.reading.proofs.Written.{written, kept-length}
 use Rattle.reading.proofs.Tables.{tables-short}
-use Rattle.writing.specs.Writing.{axlesRight, pairsOf, valuesOf, firstWrongPair, isOutside, isWrongKind, refuse, quote, quotePairs, isRight, quoteRight, quoteFile}
+use Rattle.tables.specs.Value.{pairsOf, valuesOf}
+use Rattle.writing.specs.Writing.{axlesRight, firstWrongPair, isOutside, isWrongKind, refuse, quote, quotePairs, isRight, quoteRight, quoteFile}
 use Rattle.writing.specs.Steps.{entryCount, pairCheck, pairLengths}
 use Rattle.writing.proofs.Checks.{count-entries, within-all, kept-all}
 use Rattle.writing.proofs.Lengths.{lengths-are}

@@ -12,16 +12,17 @@ use borrow.Author.Tests.{leb-true, eqb-true}
 use Rattle.lines.specs.Writing.{put}
 use Rattle.lines.proofs.Bools.{clash}
 use Rattle.tables.specs.Section.{entriesOf}
-use Rattle.tables.specs.File.{File, fileNumber, hasAxles, sections, entries}
+use Rattle.tables.specs.File.{fileNumber, hasAxles, sections, entries}
 use Rattle.reading.specs.Writing.{writeText}
 use Rattle.reading.proofs.Written.{written as written-fits, kept-length}
 use Rattle.files.specs.Files.{AxleCount, IsFile}
 use Rattle.refusals.specs.Answer.{acceptance}
 use Rattle.files.specs.Alone.{accepted as accepted-with, aloneAnswer, alonePlaces}
 use Rattle.files.proofs.Pairs.{alone-complete}
-use Rattle.writing.specs.Writing.{axlesRight, valuesOf, Quote, refuse, quote, quoteFile, fitting, written, answerOf, outputOf, bytesOf}
+use Rattle.tables.specs.Value.{valuesOf}
+use Rattle.writing.specs.Writing.{axlesRight, Quote, refuse, quote, quoteFile, fitting, quoteFor, written, answerOf, outputOf, outputAfter, bytesOf}
 use Rattle.refusals.specs.Answer.{refusal}
-use Rattle.writing.specs.ReadBack.{valuesNumbered, outputAfter, ReadsBack}
+use Rattle.writing.specs.ReadBack.{valuesNumbered, ReadsBack}
 use Rattle.writing.proofs.Quotes.{RightFile, right-file, of-right, axles-range}
 use Rattle.writing.proofs.Acceptance.{Accepted, accepted, accepted-right, written-inv}
 
@@ -71,9 +72,9 @@ refused-inv file (refuse i j) k g l bytes out e = refl
 refused-inv file (quote m) k g l bytes out e = clash (cc)
 
 -- what is answered with a length was accepted, and the output had room
-module _ (file n : ℕ) (s p out : List ℕ) (m : ℕ) (e : answerOf file (fitting (quoteFile file n s p) (length out)) ≡ written m) where
-  fits : fitting (quoteFile file n s p) (length out) ≡ quote m
-  fits = written-inv file (fitting (quoteFile file n s p) (length out)) m (sym e)
+module _ (file n : ℕ) (s p out : List ℕ) (m : ℕ) (e : answerOf file (quoteFor file n s p out) ≡ written m) where
+  fits : quoteFor file n s p out ≡ quote m
+  fits = written-inv file (quoteFor file n s p out) m (sym e)
 
   pub written-accepted : (quoteFile file n s p ≡ quote m) × (m ≤ length out)
   written-accepted = fits-inv (quoteFile file n s p) (length out) m fits
@@ -89,8 +90,8 @@ module _ (file n : ℕ) (s p out : List ℕ) (m : ℕ) (e : answerOf file (fitti
       (ap (take m) a ∙ take-at b (drop (0 + length b) out) m l, ap (drop m) a ∙ drop-at b (drop (0 + length b) out) m l ∙ d)
 
 -- "refused, the output stays"
-pub refused-stays : (file n : ℕ) (s p out : List ℕ) (k g l : ℕ) → answerOf file (fitting (quoteFile file n s p) (length out)) ≡ refusal k g l → outputAfter file n s p out ≡ out
-refused-stays file n s p out k g l e = refused-inv file (fitting (quoteFile file n s p) (length out)) k g l (bytesOf file n s p) out e
+pub refused-stays : (file n : ℕ) (s p out : List ℕ) (k g l : ℕ) → answerOf file (quoteFor file n s p out) ≡ refusal k g l → outputAfter file n s p out ≡ out
+refused-stays file n s p out k g l e = refused-inv file (quoteFor file n s p out) k g l (bytesOf file n s p) out e
 
 -- 01, Writing: "By this call a written file reads back"
 pub reads-back : ReadsBack

@@ -6,7 +6,8 @@ use lib.ListN.{length, take}
 use Rattle.tables.specs.File.{leastPlaces, ofNumber}
 use Rattle.refusals.specs.Answer.{acceptance}
 use Rattle.files.specs.Alone.{accepted, aloneAnswer, alonePlaces}
-use Rattle.writing.specs.Writing.{valuesOf, quoteFile, fitting, written, answerOf, outputOf, bytesOf}
+use Rattle.tables.specs.Value.{valuesOf}
+use Rattle.writing.specs.Writing.{quoteFor, written, answerOf, outputAfter}
 
 -- the values at the pairs of the file of this number with n axles
 abbrev pub valuesNumbered : ℕ → ℕ → List ℕ → List ℕ → List (List ℕ)
@@ -17,11 +18,7 @@ pub record IsReadBack (file n : ℕ) (s p t q : List ℕ) : Type 0 where
   pub answer : aloneAnswer file t q ≡ acceptance (accepted n)
   pub values : valuesNumbered file n t (alonePlaces file t q) ≡ valuesNumbered file n s p
 
--- the output after writing
-abbrev pub outputAfter : ℕ → ℕ → List ℕ → List ℕ → List ℕ → List ℕ
-outputAfter file n s p out = outputOf (fitting (quoteFile file n s p) (length out)) (bytesOf file n s p) out
-
 -- what writing accepts with the length m, and wrote into the first m bytes of the output, reads back
 abbrev pub ReadsBack : Type 0
-ReadsBack = (file n : ℕ) (s p out : List ℕ) (m : ℕ) → answerOf file (fitting (quoteFile file n s p) (length out)) ≡ written m
+ReadsBack = (file n : ℕ) (s p out : List ℕ) (m : ℕ) → answerOf file (quoteFor file n s p out) ≡ written m
     → (q : List ℕ) → leastPlaces ≤ length q → IsReadBack file n s p (take m (outputAfter file n s p out)) q

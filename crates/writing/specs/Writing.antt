@@ -10,9 +10,10 @@ use Rattle.kinds.specs.Kind.{Kind}
 use Rattle.kinds.specs.Value.{kindKept}
 use Rattle.lines.specs.Writing.{put}
 use Rattle.refusals.specs.Answer.{Answer, refusal, acceptance, refusalOf}
-use Rattle.tables.specs.File.{File, hasAxles, leastAxles, mostAxles, sections, entries, firstPair, leastPlaces, ofNumber}
-use Rattle.places.specs.Places.{Pair, valueAt, valuesAt, pairsAt}
+use Rattle.tables.specs.File.{File, hasAxles, leastAxles, mostAxles, sections, leastPlaces, ofNumber}
+use Rattle.places.specs.Places.{Pair, valueAt}
 use Rattle.tables.specs.Row.{rowKinds}
+use Rattle.tables.specs.Value.{pairsOf, valuesOf}
 use Rattle.reading.specs.Reading.{Check, passes, fails}
 use Rattle.reading.specs.Writing.{writeText}
 use Rattle.writing.specs.declared.WriteAcceptance.{WriteAcceptance}
@@ -25,13 +26,6 @@ use Rattle.writing.specs.declared.Quoted.the-variants.{Length, Refused a
 abbrev pub axlesRight : Bool → ℕ → Bool
 axlesRight true n = leb leastAxles n && leb n mostAxles
 axlesRight false n = eqb n 0
-
--- a file's pairs in the places, and the values that they name in the text
-abbrev pub pairsOf : File → ℕ → List ℕ → List Pair
-pairsOf f n p = pairsAt p (firstPair f) (length (entries f n))
-
-abbrev pub valuesOf : File → ℕ → List ℕ → List ℕ → List (List ℕ)
-valuesOf f n s p = valuesAt s p (firstPair f) (length (entries f n))
 
 -- Along the rows of a table as they are written, line l the first of them: the first entry whose pair is wrong, with the
 -- line that it would have.
@@ -111,6 +105,14 @@ outputOf (quote m) bytes out = put out 0 bytes
 abbrev pub bytesOf : ℕ → ℕ → List ℕ → List ℕ → List ℕ
 bytesOf file n s p = ofNumber [] (λ f. writeText (sections f n) (valuesOf f n s p)) file
 
+-- 01, Writing: "Order 1, 16, 17, 9, 18", for this output
+abbrev pub quoteFor : ℕ → ℕ → List ℕ → List ℕ → List ℕ → Quote
+quoteFor file n s p out = fitting (quoteFile file n s p) (length out)
+
+-- the output after writing
+abbrev pub outputAfter : ℕ → ℕ → List ℕ → List ℕ → List ℕ → List ℕ
+outputAfter file n s p out = outputOf (quoteFor file n s p out) (bytesOf file n s p) out
+
 pub record Writes (s p : List ℕ) (file n : ℕ) (out after : List ℕ) (r : WriteAnswer) : Type 0 where
-  pub answer : answerIs r ≡ answerOf file (fitting (quoteFile file n s p) (length out))
-  pub output : after ≡ outputOf (fitting (quoteFile file n s p) (length out)) (bytesOf file n s p) out
+  pub answer : answerIs r ≡ answerOf file (quoteFor file n s p out)
+  pub output : after ≡ outputAfter file n s p out

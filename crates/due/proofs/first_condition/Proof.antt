@@ -1,25 +1,27 @@
 -- Each file's number is looked at. Assumes nothing.
 use mathlib.Core.Path.{refl, sym}
-use Rattle.tables.specs.File.{ofNumber}
+use Rattle.tables.specs.Section.{entriesOf}
+use Rattle.tables.specs.Entries.{newBooking, oldBooking, tester, protocol, measurement, sixteen}
+use Rattle.tables.specs.File.{ofNumber, fixedSections, axlesFrom, axleSections, sections, entries}
 use Rattle.due.specs.Table.{firstCondition}
 use Rattle.due.proofs.Pairs.{of-others}
 use Rattle.due.proofs.first_condition.Statement.{statement}
 use Rattle.due.proofs.first_condition.Tie as tie
 
 returns : tie.Need-returns
-unfolding ofNumber firstCondition
+unfolding ofNumber firstCondition entries entriesOf sections fixedSections axleSections newBooking
 returns c = rw (c .match .keys1)
 
 returns-2 : tie.Need-returns-2
-unfolding ofNumber firstCondition
+unfolding ofNumber firstCondition entries entriesOf sections fixedSections axleSections newBooking oldBooking
 returns-2 c = rw (c .match .keys2)
 
 returns-3 : tie.Need-returns-3
-unfolding ofNumber firstCondition
+unfolding ofNumber firstCondition entries entriesOf sections fixedSections axleSections newBooking oldBooking
 returns-3 c = rw (c .match .keys3)
 
 returns-4 : tie.Need-returns-4
-unfolding ofNumber firstCondition
+unfolding ofNumber firstCondition entries entriesOf sections fixedSections axleSections axlesFrom newBooking oldBooking sixteen tester protocol measurement
 returns-4 c = rw (c .match .keys4)
 
 returns-5 : tie.Need-returns-5

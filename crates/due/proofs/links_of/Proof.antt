@@ -3,7 +3,7 @@ use borrow.Author.Needs.{needs}
 use mathlib.Core.Path.{refl, sym}
 use lib.Dec.{lit<}
 use Rattle.tables.specs.File.{File, gas}
-use Rattle.due.specs.Values.{valuesOf}
+use Rattle.tables.specs.Value.{valuesOf}
 use Rattle.due.specs.Conditions.{noLinks, linksOf, linksNumbered}
 use Rattle.due.proofs.Pairs.{of-number, of-others, number-held, gas-held}
 use Rattle.due.proofs.Values.{gas-links}

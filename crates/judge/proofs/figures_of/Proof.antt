@@ -3,7 +3,7 @@ use borrow.Author.Needs.{needs}
 use mathlib.Core.Path.{refl, _∙_}
 use mathlib.Core.Bool.{false}
 use denote.Ref.{now}
-use Rattle.due.specs.Values.{valuesOf}
+use Rattle.tables.specs.Value.{valuesOf}
 use Rattle.rules.specs.Marks.{isMarked}
 use Rattle.judge.proofs.Numbers.{by-file}
 use Rattle.judge.proofs.figures_of.Statement.{statement}

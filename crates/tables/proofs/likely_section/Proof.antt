@@ -4,7 +4,7 @@ use native.Mathlib.Omega.{arith}
 use mathlib.Core.Path.{refl}
 use lib.ListN.{length}
 use borrow.Author.Tests.{lt-ltb, le-ltb}
-use Rattle.tables.specs.Row.{likelySection}
+use Rattle.tables.specs.Groups.{likelySection}
 use Rattle.tables.proofs.likely_section.Statement.{statement}
 use Rattle.tables.proofs.likely_section.Tie as tie
 

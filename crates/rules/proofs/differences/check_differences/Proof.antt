@@ -5,7 +5,7 @@ use Prim.Native.Nat.{_+_, _-_, _*_, _≤_}
 use native.Mathlib.Omega.{arith}
 use native.Mathlib.Nat.{sub-zero}
 use Rattle.tables.specs.File.{suspension}
-use Rattle.due.specs.Values.{valuesOf}
+use Rattle.tables.specs.Value.{valuesOf}
 use Rattle.due.proofs.Pairs.{axle-held}
 use Rattle.rules.specs.Rule.{firstBroken}
 use Rattle.rules.specs.Differences.{differencesFrom}

@@ -3,7 +3,7 @@ use mathlib.Core.Path.{sym}
 use mathlib.Core.Bool.{false}
 use native.Mathlib.Omega.{arith}
 use Rattle.tables.specs.File.{File, drift, suspension, gas}
-use Rattle.due.specs.Values.{valuesOf}
+use Rattle.tables.specs.Value.{valuesOf}
 use Rattle.rules.specs.Marks.{isMarked}
 use Rattle.tables.proofs.Numbers.{first-pairs}
 use Rattle.due.proofs.Pairs.{of-number, of-others, number-held}
