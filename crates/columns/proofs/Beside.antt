@@ -10,20 +10,19 @@ use Rattle.refusals.specs.Refusals.{numberOf, refusalWith}
 use Rattle.refusals.specs.Answer.{refusal, acceptance}
 use Rattle.refusals.specs.declared.Refusal.{Refusal}
 use Rattle.refusals.specs.declared.RefusalKind.the-variants.{OutputTooShort}
-use Rattle.places.specs.Places.{Pair, setPairs, pairsAt, valueAt, valuesAt, cleared, Within}
+use Rattle.places.specs.Places.{Pair, setPairs, valueAt, cleared, Within}
 use Rattle.tables.specs.Section.{Section, entriesOf}
-use Rattle.tables.specs.Row.{rowsBefore}
-use Rattle.tables.specs.File.{File, ac2, acc, drift, suspension, gas, ofNumber, fixedSections, allSections, entries, room, firstPair, leastPlaces, tableOf}
+use Rattle.tables.specs.Row.{entriesBefore}
+use Rattle.tables.specs.File.{File, ofNumber, fixedSections, entries, firstPair, leastPlaces, tableOf}
 use Rattle.tables.proofs.Files.{table-of}
 use Rattle.tables.proofs.Numbers.{first-pairs}
 use Rattle.tables.proofs.Axles.{entries-most}
 use Rattle.reading.specs.Reading.{Reading}
-use Rattle.reading.proofs.Sections.{rows-entries}
 use Rattle.files.specs.Files.{axlesOf}
 use Rattle.files.specs.Alone.{readAlone, ReadsAlone}
 use Rattle.files.specs.declared.FileAnswer.{FileAnswer}
 use Rattle.files.specs.declared.FileAnswer.the-variants as FileAnswer
-use Rattle.files.proofs.Pairs.{same-file, AloneRead, rooms-fit, refused-inv, by-alone, alone-few, alone-sections, alone-length, alone-pairs, alone-cleared}
+use Rattle.files.proofs.Pairs.{AloneRead, rooms-fit, refused-inv, by-alone, alone-few, alone-sections, alone-length, alone-pairs, alone-cleared}
 use Rattle.due.specs.Booking.{bookingIn}
 use Rattle.due.specs.Values.{NumberHeld}
 use Rattle.due.specs.Conditions.{linksNumbered, withLinks, conditionsOf}
@@ -57,22 +56,18 @@ module _ (file : ℕ) (t p q : List ℕ) (n : ℕ) (x : AloneRead file t p q n) 
     pub sections-few : n + k ≤ 10
     sections-few = omega (arith, sections-are, alone-sections x)
 
-    module _ (r : ℕ) (er : r ≡ rowsBefore (tableOf file) (n + k)) where
-      rows-are : r ≡ n + k + size
+    pub sections-in : n + k ≤ length (tableOf file)
+    sections-in = rw (ap tableOf (x .number-is) ∙ table-of f, sections-are) (x .most)
+
+    module _ (r : ℕ) (er : r ≡ entriesBefore (tableOf file) (n + k)) where
+      pub count-is : r ≡ size
       unfolding entries
-      rows-are =
-          er ∙ ap₂ (λ (y : List Section) (m : ℕ). rowsBefore y m) (ap tableOf (x .number-is) ∙ table-of f) sections-are
-          ∙ rows-entries (allSections f) (x .count) (x .most)
-          ∙ ap₂ (λ (m : ℕ) (y : List Section). m + length (entriesOf y)) (sym sections-are) (x .is .counted .sections-are)
-          ∙ ap (λ (m : ℕ). n + k + length (entries f m)) (sym (x .axles-are))
+      count-is =
+          er ∙ ap₂ (λ (y : List Section) (m : ℕ). entriesBefore y m) (ap tableOf (x .number-is) ∙ table-of f) sections-are
+          ∙ ap (λ (y : List Section). length (entriesOf y)) (x .is .counted .sections-are)
+          ∙ ap (λ (m : ℕ). length (entries f m)) (sym (x .axles-are))
 
-      pub rows-enough : n + k ≤ r
-      rows-enough = omega (arith, rows-are)
-
-      pub count-is : r - (n + k) ≡ size
-      count-is = omega (arith, rows-are)
-
-      pub count-few : r - (n + k) ≤ 139
+      pub count-few : r ≤ 139
       count-few = omega (arith, count-is, entries-most f n (alone-few x), rooms-fit f, first-pairs .5)
 
   pub conditions-ready : NumberHeld file 0 t q

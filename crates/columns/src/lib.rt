@@ -69,7 +69,7 @@ fn column_beside(
         FileAnswer::Accepted(a) => {
             let axles = a.axles;
             let sections = axles as usize + tables::fixed_section_count(file);
-            let count = tables::rows_before(file, sections) - sections;
+            let count = tables::entries_before(file, sections);
             if column.len() < count {
                 places::clear(places, tables::least_places());
                 return ColumnAnswer::Refused(Refusal {

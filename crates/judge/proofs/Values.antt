@@ -1,7 +1,7 @@
 -- The values of a file that was read: what each call of `judge_values` asks, and a law for each way out. Assumes nothing.
 use Prim.Native.Nat.{ℕ, _+_, _-_, _*_, _≤_, _<_}
 use native.Mathlib.Omega.{arith}
-use mathlib.Core.Path.{_≡_, refl, ap, ap₂, sym, subst, _∙_}
+use mathlib.Core.Path.{_≡_, refl, ap, ap₂, sym, _∙_}
 use mathlib.Core.Bool.{true, false}
 use mathlib.Core.List.{List, [], _∷_}
 use lib.Dec.{ltb}
@@ -13,10 +13,9 @@ use Rattle.refusals.specs.declared.RefusalKind.the-variants.{NotAsDue}
 use Rattle.places.specs.Places.{Pair, placeSize, pairsAt}
 use Rattle.places.proofs.Laws.{values-length}
 use Rattle.tables.specs.Section.{Section, entriesOf}
-use Rattle.tables.specs.Row.{rowsBefore}
-use Rattle.tables.specs.File.{File, mostAxles, ac2, acc, drift, suspension, gas, fileNumber, fixedSections, allSections, entries, room, firstPair, ofNumber, tableOf}
+use Rattle.tables.specs.Row.{entriesBefore}
+use Rattle.tables.specs.File.{File, mostAxles, ac2, fileNumber, fixedSections, entries, room, firstPair, ofNumber, tableOf}
 use Rattle.tables.proofs.Axles.{entries-most}
-use Rattle.reading.proofs.Sections.{rows-entries}
 use Rattle.files.specs.Files.{axlesOf}
 use Rattle.files.proofs.Pairs.{rooms-fit}
 use Rattle.due.specs.Booking.{bookingIn}
@@ -61,26 +60,22 @@ module _ (file c : ℕ) (b : Booking) (s t p ls : List ℕ) (w : ValuesReady fil
   pub conditions-ready : NumberHeld file 0 t p
   conditions-ready = fixed-held file n t p (held-number f file n t p (sym (w .number)) (w .own))
 
-  rows-are : (r : ℕ) → r ≡ rowsBefore (tableOf file) c → r ≡ c + size
+  pub sections-in : c ≤ length (tableOf file)
+  sections-in = rw (table file (w .number)) (w .most)
+
+  pub count-is : (r : ℕ) → r ≡ entriesBefore (tableOf file) c → r ≡ size
   unfolding entries
-  rows-are r e =
-      e ∙ ap (λ (x : List Section). rowsBefore x c) (table file (w .number))
-      ∙ rows-entries (allSections f) c (w .most)
-      ∙ ap (λ (x : List Section). c + length (entriesOf x)) (w .sections-are)
-
-  pub rows-enough : (r : ℕ) → r ≡ rowsBefore (tableOf file) c → c ≤ r
-  rows-enough r e = omega (arith, rows-are r e)
-
-  pub count-is : (r : ℕ) → r ≡ rowsBefore (tableOf file) c → r - c ≡ size
-  count-is r e = omega (arith, rows-are r e)
+  count-is r e =
+      e ∙ ap (λ (x : List Section). entriesBefore x c) (table file (w .number))
+      ∙ ap (λ (x : List Section). length (entriesOf x)) (w .sections-are)
 
   count-most : size ≤ room f
   count-most = entries-most f n (w .few)
 
-  pub count-fits : (r : ℕ) → r ≡ rowsBefore (tableOf file) c → r - c ≤ length ls
+  pub count-fits : (r : ℕ) → r ≡ entriesBefore (tableOf file) c → r ≤ length ls
   count-fits r e = omega (arith, count-is r e, count-most, few-entries f, w .lines)
 
-  pub pairs-ready : (r : ℕ) → r ≡ rowsBefore (tableOf file) c → (first : ℕ) → first ≡ ofNumber 0 firstPair file → placeSize * (first + (r - c)) ≤ length p
+  pub pairs-ready : (r : ℕ) → r ≡ entriesBefore (tableOf file) c → (first : ℕ) → first ≡ ofNumber 0 firstPair file → placeSize * (first + r) ≤ length p
   pairs-ready r e first d = omega (arith, count-is r e, count-most, rooms-fit f, d ∙ by-file file (w .number) 0 firstPair, w .held .0)
 
   pub fixed-few : (k : ℕ) → k ≡ ofNumber 0 (λ f. length (fixedSections f)) file → k ≤ c

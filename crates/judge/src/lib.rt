@@ -91,7 +91,7 @@ fn judge_values(
     ensures { λ r. ⌜ JudgesValues (fileNumbered file) sections (now (booking .entry)) (now (text .entry)) (now (places .entry)) (now (lines .entry)) r ⌝ }
 {
     let conditions = due::conditions_of(file, b, text, places);
-    let count = tables::rows_before(file, sections) - sections;
+    let count = tables::entries_before(file, sections);
     let first = tables::first_pair(file);
     let entry = due::first_not_as_due(file, first, count, conditions, places);
     if entry < count {

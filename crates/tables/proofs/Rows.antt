@@ -9,7 +9,7 @@ use lib.ListN.{length, getD, set, take, length-append, length-map, List·getD-eq
 use lib.Seq.{take-suc, take-suc-set, take-all}
 use borrow.Author.Tests.{le-ltb, lt-ltb}
 use Rattle.kinds.specs.Kind.{Kind, numbered, kindOf}
-use Rattle.tables.specs.Section.{Section}
+use Rattle.tables.specs.Section.{Section, entriesOf}
 use Rattle.tables.specs.Entries.{
   newBooking,
   oldBooking,
@@ -43,7 +43,7 @@ use Rattle.tables.specs.File.{
   axlesFrom,
   axleEntries,
 }
-use Rattle.tables.specs.Row.{entriesIn, rowCount, rowsBefore, mostRows, rowKinds, rowKind}
+use Rattle.tables.specs.Row.{entriesIn, rowCount, rowsBefore, mostRows, rowKinds, rowKind, entriesBefore}
 use Rattle.tables.proofs.Files.{of-any}
 use Rattle.tables.proofs.Sections.{at-file}
 
@@ -53,6 +53,13 @@ rows-le [] zero = omega arith
 rows-le [] (suc c) = omega arith
 rows-le (s ∷ t) zero = omega arith
 rows-le (s ∷ t) (suc c) = omega (arith, rows-le t c)
+
+-- c headings, and the entries of c sections
+pub rows-entries : (t : List Section) (c : ℕ) → c ≤ length t → rowsBefore t c ≡ c + entriesBefore t c
+unfolding rowCount entriesOf
+rows-entries t zero l = refl
+rows-entries [] (suc c) l = absurd (omega arith)
+rows-entries (x ∷ t) (suc c) l = omega (arith, rows-entries t c (omega arith), length-append (x .entries) (entriesOf (take c t)))
 
 -- an entry's row is one of the table's
 pub row-in : (t : List Section) (c i : ℕ) → i < length (entriesIn t c) → rowsBefore t c + 1 + i < rowCount t

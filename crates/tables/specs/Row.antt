@@ -7,7 +7,7 @@ use lib.Dec.{ltb}
 use lib.ListN.{length, getD, take}
 use Rattle.kinds.specs.Kind.{Kind, NoKind, numbered, kindOf}
 use Rattle.kinds.specs.Value.{wordIndex}
-use Rattle.tables.specs.Section.{Entry, Section}
+use Rattle.tables.specs.Section.{Entry, Section, entriesOf}
 
 abbrev pub noEntry : Entry
 noEntry = record { name = []; kind = NoKind }
@@ -65,6 +65,10 @@ mostRows = 64
 -- how many rows stand before section c: the row of its heading
 abbrev pub rowsBefore : List Section → ℕ → ℕ
 rowsBefore t c = rowCount (take c t)
+
+-- how many entries stand before section c
+abbrev pub entriesBefore : List Section → ℕ → ℕ
+entriesBefore t c = length (entriesOf (take c t))
 
 -- the row of entry i of section c; the number of rows where it has none
 unfoldable pub rowAt : List Section → ℕ → ℕ → ℕ

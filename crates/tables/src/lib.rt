@@ -14,7 +14,7 @@ ghost use Rattle.lines.specs.Bytes.{sameBytes};
 ghost use Rattle.lines.specs.Line.{heading as headingLine, entry as entryLine, writtenLine, writtenLength};
 ghost use Rattle.lines.specs.Writing.{Wrote};
 ghost use Rattle.tables.specs.File.{tableOf, ofNumber, isFile, leastSections, fixedSections, room as roomOf, firstPair, leastPlaces};
-ghost use Rattle.tables.specs.Row.{entriesIn, names, nameIn, nameAt, headingAt, sectionOf, entryIn, rowsBefore, rowCount, rowAt};
+ghost use Rattle.tables.specs.Row.{entriesIn, names, nameIn, nameAt, headingAt, sectionOf, entryIn, rowsBefore, entriesBefore, rowCount, rowAt};
 ghost use Rattle.tables.specs.Groups.{groupOf, tagOf, sectionDigit, likelySection, PassesTo, Lent, SectionLent, InRow, rowName, StandsAt, IsPlaceOf};
 
 // The numbers of the files (01, the set).
@@ -184,6 +184,14 @@ pub fn rows_before(file: u32, section: usize) -> usize
         },
         _ => 0,
     }
+}
+
+// How many entries stand before a section: a row for each but the sections' headings.
+pub fn entries_before(file: u32, section: usize) -> usize
+    requires { ⌜ section ≤ length (tableOf file) ⌝ }
+    ensures { λ r. ⌜ r ≡ entriesBefore (tableOf file) section ⌝ }
+{
+    rows_before(file, section) - section
 }
 
 // How many rows a file's table has.

@@ -18,11 +18,11 @@ use Rattle.tables.specs.File.{File, ac2, acc, drift, suspension, gas, fileNumbe
 use Rattle.tables.proofs.Files.{of-file, of-none, of-any, table-of, NoFile}
 use Rattle.tables.proofs.Axles.{sections-fixed, sections-length, sections-prefix, entries-most}
 use Rattle.tables.proofs.Numbers.{room-in, first-pairs}
-use Rattle.tables.proofs.Rows.{rows-le, rows-few, kinds-count}
+use Rattle.tables.proofs.Rows.{rows-le, rows-few, rows-entries, kinds-count}
 use Rattle.reading.specs.Tables.{tableLength, valuesLength, mostBytes}
 use Rattle.reading.specs.Reading.{passes, fails}
 use Rattle.reading.specs.Writing.{writeText}
-use Rattle.reading.proofs.Sections.{kinds-take, rows-entries}
+use Rattle.reading.proofs.Sections.{kinds-take}
 use Rattle.reading.proofs.Formed.{text-length, short-text}
 use Rattle.reading.proofs.Written.{written, kept-length}
 use Rattle.reading.proofs.Tables.{tables-short}

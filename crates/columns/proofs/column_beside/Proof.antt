@@ -4,7 +4,7 @@ use native.Mathlib.Omega.{arith}
 use denote.Ref.{now}
 use borrow.Author.Tests.{not-true, not-false}
 use Rattle.files.proofs.Pairs.{accepted-inv}
-use Rattle.columns.proofs.Beside.{sections-few, rows-enough, count-is, count-few, conditions-ready, column-is, too-short, given, beside-unread, beside-read, beside-refused}
+use Rattle.columns.proofs.Beside.{sections-few, sections-in, count-is, count-few, conditions-ready, column-is, too-short, given, beside-unread, beside-read, beside-refused}
 use Rattle.columns.proofs.column_beside.Statement.{statement}
 use Rattle.columns.proofs.column_beside.Tie as tie
 
@@ -45,13 +45,10 @@ add-sections c =
     let x = c .before .before .before .before .before .before .before .before .before .before .before .before .before in
     omega (arith, sections-few (x .args .file) (now (x .args .text)) (now (x .args .places)) _ _ (accepted-inv (c .before .before .before .before .before .before .read-alone .ensures) _ (c .before .before .a .given .1)) _ (c .fixed-section-count .ensures))
 
-rows-before-requires : tie.Need-rows-before-requires
-rows-before-requires c κs = search needs
-
-sub-count : tie.Need-sub-count
-sub-count c =
-    let x = c .before .before .before .before .before .before .before .before .before .before .before .before .before .before in
-    rows-enough (x .args .file) (now (x .args .text)) (now (x .args .places)) _ _ (accepted-inv (c .before .before .before .before .before .before .before .read-alone .ensures) _ (c .before .before .before .a .given .1)) _ (c .before .fixed-section-count .ensures) _ (c .rows-before .ensures)
+entries-before-requires : tie.Need-entries-before-requires
+entries-before-requires c κs =
+    let x = c .before .before .before .before .before .before .before .before .before .before .before .before .before in
+    sections-in (x .args .file) (now (x .args .text)) (now (x .args .places)) _ _ (accepted-inv (c .before .before .before .before .before .before .read-alone .ensures) _ (c .before .before .a .given .1)) _ (c .fixed-section-count .ensures)
 
 least-places-requires-2 : tie.Need-least-places-requires-2
 least-places-requires-2 c κs = search needs
@@ -66,7 +63,7 @@ returns-2 : tie.Need-returns-2
 returns-2 c =
     let x = c .before .before .before .before .before .before .before .before .before .before .before .before .before .before .before .before .before .before .before .before in
     let y = accepted-inv (c .before .before .before .before .before .before .before .before .before .before .before .before .before .read-alone .ensures) _ (c .before .before .before .before .before .before .before .before .before .a .given .1) in
-    let m = count-is (x .args .file) (now (x .args .text)) (now (x .args .places)) _ _ y _ (c .before .before .before .before .before .before .before .fixed-section-count .ensures) _ (c .before .before .before .before .before .before .rows-before .ensures) in
+    let m = count-is (x .args .file) (now (x .args .text)) (now (x .args .places)) _ _ y _ (c .before .before .before .before .before .before .before .fixed-section-count .ensures) _ (c .before .before .before .before .before .before .entries-before .ensures) in
     λ a e. rw (c .before .before .clear2 .ensures) (beside-read (x .args .file) (now (x .args .text)) (now (x .args .places)) (now (x .args .column)) (x .args .booking) _ (c .before .before .before .before .before .before .before .before .before .before .before .before .before .before .before .before .is-read .ensures) a e (not-false _ (c .before .before .before .before .before .before .before .before .before .before .before .before .before .before .before .if1 .left)) _ _ _ (too-short (x .args .file) (now (x .args .text)) (now (x .args .places)) _ _ y (now (x .args .column)) a _ m (c .before .before .before .before .before .if2 .taken) _ (c .before .before .before .least-places2 .ensures)))
 
 conditions-of-requires : tie.Need-conditions-of-requires
@@ -80,7 +77,7 @@ write-column-requires c κs = search needs
 cast-t37 : tie.Need-cast-t37
 cast-t37 c =
     let x = c .before .before .before .before .before .before .before .before .before .before .before .before .before .before .before .before .before .before .before .before .before in
-    omega (arith, count-few (x .args .file) (now (x .args .text)) (now (x .args .places)) _ _ (accepted-inv (c .before .before .before .before .before .before .before .before .before .before .before .before .before .before .read-alone .ensures) _ (c .before .before .before .before .before .before .before .before .before .before .a .given .1)) _ (c .before .before .before .before .before .before .before .before .fixed-section-count .ensures) _ (c .before .before .before .before .before .before .before .rows-before .ensures))
+    omega (arith, count-few (x .args .file) (now (x .args .text)) (now (x .args .places)) _ _ (accepted-inv (c .before .before .before .before .before .before .before .before .before .before .before .before .before .before .read-alone .ensures) _ (c .before .before .before .before .before .before .before .before .before .before .a .given .1)) _ (c .before .before .before .before .before .before .before .before .fixed-section-count .ensures) _ (c .before .before .before .before .before .before .before .entries-before .ensures))
 
 same-length-3 : tie.Need-same-length-3
 same-length-3 c = search needs
@@ -100,7 +97,7 @@ returns-4 : tie.Need-returns-4
 returns-4 c =
     let x = c .before .before .before .before .before .before .before .before .before .before .before .before .before .before .before .before .before .before .before .before .before in
     let y = accepted-inv (c .before .before .before .before .before .before .before .before .before .before .before .before .before .before .read-alone .ensures) _ (c .before .before .before .before .before .before .before .before .before .before .a .given .1) in
-    let m = count-is (x .args .file) (now (x .args .text)) (now (x .args .places)) _ _ y _ (c .before .before .before .before .before .before .before .before .fixed-section-count .ensures) _ (c .before .before .before .before .before .before .before .rows-before .ensures) in
+    let m = count-is (x .args .file) (now (x .args .text)) (now (x .args .places)) _ _ y _ (c .before .before .before .before .before .before .before .before .fixed-section-count .ensures) _ (c .before .before .before .before .before .before .before .entries-before .ensures) in
     λ a e. rw (c .before .before .write-column .ensures) (beside-read (x .args .file) (now (x .args .text)) (now (x .args .places)) (now (x .args .column)) (x .args .booking) _ (c .before .before .before .before .before .before .before .before .before .before .before .before .before .before .before .before .before .is-read .ensures) a e (not-false _ (c .before .before .before .before .before .before .before .before .before .before .before .before .before .before .before .before .if1 .left)) _ _ _ (given (x .args .file) (now (x .args .text)) (now (x .args .places)) _ _ y (now (x .args .column)) a _ m (c .before .before .before .before .before .before .if2 .left) _ (column-is (x .args .file) (now (x .args .text)) (now (x .args .places)) _ _ y a (x .args .booking) e _ (c .before .before .before .before .conditions-of .ensures) _ m)))
 
 pub column-beside-spec : {M : Type 1} → statement M
@@ -118,8 +115,7 @@ column-beside-spec =
     cast-sections
     fixed-section-count-requires
     add-sections
-    rows-before-requires
-    sub-count
+    entries-before-requires
     least-places-requires-2
     clear-requires-2
     same-length-2
