@@ -10,12 +10,13 @@ use Rattle.refusals.specs.Refusals.{numberOf}
 use Rattle.refusals.specs.declared.RefusalKind.{RefusalKind}
 use Rattle.kinds.specs.Kind.{Kind}
 use Rattle.places.specs.Places.{Pair, setPairs, placeSize, valueAt}
-use Rattle.tables.specs.Section.{Section, entriesOf}
-use Rattle.tables.specs.Row.{rowCount, rowKinds, rowKind}
+use Rattle.tables.specs.Section.{Section}
+use Rattle.tables.specs.Row.{rowCount, rowKinds, rowKind, entriesBefore}
 use Rattle.orders.specs.AnyOrder.{zip}
-use Rattle.reading.specs.Scanning.{Ready}
+use Rattle.reading.specs.Tables.{mostBytes}
+use Rattle.reading.specs.Scanning.{Ready, Scanned}
 use Rattle.tables.specs.File.{firstPair, leastSections, ofNumber, tableOf}
-use Rattle.reading.specs.Reading.{Slots, Scan, stopped, scanned, Check, passes, fails, Reading, refused, read, readSlots, judgeSlots, sectionsFound, ofEntries, readText}
+use Rattle.reading.specs.Reading.{Slots, Scan, stopped, scanned, Check, passes, fails, Reading, refused, read, readSlots, judgeSlots, sectionsFound, ofEntries, readText, emptySlots}
 use Rattle.files.specs.Files.{readNumbered}
 use Rattle.files.specs.declared.Outcome.{Outcome}
 use Rattle.files.specs.declared.Outcome.the-variants.{Passed, Failed}
@@ -33,6 +34,14 @@ failure k l = Failed (record { kind = k; line = l })
 abbrev pub scanIs : Outcome → Slots → Scan
 scanIs Passed a = scanned a
 scanIs (Failed x) a = stopped (numberOf (x .kind)) (x .line)
+
+-- the text s of file n was scanned, from the slots a to the slots b
+abbrev pub ScansFile : ℕ → List ℕ → Slots → Slots → Outcome → Type 0
+ScansFile n s a b r = Scanned (tableOf n) s a b (scanIs r b)
+
+-- what reading a text s of file n into empty slots a asks: the numbers of its rows' kinds, and a text that is not too long
+abbrev pub SlotsEmpty : ℕ → List ℕ → List ℕ → Slots → Type 0
+SlotsEmpty n ks s a = KindsOf n ks × (length s ≤ mostBytes) × (a ≡ emptySlots (rowCount (tableOf n)))
 
 -- what the outcome of a check says
 abbrev pub checkIs : Outcome → Check
@@ -77,8 +86,8 @@ pub record WriteReady (n c : ℕ) (a : Slots) (p ls : List ℕ) : Type 0 where
   pub starts-are : length (a .starts) ≡ length (a .lineNumbers)
   pub lengths-are : length (a .lengths) ≡ length (a .lineNumbers)
   pub rows-are : length (a .lineNumbers) ≡ rowCount (tableOf n)
-  pub pairs-fit : placeSize * (ofNumber 0 firstPair n + length (entriesOf (take c (tableOf n)))) ≤ length p
-  pub lines-fit : length (entriesOf (take c (tableOf n))) ≤ length ls
+  pub pairs-fit : placeSize * (ofNumber 0 firstPair n + entriesBefore (tableOf n) c) ≤ length p
+  pub lines-fit : entriesBefore (tableOf n) c ≤ length ls
 
 -- the rows of kinds ks: their entries' pairs were set from `first` on, places p before, q after, and in ls are their lines
 pub record WritesRows (ks : List (Option Kind)) (first : ℕ) (a : Slots) (p q ls : List ℕ) : Type 0 where

@@ -10,9 +10,9 @@ ghost use Rattle.tables.specs.File.{tableOf, isFile, ofNumber, leastSections, l
 ghost use Rattle.tables.specs.Row.{names as namesOf, rowCount, mostRows, rowKind};
 ghost use Rattle.tables.specs.Groups.{groupOf, Lent};
 ghost use Rattle.reading.specs.Tables.{mostBytes};
-ghost use Rattle.reading.specs.Reading.{slots, emptySlots, sectionsFound, checkGap, checkAbsent, checkKinds, keptRow, ownerRow};
-ghost use Rattle.reading.specs.Scanning.{Took, Ready, Scanned};
-ghost use Rattle.files.specs.Steps.{KindsOf, ValuesReady, RowsReady, WritesRows, failure, scanIs, checkIs, JudgesSlots, WriteReady, WritesRead, ReadsSlots, ReadsText};
+ghost use Rattle.reading.specs.Reading.{slots, sectionsFound, checkGap, checkAbsent, checkKinds, keptRow, ownerRow};
+ghost use Rattle.reading.specs.Scanning.{Took, Ready};
+ghost use Rattle.files.specs.Steps.{KindsOf, ScansFile, SlotsEmpty, ValuesReady, RowsReady, WritesRows, failure, checkIs, JudgesSlots, WriteReady, WritesRead, ReadsSlots, ReadsText};
 ghost use Rattle.files.specs.Alone.{refusedAs, ReadsCleared, ReadsAlone};
 use kinds::numbers::KIND_COUNT;
 use lines::Cursor;
@@ -65,8 +65,10 @@ fn take_row(
     start: usize,
     size: usize,
 ) -> bool
-    requires { ⌜ (length (now starts) ≡ length (now numbers)) × (length (now lengths) ≡ length (now numbers)) × (line ≤ mostBytes) × (start + size ≤ mostBytes) ⌝ }
-    ensures { λ r. ⌜ Took (slots (now (numbers .entry)) (now (starts .entry)) (now (lengths .entry))) (slots (now (numbers .exit)) (now (starts .exit)) (now (lengths .exit))) row line start size r ⌝ }
+    requires { ⌜ (length (now starts) ≡ length (now numbers)) × (length (now lengths) ≡ length (now numbers))
+        × (line ≤ mostBytes) × (start + size ≤ mostBytes) ⌝ }
+    ensures { λ r. ⌜ Took (slots (now (numbers .entry)) (now (starts .entry)) (now (lengths .entry)))
+        (slots (now (numbers .exit)) (now (starts .exit)) (now (lengths .exit))) row line start size r ⌝ }
 {
     if numbers.len() <= row {
         return false;
@@ -102,8 +104,11 @@ fn scan_lines(
     starts: &mut [u32],
     lengths: &mut [u32],
 ) -> Outcome
-    requires { ⌜ Lent (namesOf (groupOf file)) (now names) (now sizes) (now tags) × Ready (tableOf file) (now text) (slots (now numbers) (now starts) (now lengths)) ⌝ }
-    ensures { λ r. ⌜ Scanned (tableOf file) (now (text .entry)) (slots (now (numbers .entry)) (now (starts .entry)) (now (lengths .entry))) (slots (now (numbers .exit)) (now (starts .exit)) (now (lengths .exit))) (scanIs r (slots (now (numbers .exit)) (now (starts .exit)) (now (lengths .exit)))) ⌝ }
+    requires { ⌜ Lent (namesOf (groupOf file)) (now names) (now sizes) (now tags)
+        × Ready (tableOf file) (now text) (slots (now numbers) (now starts) (now lengths)) ⌝ }
+    ensures { λ r. ⌜ ScansFile file (now (text .entry))
+        (slots (now (numbers .entry)) (now (starts .entry)) (now (lengths .entry)))
+        (slots (now (numbers .exit)) (now (starts .exit)) (now (lengths .exit))) r ⌝ }
 {
     let none = tables::section_count(file);
     let mut c = Cursor::new();
@@ -166,7 +171,9 @@ fn scan_text(
     lengths: &mut [u32],
 ) -> Outcome
     requires { ⌜ Ready (tableOf file) (now text) (slots (now numbers) (now starts) (now lengths)) ⌝ }
-    ensures { λ r. ⌜ Scanned (tableOf file) (now (text .entry)) (slots (now (numbers .entry)) (now (starts .entry)) (now (lengths .entry))) (slots (now (numbers .exit)) (now (starts .exit)) (now (lengths .exit))) (scanIs r (slots (now (numbers .exit)) (now (starts .exit)) (now (lengths .exit)))) ⌝ }
+    ensures { λ r. ⌜ ScansFile file (now (text .entry))
+        (slots (now (numbers .entry)) (now (starts .entry)) (now (lengths .entry)))
+        (slots (now (numbers .exit)) (now (starts .exit)) (now (lengths .exit))) r ⌝ }
 {
     match file {
         tables::ACC => scan_lines(
@@ -316,7 +323,8 @@ fn check_kinds(
     rows: usize,
 ) -> Outcome
     requires { ⌜ ValuesReady (now kinds) (now text) (slots (now numbers) (now starts) (now lengths)) rows ⌝ }
-    ensures { λ r. ⌜ checkIs r ≡ checkKinds (map rowKind (now (kinds .entry))) (now (text .entry)) (slots (now (numbers .entry)) (now (starts .entry)) (now (lengths .entry))) rows ⌝ }
+    ensures { λ r. ⌜ checkIs r ≡ checkKinds (map rowKind (now (kinds .entry))) (now (text .entry))
+        (slots (now (numbers .entry)) (now (starts .entry)) (now (lengths .entry))) rows ⌝ }
 {
     let mut r = 0;
     while r < rows {
@@ -340,8 +348,10 @@ fn judge_slots(
     starts: &[u32],
     lengths: &[u32],
 ) -> TextAnswer
-    requires { ⌜ KindsOf file (now kinds) × Ready (tableOf file) (now text) (slots (now numbers) (now starts) (now lengths)) ⌝ }
-    ensures { λ r. ⌜ JudgesSlots (tableOf file) (ofNumber 0 leastSections file) (now (text .entry)) (slots (now (numbers .entry)) (now (starts .entry)) (now (lengths .entry))) r ⌝ }
+    requires { ⌜ KindsOf file (now kinds)
+        × Ready (tableOf file) (now text) (slots (now numbers) (now starts) (now lengths)) ⌝ }
+    ensures { λ r. ⌜ JudgesSlots (tableOf file) (ofNumber 0 leastSections file) (now (text .entry))
+        (slots (now (numbers .entry)) (now (starts .entry)) (now (lengths .entry))) r ⌝ }
 {
     let count = sections_found(file, numbers);
     let rows = tables::rows_before(file, count);
@@ -374,8 +384,11 @@ fn write_rows(
     places: &mut [u32],
     lines: &mut [u32],
 )
-    requires { ⌜ RowsReady (now kinds) first (slots (now numbers) (now starts) (now lengths)) rows (now places) (now lines) ⌝ }
-    ensures { λ _. ⌜ WritesRows (take rows (map rowKind (now (kinds .entry)))) first (slots (now (numbers .entry)) (now (starts .entry)) (now (lengths .entry))) (now (places .entry)) (now (places .exit)) (now (lines .exit)) ⌝ }
+    requires { ⌜ RowsReady (now kinds) first (slots (now numbers) (now starts) (now lengths)) rows
+        (now places) (now lines) ⌝ }
+    ensures { λ _. ⌜ WritesRows (take rows (map rowKind (now (kinds .entry)))) first
+        (slots (now (numbers .entry)) (now (starts .entry)) (now (lengths .entry)))
+        (now (places .entry)) (now (places .exit)) (now (lines .exit)) ⌝ }
 {
     let mut pair = first;
     let mut e = 0;
@@ -404,8 +417,11 @@ fn write_read(
     places: &mut [u32],
     lines: &mut [u32],
 )
-    requires { ⌜ KindsOf file (now kinds) × WriteReady file sections (slots (now numbers) (now starts) (now lengths)) (now places) (now lines) ⌝ }
-    ensures { λ _. ⌜ WritesRead file sections (slots (now (numbers .entry)) (now (starts .entry)) (now (lengths .entry))) (now (places .entry)) (now (places .exit)) (now (lines .exit)) ⌝ }
+    requires { ⌜ KindsOf file (now kinds)
+        × WriteReady file sections (slots (now numbers) (now starts) (now lengths)) (now places) (now lines) ⌝ }
+    ensures { λ _. ⌜ WritesRead file sections
+        (slots (now (numbers .entry)) (now (starts .entry)) (now (lengths .entry)))
+        (now (places .entry)) (now (places .exit)) (now (lines .exit)) ⌝ }
 {
     let rows = tables::rows_before(file, sections);
     let first = tables::first_pair(file);
@@ -421,8 +437,9 @@ fn read_slots(
     starts: &mut [u32],
     lengths: &mut [u32],
 ) -> TextAnswer
-    requires { ⌜ KindsOf file (now kinds) × (length (now text) ≤ mostBytes) × (slots (now numbers) (now starts) (now lengths) ≡ emptySlots (rowCount (tableOf file))) ⌝ }
-    ensures { λ r. ⌜ ReadsSlots file (now (text .entry)) (slots (now (numbers .exit)) (now (starts .exit)) (now (lengths .exit))) r ⌝ }
+    requires { ⌜ SlotsEmpty file (now kinds) (now text) (slots (now numbers) (now starts) (now lengths)) ⌝ }
+    ensures { λ r. ⌜ ReadsSlots file (now (text .entry))
+        (slots (now (numbers .exit)) (now (starts .exit)) (now (lengths .exit))) r ⌝ }
 {
     if let Outcome::Failed(x) = scan_text(file, text, numbers, starts, lengths) {
         return TextAnswer::Faulty(x);
@@ -441,8 +458,10 @@ fn read_into(
     places: &mut [u32],
     lines: &mut [u32],
 ) -> TextAnswer
-    requires { ⌜ KindsOf file (now kinds) × (length (now text) ≤ mostBytes) × (slots (now numbers) (now starts) (now lengths) ≡ emptySlots (rowCount (tableOf file))) × (leastPlaces ≤ length (now places)) × (mostRows ≤ length (now lines)) ⌝ }
-    ensures { λ r. ⌜ ReadsText file (now (text .entry)) r (now (places .entry)) (now (places .exit)) (now (lines .exit)) ⌝ }
+    requires { ⌜ (leastPlaces ≤ length (now places)) × (mostRows ≤ length (now lines))
+        × SlotsEmpty file (now kinds) (now text) (slots (now numbers) (now starts) (now lengths)) ⌝ }
+    ensures { λ r. ⌜ ReadsText file (now (text .entry)) r
+        (now (places .entry)) (now (places .exit)) (now (lines .exit)) ⌝ }
 {
     let answer = read_slots(file, kinds, text, numbers, starts, lengths);
     if let TextAnswer::Sections(count) = answer {
@@ -455,7 +474,8 @@ fn read_into(
 // places stay. Left open is what `lines` holds after a refusal, and past the lines of the entries.
 pub fn read_text(file: u32, text: &[u8], places: &mut [u32], lines: &mut [u32]) -> TextAnswer
     requires { ⌜ (leastPlaces ≤ length (now places)) × (mostRows ≤ length (now lines)) ⌝ }
-    ensures { λ r. ⌜ ReadsText file (now (text .entry)) r (now (places .entry)) (now (places .exit)) (now (lines .exit)) ⌝ }
+    ensures { λ r. ⌜ ReadsText file (now (text .entry)) r
+        (now (places .entry)) (now (places .exit)) (now (lines .exit)) ⌝ }
 {
     if MOST_BYTES < text.len() {
         return TextAnswer::Faulty(Fault {

@@ -68,7 +68,8 @@ fn line_of(lines: &[u32], entry: usize) -> u32
 // The figures of a file whose pairs are in the places.
 fn figures_of(file: u32, axles: usize, text: &[u8], places: &[u32]) -> Figures
     requires { ⌜ IsNumber file × (axles ≤ mostAxles) × NumberHeld file axles (now text) (now places) ⌝ }
-    ensures { λ r. ⌜ r ≡ figuresFrom (fileNumbered file) axles (valuesOf (fileNumbered file) axles (now (text .entry)) (now (places .entry))) ⌝ }
+    ensures { λ r. ⌜ r ≡ figuresFrom (fileNumbered file) axles
+        (valuesOf (fileNumbered file) axles (now (text .entry)) (now (places .entry))) ⌝ }
 {
     let mark = rules::is_marked(file, axles, text, places);
     Figures {
@@ -88,7 +89,8 @@ fn judge_values(
     lines: &[u32],
 ) -> Step
     requires { ⌜ ValuesReady file sections b (now booking) (now text) (now places) (now lines) ⌝ }
-    ensures { λ r. ⌜ JudgesValues (fileNumbered file) sections (now (booking .entry)) (now (text .entry)) (now (places .entry)) (now (lines .entry)) r ⌝ }
+    ensures { λ r. ⌜ JudgesValues (fileNumbered file) sections (now (booking .entry)) (now (text .entry))
+        (now (places .entry)) (now (lines .entry)) r ⌝ }
 {
     let conditions = due::conditions_of(file, b, text, places);
     let count = tables::entries_before(file, sections);
@@ -119,7 +121,8 @@ fn judge_values(
 // AC2's text: 3 to 9, then the values, by what they say themselves.
 fn judge_booking_text(text: &[u8], places: &mut [u32], lines: &mut [u32]) -> BookingStep
     requires { ⌜ (leastPlaces ≤ length (now places)) × (mostRows ≤ length (now lines)) ⌝ }
-    ensures { λ r. ⌜ JudgesBooking (judgeText bookingFile (λ own. own) (now (text .entry))) r (now (places .entry)) (now (places .exit)) ⌝ }
+    ensures { λ r. ⌜ JudgesBooking (judgeText bookingFile (λ own. own) (now (text .entry))) r
+        (now (places .entry)) (now (places .exit)) ⌝ }
 {
     match files::read_text(AC2, text, places, lines) {
         TextAnswer::Faulty(x) => {
@@ -170,7 +173,9 @@ fn judge_text(
     lines: &mut [u32],
 ) -> Step
     requires { ⌜ FileReady file b (now booking) (now places) × (mostRows ≤ length (now lines)) ⌝ }
-    ensures { λ r. ⌜ JudgesFile (fileNumbered file) (textJudged file (now (booking .entry)) (now (text .entry)) (now (places .entry))) r (now (places .entry)) (now (places .exit)) ⌝ }
+    ensures { λ r. ⌜ JudgesFile (fileNumbered file)
+        (textJudged file (now (booking .entry)) (now (text .entry)) (now (places .entry))) r
+        (now (places .entry)) (now (places .exit)) ⌝ }
 {
     match files::read_text(file, text, places, lines) {
         TextAnswer::Faulty(x) => {
@@ -204,7 +209,9 @@ fn judge_file(
     places: &mut [u32],
 ) -> Step
     requires { ⌜ FileReady file b (now booking) (now places) ⌝ }
-    ensures { λ r. ⌜ JudgesFile (fileNumbered file) (fileJudged file stated (now (booking .entry)) (now (text .entry)) (now (places .entry))) r (now (places .entry)) (now (places .exit)) ⌝ }
+    ensures { λ r. ⌜ JudgesFile (fileNumbered file)
+        (fileJudged file stated (now (booking .entry)) (now (text .entry)) (now (places .entry))) r
+        (now (places .entry)) (now (places .exit)) ⌝ }
 {
     let given = 0 < text.len();
     if !rules::slice_right(file, stated, b, given) {
@@ -232,7 +239,10 @@ fn judge_next(
     places: &mut [u32],
 ) -> Step
     requires { ⌜ Asked before (FileReady file b (now booking) (now places)) ⌝ }
-    ensures { λ r. ⌜ Next before r (now (places .entry)) (now (places .exit)) (JudgesFile (fileNumbered file) (fileJudged file stated (now (booking .entry)) (now (text .entry)) (now (places .entry))) r (now (places .entry)) (now (places .exit))) ⌝ }
+    ensures { λ r. ⌜ Next before r (now (places .entry)) (now (places .exit))
+        (JudgesFile (fileNumbered file)
+        (fileJudged file stated (now (booking .entry)) (now (text .entry)) (now (places .entry))) r
+        (now (places .entry)) (now (places .exit))) ⌝ }
 {
     match before {
         Step::Stop(x) => Step::Stop(x),
@@ -253,7 +263,8 @@ fn refuse_identification(kind: RefusalKind) -> Step
 // Slice 6: 11, 14, 15. It has no figures.
 fn judge_identification(gas: &[u8], identification: &[u8], places: &[u32]) -> Step
     requires { ⌜ IdentificationReady (now gas) (now places) ⌝ }
-    ensures { λ r. ⌜ JudgesIdentification (identificationJudged (now (gas .entry)) (now (identification .entry)) (now (places .entry))) r ⌝ }
+    ensures { λ r. ⌜ JudgesIdentification
+        (identificationJudged (now (gas .entry)) (now (identification .entry)) (now (places .entry))) r ⌝ }
 {
     let given = 0 < identification.len();
     let passed = Step::Go(NO_FIGURES);
@@ -277,7 +288,9 @@ fn judge_identification(gas: &[u8], identification: &[u8], places: &[u32]) -> St
 // Slice 6 after other slices.
 fn identification_next(before: Step, gas: &[u8], identification: &[u8], places: &[u32]) -> Step
     requires { ⌜ Asked before (IdentificationReady (now gas) (now places)) ⌝ }
-    ensures { λ r. ⌜ Next before r (now (places .entry)) (now (places .entry)) (JudgesIdentification (identificationJudged (now (gas .entry)) (now (identification .entry)) (now (places .entry))) r) ⌝ }
+    ensures { λ r. ⌜ Next before r (now (places .entry)) (now (places .entry))
+        (JudgesIdentification
+        (identificationJudged (now (gas .entry)) (now (identification .entry)) (now (places .entry))) r) ⌝ }
 {
     match before {
         Step::Stop(x) => Step::Stop(x),
@@ -324,7 +337,9 @@ fn judge_later(
     places: &mut [u32],
 ) -> SetAnswer
     requires { ⌜ Held bookingFile 0 (now ac2) (now places) × IsBooking b (now ac2) (now places) ⌝ }
-    ensures { λ r. ⌜ JudgesLater stated (slicesOf (now (ac2 .entry)) (now (acc .entry)) (now (drift .entry)) (now (suspension .entry)) (now (gas .entry)) (now (identification .entry))) (now (places .entry)) (now (places .exit)) r ⌝ }
+    ensures { λ r. ⌜ JudgesLater stated (slicesOf (now (ac2 .entry)) (now (acc .entry)) (now (drift .entry))
+        (now (suspension .entry)) (now (gas .entry)) (now (identification .entry)))
+        (now (places .entry)) (now (places .exit)) r ⌝ }
 {
     let o = judge_file(ACC, stated, b, ac2, acc, places);
     let d = judge_next(o, DRIFT, stated, b, ac2, drift, places);
@@ -349,7 +364,10 @@ fn judge_slices(
     places: &mut [u32],
 ) -> SetAnswer
     requires { ⌜ leastPlaces ≤ length (now places) ⌝ }
-    ensures { λ r. ⌜ JudgesSlices files (judgeSlices stated (slicesOf (now (ac2 .entry)) (now (acc .entry)) (now (drift .entry)) (now (suspension .entry)) (now (gas .entry)) (now (identification .entry)))) r (now (places .entry)) (now (places .exit)) ⌝ }
+    ensures { λ r. ⌜ JudgesSlices files (judgeSlices stated
+        (slicesOf (now (ac2 .entry)) (now (acc .entry)) (now (drift .entry))
+        (now (suspension .entry)) (now (gas .entry)) (now (identification .entry)))) r
+        (now (places .entry)) (now (places .exit)) ⌝ }
 {
     match judge_booking(ac2, places) {
         BookingStep::Stop(x) => SetAnswer::Refused(x),
@@ -379,7 +397,9 @@ pub fn judge_set(
     identification: &[u8],
     places: &mut [u32],
 ) -> SetAnswer
-    ensures { λ r. ⌜ SetJudged (now (stem .entry)) (slicesOf (now (ac2 .entry)) (now (acc .entry)) (now (drift .entry)) (now (suspension .entry)) (now (gas .entry)) (now (identification .entry))) (now (places .entry)) (now (places .exit)) r ⌝ }
+    ensures { λ r. ⌜ SetJudged (now (stem .entry)) (slicesOf (now (ac2 .entry)) (now (acc .entry)) (now (drift .entry))
+        (now (suspension .entry)) (now (gas .entry)) (now (identification .entry)))
+        (now (places .entry)) (now (places .exit)) r ⌝ }
 {
     let least = tables::least_places();
     if places.len() < least {

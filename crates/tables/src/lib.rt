@@ -186,7 +186,7 @@ pub fn rows_before(file: u32, section: usize) -> usize
     }
 }
 
-// How many entries stand before a section: a row for each but the sections' headings.
+// How many entries stand before a section of the file, or before its end: the rows without the sections' headings.
 pub fn entries_before(file: u32, section: usize) -> usize
     requires { ⌜ section ≤ length (tableOf file) ⌝ }
     ensures { λ r. ⌜ r ≡ entriesBefore (tableOf file) section ⌝ }

@@ -1,15 +1,17 @@
 -- What the steps of quoting and writing promise, for the contracts of the code.
 use Prim.Native.Nat.{ℕ, zero, suc, _+_, _*_, _≤_}
+use mathlib.Core.Path.{_≡_}
 use mathlib.Core.Bool.{Bool, cond}
 use mathlib.Core.Option.{Option, none, some}
 use mathlib.Core.List.{List, [], _∷_, _++_, map}
 use lib.Dec.{ltb}
-use lib.ListN.{length}
+use lib.ListN.{length, take}
 use Rattle.lines.specs.Line.{heading, writtenLine, textOf}
 use Rattle.kinds.specs.Kind.{Kind}
 use Rattle.places.specs.Places.{Pair, placeSize, pairsAt, valuesAt, Within}
 use Rattle.tables.specs.Section.{Entry, Section, entriesOf}
-use Rattle.tables.specs.Row.{names}
+use Rattle.tables.specs.File.{tableOf}
+use Rattle.tables.specs.Row.{names, rowKinds}
 use Rattle.orders.specs.AnyOrder.{zip, entryLine}
 use Rattle.reading.specs.Reading.{Check, passes, fails}
 use Rattle.reading.specs.Writing.{writeText}
@@ -27,9 +29,21 @@ entryCount (some k ∷ ks) = suc (entryCount ks)
 abbrev pub pairCheck : (Kind → Pair → Bool) → ℕ → List (Option Kind) → List ℕ → ℕ → Check
 pairCheck wrong number ks p k = firstWrongPair wrong number ks 1 (pairsAt p k (entryCount ks))
 
+-- the kinds of the first rows of a file
+abbrev pub firstKinds : ℕ → ℕ → List (Option Kind)
+firstKinds file count = take count (rowKinds (tableOf file))
+
+-- so many rows there are, and the pairs of their entries from pair k on
+abbrev pub RowsThere : ℕ → ℕ → List ℕ → ℕ → Type 0
+RowsThere file count p k = (count ≤ length (rowKinds (tableOf file))) × (placeSize * (k + entryCount (firstKinds file count)) ≤ length p)
+
 -- a line of a wrong pair, and 0 for none
 abbrev pub lineCheck : ℕ → ℕ → Check
 lineCheck number l = cond (ltb 0 l) (fails number l) passes
+
+-- r is the line of the first wrong pair of those rows, and 0 for none
+abbrev pub WrongLine : (Kind → Pair → Bool) → ℕ → ℕ → ℕ → List ℕ → ℕ → ℕ → Type 0
+WrongLine wrong number file count p k r = (pairCheck wrong number (firstKinds file count) p k ≡ lineCheck number r) × (r ≤ count)
 
 unfoldable pub pairLengths : List Pair → ℕ
 pairLengths [] = 0

@@ -14,14 +14,13 @@ ghost use Prim.Native.Nat.{_+_, _*_, _<_, _≤_};
 ghost use lib.Dec.{ltb};
 ghost use lib.ListN.{length, take, getD};
 ghost use Rattle.lines.specs.Writing.{Wrote};
-ghost use Rattle.places.specs.Places.{placeSize, startOf, lengthOf, pairsAt, valueAt};
-ghost use Rattle.tables.specs.Section.{entriesOf};
-ghost use Rattle.tables.specs.Row.{entriesIn, noSection, rowKinds, mostRows};
+ghost use Rattle.places.specs.Places.{placeSize, startOf, lengthOf, pairsAt};
+ghost use Rattle.tables.specs.Row.{entriesIn, entriesBefore, noSection, mostRows};
 ghost use Rattle.tables.specs.File.{leastPlaces, tableOf, sections, ofNumber};
 ghost use Rattle.reading.specs.Reading.{passes};
 ghost use Rattle.reading.specs.Tables.{tableLength};
 ghost use Rattle.writing.specs.Writing.{axlesRight, isOutside, isWrongKind, isRight, quoteRight, quoteFile, answerOf, quotedIs, Writes};
-ghost use Rattle.writing.specs.Steps.{entryCount, pairCheck, lineCheck, pairLengths, Ready, entriesText, sectionText, sectionsText};
+ghost use Rattle.writing.specs.Steps.{firstKinds, RowsThere, pairCheck, WrongLine, pairLengths, Ready, entriesText, sectionText, sectionsText};
 
 // What an accepted writing says: the length of the written file.
 pub struct WriteAcceptance {
@@ -66,7 +65,8 @@ fn is_right(file: u32, axles: u32) -> bool
 // Number 17: whether start plus length of pair k is above the text's length.
 fn is_outside(text: &[u8], places: &[u32], k: usize) -> bool
     requires { ⌜ placeSize * (k + 1) ≤ length (now places) ⌝ }
-    ensures { λ r. ⌜ r ≡ ltb (length (now (text .entry))) (startOf (now (places .entry)) k + lengthOf (now (places .entry)) k) ⌝ }
+    ensures { λ r. ⌜ r ≡ ltb (length (now (text .entry)))
+        (startOf (now (places .entry)) k + lengthOf (now (places .entry)) k) ⌝ }
 {
     let start = places::start_of(places, k) as usize;
     text.len() < start + places::length_of(places, k) as usize
@@ -75,8 +75,8 @@ fn is_outside(text: &[u8], places: &[u32], k: usize) -> bool
 // The line of the first entry whose pair is outside the text, in the first `count` rows of a file whose pairs stand
 // from `first` on; 0 where none is.
 fn outside_line(text: &[u8], places: &[u32], file: u32, count: usize, first: usize) -> usize
-    requires { ⌜ (count ≤ length (rowKinds (tableOf file))) × (placeSize * (first + entryCount (take count (rowKinds (tableOf file)))) ≤ length (now places)) ⌝ }
-    ensures { λ r. ⌜ (pairCheck (isOutside (now (text .entry))) 17 (take count (rowKinds (tableOf file))) (now (places .entry)) first ≡ lineCheck 17 r) × (r ≤ count) ⌝ }
+    requires { ⌜ RowsThere file count (now places) first ⌝ }
+    ensures { λ r. ⌜ WrongLine (isOutside (now (text .entry))) 17 file count (now (places .entry)) first r ⌝ }
 {
     let mut pair = first;
     let mut row = 0;
@@ -96,8 +96,9 @@ fn outside_line(text: &[u8], places: &[u32], file: u32, count: usize, first: usi
 
 // The line of the first entry whose value is filled and not of its kind; 0 where none is. No pair is outside the text.
 fn wrong_kind_line(text: &[u8], places: &[u32], file: u32, count: usize, first: usize) -> usize
-    requires { ⌜ (count ≤ length (rowKinds (tableOf file))) × (placeSize * (first + entryCount (take count (rowKinds (tableOf file)))) ≤ length (now places)) × (pairCheck (isOutside (now text)) 17 (take count (rowKinds (tableOf file))) (now places) first ≡ passes) ⌝ }
-    ensures { λ r. ⌜ (pairCheck (isWrongKind (now (text .entry))) 9 (take count (rowKinds (tableOf file))) (now (places .entry)) first ≡ lineCheck 9 r) × (r ≤ count) ⌝ }
+    requires { ⌜ (pairCheck (isOutside (now text)) 17 (firstKinds file count) (now places) first ≡ passes)
+        × RowsThere file count (now places) first ⌝ }
+    ensures { λ r. ⌜ WrongLine (isWrongKind (now (text .entry))) 9 file count (now (places .entry)) first r ⌝ }
 {
     let mut pair = first;
     let mut row = 0;
@@ -212,8 +213,11 @@ fn write_entries(
     output: &mut [u8],
     at: usize,
 ) -> usize
-    requires { ⌜ Ready (now text) (now places) first (length (entriesIn (tableOf file) section)) (now output) at (entriesText (entriesIn (tableOf file) section) (now text) (now places) first) ⌝ }
-    ensures { λ r. ⌜ Wrote (now (output .entry)) at (entriesText (entriesIn (tableOf file) section) (now (text .entry)) (now (places .entry)) first) (now (output .exit)) r ⌝ }
+    requires { ⌜ Ready (now text) (now places) first (length (entriesIn (tableOf file) section)) (now output) at
+        (entriesText (entriesIn (tableOf file) section) (now text) (now places) first) ⌝ }
+    ensures { λ r. ⌜ Wrote (now (output .entry)) at
+        (entriesText (entriesIn (tableOf file) section) (now (text .entry)) (now (places .entry)) first)
+        (now (output .exit)) r ⌝ }
 {
     let count = tables::entry_count(file, section);
     let mut end = at;
@@ -236,8 +240,11 @@ pub fn write_section(
     output: &mut [u8],
     at: usize,
 ) -> usize
-    requires { ⌜ Ready (now text) (now places) first (length (entriesIn (tableOf file) section)) (now output) at (sectionText (getD (tableOf file) section noSection) (now text) (now places) first) ⌝ }
-    ensures { λ r. ⌜ Wrote (now (output .entry)) at (sectionText (getD (tableOf file) section noSection) (now (text .entry)) (now (places .entry)) first) (now (output .exit)) r ⌝ }
+    requires { ⌜ Ready (now text) (now places) first (length (entriesIn (tableOf file) section)) (now output) at
+        (sectionText (getD (tableOf file) section noSection) (now text) (now places) first) ⌝ }
+    ensures { λ r. ⌜ Wrote (now (output .entry)) at
+        (sectionText (getD (tableOf file) section noSection) (now (text .entry)) (now (places .entry)) first)
+        (now (output .exit)) r ⌝ }
 {
     let end = tables::write_heading(file, section, output, at);
     write_entries(file, section, text, places, first, output, end)
@@ -253,8 +260,12 @@ pub fn write_sections(
     output: &mut [u8],
     at: usize,
 ) -> usize
-    requires { ⌜ (count ≤ length (tableOf file)) × Ready (now text) (now places) first (length (entriesOf (take count (tableOf file)))) (now output) at (sectionsText (take count (tableOf file)) (now text) (now places) first) ⌝ }
-    ensures { λ r. ⌜ Wrote (now (output .entry)) at (sectionsText (take count (tableOf file)) (now (text .entry)) (now (places .entry)) first) (now (output .exit)) r ⌝ }
+    requires { ⌜ (count ≤ length (tableOf file))
+        × Ready (now text) (now places) first (entriesBefore (tableOf file) count) (now output) at
+        (sectionsText (take count (tableOf file)) (now text) (now places) first) ⌝ }
+    ensures { λ r. ⌜ Wrote (now (output .entry)) at
+        (sectionsText (take count (tableOf file)) (now (text .entry)) (now (places .entry)) first)
+        (now (output .exit)) r ⌝ }
 {
     let mut pair = first;
     let mut end = at;
@@ -275,7 +286,8 @@ pub fn write_file(
     axles: u32,
     output: &mut [u8],
 ) -> WriteAnswer
-    ensures { λ r. ⌜ Writes (now (text .entry)) (now (places .entry)) file axles (now (output .entry)) (now (output .exit)) r ⌝ }
+    ensures { λ r. ⌜ Writes (now (text .entry)) (now (places .entry)) file axles
+        (now (output .entry)) (now (output .exit)) r ⌝ }
 {
     match quote(text, places, file, axles) {
         Quoted::Refused(refusal) => WriteAnswer::Refused(refusal),

@@ -8,7 +8,7 @@ use Rattle.files.proofs.read_into.Tie as tie
 read-slots-requires : tie.Need-read-slots-requires
 read-slots-requires c κs =
     let x = c .before .before .before .before .before .before .before .before .before .before in
-    (x .pre .0, x .pre .1, x .pre .2)
+    x .pre .2
 
 enum-known-answer : tie.Need-enum-known-answer
 enum-known-answer c = search needs
@@ -17,7 +17,7 @@ write-read-requires : tie.Need-write-read-requires
 write-read-requires c κs =
     let x = c .before .before .before .before .before .before .before .before .before .before .before .before .before .before .before .before .before .before .before .before .before .before .before .before .before in
     let y = x .args in
-    (x .pre .0, text-ready (y .file) (now (y .text)) (x .pre .1) _ _ _ _ (c .before .before .before .before .before .before .before .before .before .before .before .before .before .before .read-slots .ensures .ready) (x .pre .3) (x .pre .4))
+    (x .pre .2 .0, text-ready (y .file) (now (y .text)) (x .pre .2 .1) _ _ _ _ (c .before .before .before .before .before .before .before .before .before .before .before .before .before .before .read-slots .ensures .ready) (x .pre .0) (x .pre .1))
 
 enum-told : tie.Need-enum-told
 enum-told c = search needs
@@ -41,7 +41,7 @@ returns : tie.Need-returns
 returns c =
     let x = c .before .before .before .before .before .before .before .before .before .before .before .before .before .before .before .before .before .before .before .before .before .before .before .before .before .before .before .before .before .before in
     let y = x .args in
-    text-read (y .file) (now (y .text)) (x .pre .1) _ (c .before .before .before .before .before .before .before .before .before .before .before .before .before .before .before .before .before .before .before .read-slots .result) _ _ _ _ (c .before .before .before .before .before .before .before .before .before .before .before .before .before .before .before .before .before .before .before .read-slots .ensures) (c .before .before .before .before .before .before .before .before .before .before .before .answer .given .1) (c .before .before .before .before .write-read .ensures)
+    text-read (y .file) (now (y .text)) (x .pre .2 .1) _ (c .before .before .before .before .before .before .before .before .before .before .before .before .before .before .before .before .before .before .before .read-slots .result) _ _ _ _ (c .before .before .before .before .before .before .before .before .before .before .before .before .before .before .before .before .before .before .before .read-slots .ensures) (c .before .before .before .before .before .before .before .before .before .before .before .answer .given .1) (c .before .before .before .before .write-read .ensures)
 
 same-length-6 : tie.Need-same-length-6
 same-length-6 c = search needs
@@ -56,7 +56,7 @@ returns-2 : tie.Need-returns-2
 returns-2 c =
     let x = c .before .before .before .before .before .before .before .before .before .before .before .before .before .before .before .before .before .before .before in
     let y = x .args in
-    text-faulty (y .file) (now (y .text)) (x .pre .1) _ (c .before .before .before .before .before .before .before .before .read-slots .result) _ (now (y .places)) (now (y .lines)) (c .before .before .before .before .before .before .before .before .read-slots .ensures) (c .enum-told .given .1)
+    text-faulty (y .file) (now (y .text)) (x .pre .2 .1) _ (c .before .before .before .before .before .before .before .before .read-slots .result) _ (now (y .places)) (now (y .lines)) (c .before .before .before .before .before .before .before .before .read-slots .ensures) (c .enum-told .given .1)
 
 pub read-into-spec : {M : Type 1} → statement M
 read-into-spec =

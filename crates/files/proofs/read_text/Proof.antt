@@ -56,7 +56,7 @@ read-into-requires : tie.Need-read-into-requires
 read-into-requires c κs =
     let x = c .before .before .before .before .before .before .before .before .before .before .before .before .before .before in
     let n = c .before .before .before .before .before .before in
-    (kinds-part (x .args .file) (n .row-count .result) _ (n .row-count .ensures) (n .before .before .write-kinds .ensures), c .before .before .before .before .before .before .before .before .before .before .if1 .left, empty-part (n .row-count .result) (rowCount (tableOf (x .args .file))) mostRows (n .row-count .ensures) (rows-few (x .args .file)), x .pre .0, x .pre .1)
+    (x .pre .0, x .pre .1, (kinds-part (x .args .file) (n .row-count .result) _ (n .row-count .ensures) (n .before .before .write-kinds .ensures), c .before .before .before .before .before .before .before .before .before .before .if1 .left, empty-part (n .row-count .result) (rowCount (tableOf (x .args .file))) mostRows (n .row-count .ensures) (rows-few (x .args .file))))
 
 same-length : tie.Need-same-length
 same-length c = search needs

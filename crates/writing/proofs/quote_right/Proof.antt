@@ -45,7 +45,7 @@ returns c =
     sym (ap (answerOf (x .file)) (quote-outside (sizes (c .before .before)) (x .text .now) (x .places .now) _ (c .before .outside-line .ensures .0 ∙ found-line 17 (c .if1 .taken))))
 
 wrong-kind-line-requires : tie.Need-wrong-kind-line-requires
-wrong-kind-line-requires c κs = (sizes-most (sizes (c .before .before)), sizes-places (sizes (c .before .before)) (c .before .before .before .before .before .before .before .args .places .now) (c .before .before .before .before .before .before .before .pre .0), c .before .outside-line .ensures .0 ∙ no-line 17 (c .if1 .left))
+wrong-kind-line-requires c κs = (c .before .outside-line .ensures .0 ∙ no-line 17 (c .if1 .left), (sizes-most (sizes (c .before .before)), sizes-places (sizes (c .before .before)) (c .before .before .before .before .before .before .before .args .places .now) (c .before .before .before .before .before .before .before .pre .0)))
 
 cast-t16 : tie.Need-cast-t16
 cast-t16 c = omega (arith, c .before .wrong-kind-line .ensures .1, sizes-few (sizes (c .before .before .before .before)))

@@ -27,7 +27,7 @@ judged : (c : tie.After-kind-kept Inv-loop μ-loop) → isWrongKind (c .before .
 judged c = sym (ap (λ (x : List ℕ). not (kindKept (kindOf (c .before .before .before .row-kind .result)) x)) (c .before .value-of .ensures)) ∙ sym (ap not (c .kind-kept .ensures))
 
 loop-holds : tie.Need-loop-holds Inv-loop μ-loop
-loop-holds c = (turn-start (c .before .before .pre .0) (c .before .before .pre .1), record { passed = c .before .before .pre .2 })
+loop-holds c = (turn-start (c .before .before .pre .1 .0) (c .before .before .pre .1 .1), record { passed = c .before .before .pre .0 })
 
 row-kind-requires : tie.Need-row-kind-requires Inv-loop μ-loop
 row-kind-requires c κs = search needs
