@@ -15,7 +15,7 @@ use Rattle.refusals.specs.declared.Refusal.{Refusal}
 use Rattle.places.specs.Places.{Pair, setPairs, pairsAt, valueAt, valuesAt, cleared, Within, placeSize}
 use Rattle.places.proofs.Laws.{set-length, pairs-set, drop-pairs, cleared-length, cleared-drop}
 use Rattle.tables.specs.Section.{Section}
-use Rattle.tables.specs.File.{File, ac2, acc, drift, suspension, gas, fileNumber, fileOf, isFile, ofNumber, hasAxles, fixedSections, sections, allSections, leastSections, entries, room, firstPair, leastPlaces, tableOf}
+use Rattle.tables.specs.File.{File, ac2, acc, drift, suspension, gas, fileNumber, fileOf, isFile, ofNumber, hasAxles, fixedSections, sections, allSections, leastSections, entries, room, firstPair, leastPlaces, tableOf, mostAxles}
 use Rattle.tables.proofs.Files.{of-file, table-of, file-of, is-file}
 use Rattle.tables.proofs.Numbers.{room-in}
 use Rattle.tables.proofs.Axles.{entries-most}
@@ -45,7 +45,7 @@ same-file f g n d e =
 -- ---- pairs of a file that was read
 
 -- a count of axles is at most nine
-pub few-axles : (b : Bool) (n : ℕ) → AxleCount b n → n ≤ 9
+pub few-axles : (b : Bool) (n : ℕ) → AxleCount b n → n ≤ mostAxles
 few-axles true n c = c .1
 few-axles false n c = omega arith
 
@@ -159,7 +159,7 @@ module _ {n : ℕ} {s p q : List ℕ} {axles : ℕ} (x : AloneRead n s p q axles
   pub by-alone : {A : Type 0} (d : A) (g : File → A) → ofNumber d g n ≡ g (x .file)
   by-alone d g = by-number d g (x .file) n (x .number-is)
 
-  pub alone-few : axles ≤ 9
+  pub alone-few : axles ≤ mostAxles
   alone-few = omega (arith, x .axles-are, few-axles (hasAxles (x .file)) (axlesOf (x .file) (x .count)) (x .is .counted .count))
 
   pub alone-sections : x .count ≤ 10

@@ -9,12 +9,12 @@ ghost use mathlib.Core.List.{_∷_, _++_};
 ghost use Prim.Native.Nat.{_+_, _≤_};
 ghost use Rattle.lines.specs.Bytes.{sameBytes};
 ghost use Rattle.lines.specs.Text.{bytes};
-ghost use Rattle.tables.specs.File.{ac2, drift, suspension, gas, allSections, tableOf};
+ghost use Rattle.tables.specs.File.{ac2, drift, suspension, gas, allSections, tableOf, mostAxles};
 ghost use Rattle.tables.specs.Row.{headingAt};
 
 // Whether a part is the heading of an axle: the stem, one digit, `]`. The digit first: it tells one axle from another.
 fn is_axle_heading(stem: &[u8], axle: usize, part: &[u8]) -> bool
-    requires { ⌜ axle ≤ 9 ⌝ }
+    requires { ⌜ axle ≤ mostAxles ⌝ }
     ensures { λ r. ⌜ r ≡ sameBytes (now (part .entry)) (now (stem .entry) ++ ((48 + axle) ∷ bytes "]")) ⌝ }
 {
     let n = stem.len();

@@ -10,11 +10,11 @@ ghost use lib.ListN.{length};
 ghost use Rattle.lines.specs.Line.{heading as headingLine, writtenLine, writtenLength};
 ghost use Rattle.lines.specs.Text.{bytes};
 ghost use Rattle.lines.specs.Writing.{Wrote};
-ghost use Rattle.tables.specs.File.{ac2, drift, suspension, gas, allSections, tableOf};
+ghost use Rattle.tables.specs.File.{ac2, drift, suspension, gas, allSections, tableOf, mostAxles};
 ghost use Rattle.tables.specs.Row.{headingAt};
 
 fn write_drift_axle_heading(axle: usize, out: &mut [u8], at: usize) -> usize
-    requires { ⌜ (axle ≤ 9) × (at + writtenLength (headingLine (bytes "[DerivaAsse_" ++ ((48 + axle) ∷ bytes "]"))) ≤ length (now out)) ⌝ }
+    requires { ⌜ (axle ≤ mostAxles) × (at + writtenLength (headingLine (bytes "[DerivaAsse_" ++ ((48 + axle) ∷ bytes "]"))) ≤ length (now out)) ⌝ }
     ensures { λ r. ⌜ Wrote (now (out .entry)) at (writtenLine (headingLine (bytes "[DerivaAsse_" ++ ((48 + axle) ∷ bytes "]")))) (now (out .exit)) r ⌝ }
 {
     let mut text = *b"[DerivaAsse_0]";
@@ -23,7 +23,7 @@ fn write_drift_axle_heading(axle: usize, out: &mut [u8], at: usize) -> usize
 }
 
 fn write_suspension_axle_heading(axle: usize, out: &mut [u8], at: usize) -> usize
-    requires { ⌜ (axle ≤ 9) × (at + writtenLength (headingLine (bytes "[SospensioniAsse_" ++ ((48 + axle) ∷ bytes "]"))) ≤ length (now out)) ⌝ }
+    requires { ⌜ (axle ≤ mostAxles) × (at + writtenLength (headingLine (bytes "[SospensioniAsse_" ++ ((48 + axle) ∷ bytes "]"))) ≤ length (now out)) ⌝ }
     ensures { λ r. ⌜ Wrote (now (out .entry)) at (writtenLine (headingLine (bytes "[SospensioniAsse_" ++ ((48 + axle) ∷ bytes "]")))) (now (out .exit)) r ⌝ }
 {
     let mut text = *b"[SospensioniAsse_0]";

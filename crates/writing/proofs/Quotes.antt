@@ -58,10 +58,10 @@ module _ {file n : ℕ} (r : RightFile file n) where
   pub right-table : tableOf file ≡ allSections (r .of)
   right-table = ap tableOf (r .number-is) ∙ table-of (r .of)
 
-pub axles-range : (n : ℕ) → axlesRight true n ≡ true → (1 ≤ n) × (n ≤ 9)
+pub axles-range : (n : ℕ) → axlesRight true n ≡ true → (leastAxles ≤ n) × (n ≤ mostAxles)
 axles-range n e = (leb-true 1 n (and-left (leb 1 n) (leb n 9) e), leb-true n 9 (and-right (leb 1 n) (leb n 9) e))
 
-pub axles-most : (b : Bool) (n : ℕ) → axlesRight b n ≡ true → n ≤ 9
+pub axles-most : (b : Bool) (n : ℕ) → axlesRight b n ≡ true → n ≤ mostAxles
 axles-most true n e = axles-range n e .1
 axles-most false n e = omega (arith, eqb-true n 0 e)
 
