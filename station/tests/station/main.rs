@@ -1,5 +1,6 @@
 //! The program `mctc` run as a user would run it.
 
+mod broken;
 mod common;
 mod readme;
 mod reference;

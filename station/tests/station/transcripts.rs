@@ -18,7 +18,7 @@ fn transcripts() -> PathBuf {
 }
 
 /// Makes the commands of a transcript in this folder; the transcript must come out byte for byte.
-fn check(name: &str, folder: &Path) {
+pub fn check(name: &str, folder: &Path) {
     let stored = fs::read(transcripts().join(name)).expect("a transcript");
     let mut found = Vec::new();
     let mut within = false;
