@@ -32,6 +32,10 @@ pub enum Command {
         input: Input,
         new: Option<PathBuf>,
     },
+    Mend {
+        path: PathBuf,
+        new: Option<PathBuf>,
+    },
 }
 
 pub fn parse(words: &[OsString]) -> Result<Command, Trouble> {
@@ -59,6 +63,8 @@ struct Grammar {
     json: bool,
     file: bool,
     output: bool,
+    /// The option that it has besides, without a value.
+    flag: Option<&'static str>,
     make: fn(Given) -> Result<Command, Trouble>,
 }
 
@@ -68,6 +74,7 @@ const JUDGE: Grammar = Grammar {
     json: true,
     file: false,
     output: false,
+    flag: None,
     make: judge,
 };
 
@@ -92,6 +99,7 @@ const FORMAT: Grammar = Grammar {
     name: "format",
     help: help::FORMAT,
     output: true,
+    flag: Some("--mend"),
     make: format,
     ..READ
 };
@@ -102,6 +110,7 @@ struct Given {
     words: Vec<OsString>,
     help: bool,
     json: bool,
+    flag: bool,
     file: Option<OsString>,
     output: Option<OsString>,
 }
@@ -122,6 +131,10 @@ fn command(grammar: &Grammar, words: &[OsString]) -> Result<Command, Trouble> {
 }
 
 impl Grammar {
+    fn has_flag(&self, word: &[u8]) -> bool {
+        self.flag.is_some_and(|flag| flag.as_bytes() == word)
+    }
+
     fn sort(&self, words: &[OsString]) -> Result<Given, Trouble> {
         let mut given = Given::default();
         let mut words = words.iter();
@@ -138,6 +151,10 @@ impl Grammar {
                 }
                 b"--json" if self.json && attached.is_none() => {
                     given.json = true;
+                    continue;
+                }
+                flag if self.has_flag(flag) && attached.is_none() => {
+                    given.flag = true;
                     continue;
                 }
                 b"--file" if self.file => &mut given.file,
@@ -199,6 +216,14 @@ fn read(given: Given) -> Result<Command, Trouble> {
 fn format(given: Given) -> Result<Command, Trouble> {
     let input = input(given.words, given.file.as_deref())?;
     let new = given.output.map(PathBuf::from);
+    if given.flag {
+        // The file is not read by a table, so it has no number.
+        let Input { path, number } = input;
+        return match number {
+            None => Ok(Command::Mend { path, new }),
+            Some(_) => Err(Trouble("--mend takes no --file".to_string())),
+        };
+    }
     Ok(Command::Format { input, new })
 }
 

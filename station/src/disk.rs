@@ -16,7 +16,10 @@ use crate::shown;
 /// The library answers for the bytes that are read as it would for the whole file. Past 16,384 bytes files 1 to 5 are
 /// refused with 3, whatever they hold; an old booking with category L is not read, whatever its length; past 512 bytes
 /// the identification answer is refused with 14; and 11 asks only whether a file is empty. No refusal of these has a line.
-const MOST_READ: u64 = 16_385;
+const MOST_READ: u64 = MOST as u64 + 1;
+
+/// 01, Lines: the most bytes of a file.
+pub const MOST: usize = 16_384;
 
 /// A file that was read.
 pub struct FileOnDisk {

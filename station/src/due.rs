@@ -6,15 +6,13 @@ use std::path::Path;
 
 use mctc::{Column, Due, Places};
 
+use crate::case::{Case, AC2};
 use crate::disk::{Folder, SetOnDisk};
 use crate::explain::{explain, Subject};
 use crate::file_types::{FileType, FILE_TYPES};
 use crate::judge::counts_as_not_given;
 use crate::output::{Output, Status, Trouble};
 use crate::table;
-
-/// The new booking, whose values say what is due.
-const AC2: u32 = 1;
 
 /// The file without entries.
 const SERIAL_ANSWER: u32 = 6;
@@ -84,7 +82,8 @@ fn column(set: &SetOnDisk, number: u32, name: &str) -> Part {
             Part::refused(format!("{name}\n  no column: the new booking is refused\n"))
         }
         Err(refusal) => {
-            let explained = explain(refusal, Subject::of_set(set, number)).page();
+            let case = Case::file(number, set.text(number));
+            let explained = explain(case, refusal, Subject::of_set(set, number)).page();
             let number = refusal.number;
             Part::refused(format!(
                 "{name}\n  no column: refused, number {number}\n{explained}"

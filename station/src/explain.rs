@@ -1,19 +1,21 @@
-//! A refusal in plain words: its meaning, the file, the line as it stands, and what to do.
+//! A refusal in plain words: its meaning, the file, the line as it stands, the cause, and what to do.
 
 use mctc::Refusal;
 
-use crate::disk::{FileOnDisk, SetOnDisk};
+use crate::absent;
+use crate::case::{Case, Refused};
+use crate::disk::{stem_shown, FileOnDisk, SetOnDisk};
+use crate::edit::{Action, Edit};
 use crate::file_types::by_number;
-use crate::shown::{self, Line};
-use crate::table;
+use crate::finding::Finding;
+use crate::identification;
+use crate::line_form;
+use crate::misnamed;
+use crate::page::{labelled, verbatim};
+use crate::rules;
+use crate::shown::{self, counted, Line};
 use crate::words;
-
-/// No printed line of prose is longer.
-const PAGE: usize = 80;
-
-/// What stands in front of the labelled lines, and the room of a label.
-const INDENT: &str = "  ";
-const LABEL: usize = 9;
+use crate::wrong_value;
 
 /// The file that a refusal names.
 pub struct Subject<'a> {
@@ -69,92 +71,96 @@ pub struct Explained {
     /// The file's name, None for file 0.
     pub name: Option<String>,
     pub meaning: String,
+    /// Why, where more is known than the meaning.
+    pub cause: Option<String>,
     pub advice: String,
+    /// The mending that the advice asks for, where it can be done without knowing more.
+    pub mend: Option<Edit>,
     /// The line as it stands, None for line 0.
     pub line: Option<Line>,
 }
 
-pub fn explain(refusal: Refusal, subject: Option<Subject>) -> Explained {
+/// What the library was asked, the refusal, and the file that it names.
+pub fn explain(case: Case, refusal: Refusal, subject: Option<Subject>) -> Explained {
+    let refused = Refused { case, refusal };
+    let finding = finding(&refused, subject.as_ref()).unwrap_or_default();
+    let number = refusal.number;
     let text = subject.as_ref().map_or(&[][..], |subject| subject.text);
-    let (meaning, advice) = match (refusal.number, &subject) {
-        (7, _) => missing_section(refusal, text),
-        (8, _) => missing_entries(refusal, text),
-        (10, _) => filled_or_empty(refusal, text),
-        (11, Some(subject)) => missing_or_not_due(refusal, subject),
-        (12, _) => broken_rule(refusal, text),
-        _ => None,
-    }
-    .unwrap_or_else(|| {
-        let number = refusal.number;
-        let (meaning, advice) = (words::meaning(number), words::advice(number));
-        (meaning.to_string(), advice.to_string())
-    });
+    let or = |said: Option<String>, general: &str| said.unwrap_or_else(|| general.to_string());
     Explained {
         refusal,
-        name: subject.map(|subject| subject.name),
-        meaning,
-        advice,
+        meaning: or(finding.meaning, words::meaning(number)),
+        cause: finding.cause,
+        advice: or(finding.advice, words::advice(number)),
+        mend: finding.mend,
         line: shown::line(text, refusal.line),
+        name: subject.map(|subject| subject.name),
     }
 }
 
-/// Meaning and advice.
-type Said = Option<(String, String)>;
-
-/// Row 7. The first heading in table order that is not there is one that must be: all before it are there, so it is a
-/// fixed section, axle 1, or an axle below one that is there.
-fn missing_section(refusal: Refusal, text: &[u8]) -> Said {
-    let sections = table::sections(refusal.file);
-    let lines: Vec<&[u8]> = shown::lines_from(text, 1)?.collect();
-    let missing = sections
-        .iter()
-        .find(|section| !lines.contains(&section.heading.as_bytes()))?;
-    let heading = &missing.heading;
-    let meaning = format!("{}: {heading}", words::meaning(7));
-    let advice = format!("add {heading} with its entries; axles count from 1 without a gap");
-    Some((meaning, advice))
+fn finding(refused: &Refused, subject: Option<&Subject>) -> Option<Finding> {
+    match refused.refusal.number {
+        2 => Some(stem(refused)),
+        4 => line_form::finding(refused),
+        5 => misnamed::heading(refused),
+        6 => misnamed::entry(refused),
+        7 => absent::section(refused),
+        8 => absent::entries(refused),
+        9 => wrong_value::finding(refused),
+        10 => filled_or_empty(refused),
+        11 => missing_or_not_due(refused, subject?),
+        12 => rules::booking(refused),
+        13 => rules::difference(refused),
+        14 => identification::form(refused),
+        15 => identification::difference(refused),
+        _ => None,
+    }
 }
 
-/// Row 8: the names of this section that stand on no line between its heading and the next.
-fn missing_entries(refusal: Refusal, text: &[u8]) -> Said {
-    let mut lines = shown::lines_from(text, refusal.line)?;
-    let heading = lines.next()?;
-    let names: Vec<&[u8]> = lines
-        .take_while(|line| !line.starts_with(b"["))
-        .filter_map(shown::entry)
-        .map(|(name, _)| name)
-        .collect();
-    let sections = table::sections(refusal.file);
-    let section = sections
-        .iter()
-        .find(|section| section.heading.as_bytes() == heading)?;
-    let missing: Vec<&str> = section
-        .entries
-        .iter()
-        .map(|entry| entry.name.as_str())
-        .filter(|name| !names.contains(&name.as_bytes()))
-        .collect();
-    let missing = missing.join(", ");
-    let meaning = format!("{}: {missing}", words::meaning(8));
-    Some((meaning, format!("add to this section: {missing}")))
+/// Row 2.
+fn stem(refused: &Refused) -> Finding {
+    let stem = refused.case.stem();
+    let found = stem_shown(stem);
+    let length = counted(stem.len(), "byte");
+    let mend = refused.tried(Edit {
+        file: 0,
+        line: 0,
+        action: Action::Rename(stem.to_ascii_uppercase()),
+    });
+    let cause = match mend {
+        Some(_) => format!("the stem `{found}` has small letters"),
+        None => format!("the stem `{found}` has {length}"),
+    };
+    Finding::cause(cause).mend_or(mend, words::advice(2))
 }
 
-/// Row 10: which of the two.
-fn filled_or_empty(refusal: Refusal, text: &[u8]) -> Said {
-    let (name, value) = shown::entry_on_line(text, refusal.line)?;
+/// Row 10: which of the two. To take the value out comes last: it may be right, and another wrong by which it is not
+/// due.
+fn filled_or_empty(refused: &Refused) -> Option<Finding> {
+    let (name, value) = refused.entry()?;
     let name = shown::bytes(name);
-    Some(if value.is_empty() {
-        let advice = format!("fill in {name}");
-        ("due, but empty".to_string(), advice)
-    } else {
-        let advice = format!("leave nothing behind {name}=");
-        ("filled, but not due".to_string(), advice)
-    })
+    if value.is_empty() {
+        let finding = Finding::default().meaning("due, but empty");
+        return Some(finding.advice(format!("fill in {name}")));
+    }
+    let first = "look first at the values that decide what is due: one of them may be wrong";
+    let last = refused.tried(refused.edit(Action::Empty));
+    let advice = match last {
+        Some(_) => {
+            format!("{first}; only if all of them are right, leave nothing behind `{name}=`")
+        }
+        None => first.to_string(),
+    };
+    Some(
+        Finding::default()
+            .meaning("filled, but not due")
+            .advice(advice),
+    )
 }
 
-/// Row 11: missing or not due; read alone, empty.
-fn missing_or_not_due(refusal: Refusal, subject: &Subject) -> Said {
-    let (name, when) = (&subject.name, words::when_given(refusal.file));
+/// Row 11: missing or not due; read alone, empty. To take a file out comes last, as in row 10.
+fn missing_or_not_due(refused: &Refused, subject: &Subject) -> Option<Finding> {
+    let (name, when) = (&subject.name, words::when_given(refused.refusal.file));
     let (meaning, advice) = match (subject.presence, subject.text) {
         (Presence::Alone, _) => (
             "the file is empty",
@@ -165,23 +171,16 @@ fn missing_or_not_due(refusal: Refusal, subject: &Subject) -> Said {
             "empty, which counts as not given, but due",
             format!("put {name} there with its content: {when}"),
         ),
-        (Presence::InSet, _) => (
-            "given, but not due",
-            format!("take {name} out of the set, or correct what makes it due: {when}"),
-        ),
+        (Presence::InSet, _) => {
+            let first = format!("look first whether what decides this is right: {when}");
+            let advice = match refused.tried(refused.edit(Action::Remove)) {
+                Some(_) => format!("{first}; only if it is, take {name} out of the set"),
+                None => first,
+            };
+            ("given, but not due", advice)
+        }
     };
-    Some((meaning.to_string(), advice))
-}
-
-/// Row 12: the rule at this entry.
-fn broken_rule(refusal: Refusal, text: &[u8]) -> Said {
-    let (name, _) = shown::entry_on_line(text, refusal.line)?;
-    let rule = words::booking_rule(refusal.file, name)?;
-    let meaning = words::meaning(12).to_string();
-    Some((
-        meaning,
-        format!("correct the booking that is wrong: {rule}"),
-    ))
+    Some(Finding::default().meaning(meaning).advice(advice))
 }
 
 impl Explained {
@@ -195,6 +194,9 @@ impl Explained {
             if let Some(remark) = remark {
                 page += &labelled("", &format!("({remark})"));
             }
+        }
+        if let Some(cause) = &self.cause {
+            page += &labelled("cause", cause);
         }
         page + &labelled("to do", &self.advice)
     }
@@ -225,32 +227,4 @@ impl Explained {
             (line, _) => line.to_string(),
         }
     }
-}
-
-/// A label and its text as it stands.
-fn verbatim(label: &str, text: &str) -> String {
-    if text.is_empty() {
-        return format!("{INDENT}{label}\n");
-    }
-    format!("{INDENT}{label:LABEL$}{text}\n")
-}
-
-/// A label and its text, in lines of at most the page's width.
-pub fn labelled(label: &str, text: &str) -> String {
-    let room = PAGE - INDENT.len() - LABEL;
-    let mut label = label;
-    let mut page = String::new();
-    let mut line = String::new();
-    for word in text.split(' ') {
-        if !line.is_empty() && line.chars().count() + 1 + word.chars().count() > room {
-            page += &verbatim(label, &line);
-            label = "";
-            line.clear();
-        }
-        if !line.is_empty() {
-            line.push(' ');
-        }
-        line += word;
-    }
-    page + &verbatim(label, &line)
 }

@@ -1,4 +1,4 @@
-//! `mctc format FILE`: the file written in table order.
+//! `mctc format FILE`: the file written in table order, or with `--mend` as it stands but for its line ends.
 
 use std::fs::{self, File, OpenOptions};
 use std::io::{self, ErrorKind, Write};
@@ -6,9 +6,11 @@ use std::path::Path;
 
 use mctc::Refusal;
 
+use crate::disk::{read_file, MOST};
+use crate::line_ends::{self, Mended, NoText};
 use crate::output::{say, Output, Status, Trouble};
 use crate::read::{FileRead, Input};
-use crate::shown;
+use crate::shown::{self, counted};
 
 pub fn run(input: &Input, new: Option<&Path>, out: &mut Output) -> Result<Status, Trouble> {
     let read = input.read()?;
@@ -29,6 +31,50 @@ pub fn run(input: &Input, new: Option<&Path>, out: &mut Output) -> Result<Status
         }
     }
     Ok(Status::Accepted)
+}
+
+/// Line ends and byte order mark mended, and nothing else; no verdict is asked for.
+pub fn mend(path: &Path, new: Option<&Path>, out: &mut Output) -> Result<Status, Trouble> {
+    let file = read_file(path, path.as_os_str())?;
+    let name = &file.name;
+    if file.text.len() > MOST {
+        let why = format!("{name}: has more than {MOST} bytes, which no file of a set may have");
+        return Err(Trouble(why));
+    }
+    if let Some(no_text) = NoText::of(&file.text) {
+        let (cause, advice) = (no_text.cause(), no_text.advice());
+        return Err(Trouble(format!("{name}: not mended, as {cause}; {advice}")));
+    }
+    let mended = line_ends::mended(&file.text);
+    let changes = changes(&mended);
+    match new {
+        // Standard output is for the file alone.
+        None => {
+            out.bytes(&mended.text)?;
+            say(&format!("mctc: {name}: {changes}\n"));
+        }
+        Some(path) => {
+            write_new(path, &mended.text)?;
+            let (new, bytes) = (shown::name(path), mended.text.len());
+            out.text(&format!("{new}: written, {bytes} bytes; {changes}\n"))?;
+        }
+    }
+    Ok(Status::Accepted)
+}
+
+fn changes(mended: &Mended) -> String {
+    let mark = mended
+        .mark
+        .then(|| "byte order mark taken away".to_string());
+    let ends = match mended.ends.wrong() {
+        0 => None,
+        count => Some(format!("{} made CR LF", counted(count, "line end"))),
+    };
+    let changes: Vec<String> = mark.into_iter().chain(ends).collect();
+    match changes.as_slice() {
+        [] => "nothing was to be mended, every byte is the same".to_string(),
+        changes => format!("{}; all else is the same", changes.join(", ")),
+    }
 }
 
 /// A file that was read holds each line of its table once and nothing else, so what is written has the same length.

@@ -11,6 +11,8 @@ mctc: judges MCTCNet2 test sets with the proved library
   mctc read FILE [--file N]         one file alone, with its values
   mctc format FILE [--file N] [--output NEW]
                                     one file written in table order
+  mctc format --mend FILE [--output NEW]
+                                    one file with its line ends mended
   mctc COMMAND --help               more about a command
   mctc --version
 
@@ -35,12 +37,23 @@ mctc judge FOLDER [--json]
 
 Judges one set, or every set of the folder. A refusal has its number, what it
 means, the file, the line and its text (bytes that cannot be printed as \\xHH),
-and what to do.
+the cause where it is known, and what to do.
 
 With STEM: the verdict on that set. With --json one object: stem, accepted,
-number, file, line (0 for none), name, meaning, text, remark, to_do,
-drift_axles, suspension_axles, drift_mark, suspension_mark, gas_mark, empty;
-or stem and error where a file cannot be read.
+number, file, line (0 for none), name, meaning, text, remark, to_do, cause,
+mend, drift_axles, suspension_axles, drift_mark, suspension_mark, gas_mark,
+empty; or stem and error where a file cannot be read.
+
+mend is what to_do asks for, where that can be done without knowing more, or
+null. It was tried: with it, the judge accepts or refuses at a later place. It
+has file, line, action and text:
+
+  replace    the line has this text, ended by CR LF
+  delete     the line goes
+  insert     a line with this text stands below it
+  line ends  the file is written as `mctc format --mend` does
+  content    the whole file is this text, each character one byte
+  rename     all files of the set have this stem
 
 Without STEM: a line for each set, then how many were accepted, refused and not
 judged. With --json one object: folder, sets (an array of the objects above),
@@ -77,6 +90,7 @@ Exit status: 0 read; 1 refused; 2 bad usage, or FILE cannot be read.
 
 pub const FORMAT: &str = "\
 mctc format FILE [--file N] [--output NEW]
+mctc format --mend FILE [--output NEW]
 
 Reads one file alone and writes it in table order, to standard output or to a
 new file. A refusal goes to standard error.
@@ -84,6 +98,9 @@ new file. A refusal goes to standard error.
   --file N      the file's number: 1 new booking, 2 old booking, 3 drift,
                 4 suspension, 5 gas; without it the ending of FILE says it
   --output NEW  a file that does not exist yet; none is ever overwritten
+  --mend        write FILE as it stands, but every line ended by CR LF and no
+                byte order mark, and say what was changed; nothing is judged.
+                UTF-16 and what is no text is not mended
 
 Exit status: 0 written; 1 refused; 2 bad usage, FILE cannot be read or NEW
 cannot be written.

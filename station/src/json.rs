@@ -31,6 +31,14 @@ impl Object {
         self.raw(key, format!("[{}]", values.join(",")))
     }
 
+    /// An object, or null.
+    pub fn object(self, key: &str, value: Option<Object>) -> Object {
+        self.raw(
+            key,
+            value.map_or("null".to_string(), |object| object.text()),
+        )
+    }
+
     fn raw(mut self, key: &str, value: impl Display) -> Object {
         self.members.push(format!("{}:{value}", string(key)));
         self

@@ -6,11 +6,14 @@ use std::path::Path;
 
 use mctc::{Acceptance, Places, Refusal};
 
+use crate::case::Case;
 use crate::disk::{stem_shown, Folder, SetOnDisk};
-use crate::explain::{explain, labelled, Explained, Subject};
+use crate::edit::Edit;
+use crate::explain::{explain, Explained, Subject};
 use crate::file_types::{FileType, FILE_TYPES};
 use crate::json::Object;
 use crate::output::{Output, Status, Trouble};
+use crate::page::labelled;
 use crate::shown::counted;
 
 pub fn run(folder: &Path, stem: &OsStr, json: bool, out: &mut Output) -> Result<Status, Trouble> {
@@ -50,8 +53,10 @@ pub struct Judged {
 impl Judged {
     pub fn new(set: SetOnDisk) -> Judged {
         let mut places = Places::default();
-        let verdict = mctc::judge(&set.lent(), &mut places)
-            .map_err(|refusal| explain(refusal, Subject::of_set(&set, refusal.file)));
+        let verdict = mctc::judge(&set.lent(), &mut places).map_err(|refusal| {
+            let subject = Subject::of_set(&set, refusal.file);
+            explain(Case::set(&set), refusal, subject)
+        });
         Judged {
             set,
             places,
@@ -172,6 +177,14 @@ impl Judged {
             .optional(
                 "to_do",
                 explained.map(|explained| explained.advice.as_str()),
+            )
+            .optional(
+                "cause",
+                explained.and_then(|explained| explained.cause.as_deref()),
+            )
+            .object(
+                "mend",
+                explained.and_then(|explained| explained.mend.as_ref().map(Edit::json)),
             )
             .number("drift_axles", acceptance.drift_axles)
             .number("suspension_axles", acceptance.suspension_axles)

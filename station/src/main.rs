@@ -5,22 +5,35 @@
 
 #![forbid(unsafe_code)]
 
+mod absent;
 mod arguments;
+mod candidates;
+mod case;
 mod disk;
 mod due;
+mod edit;
 mod explain;
 mod file_types;
+mod finding;
 mod folder;
 mod format;
 mod help;
+mod identification;
 mod json;
 mod judge;
+mod line_ends;
+mod line_form;
+mod misnamed;
+mod near;
 mod output;
+mod page;
 mod progress;
 mod read;
+mod rules;
 mod shown;
 mod table;
 mod words;
+mod wrong_value;
 
 use std::process::ExitCode;
 
@@ -46,6 +59,7 @@ fn run(command: Command) -> Result<Status, Trouble> {
         Command::Due { folder, stem } => due::run(folder, stem, &mut out),
         Command::Read(input) => read::run(input, &mut out),
         Command::Format { input, new } => format::run(input, new.as_deref(), &mut out),
+        Command::Mend { path, new } => format::mend(path, new.as_deref(), &mut out),
     }?;
     out.finish()?;
     Ok(status)

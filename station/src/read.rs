@@ -5,6 +5,7 @@ use std::path::{Path, PathBuf};
 
 use mctc::{Places, Refusal};
 
+use crate::case::Case;
 use crate::disk::{read_file, FileOnDisk};
 use crate::explain::{explain, Subject};
 use crate::file_types::{by_number, split_name};
@@ -108,7 +109,8 @@ impl FileRead {
 
     /// The refusal in plain words.
     pub fn refused(&self, refusal: Refusal) -> String {
-        let explained = explain(refusal, Some(Subject::alone(&self.file)));
+        let case = Case::file(self.number, &self.file.text);
+        let explained = explain(case, refusal, Some(Subject::alone(&self.file)));
         let (name, number) = (&self.file.name, refusal.number);
         format!("{name}: refused, number {number}\n{}", explained.page())
     }

@@ -18,6 +18,11 @@ pub fn bytes(bytes: &[u8]) -> String {
     text
 }
 
+/// A value in backticks, so that its end is seen; a backtick within as `\x60`.
+pub fn value(value: &[u8]) -> String {
+    format!("`{}`", bytes(value).replace('`', "\\x60"))
+}
+
 fn push_hex(text: &mut String, byte: u8) {
     text.push_str(&format!("\\x{byte:02X}"));
 }
@@ -52,7 +57,7 @@ pub struct Line {
 
 /// The line with this number, from 1: up to the next LF, without its CR LF. None where there is no such line.
 pub fn line(text: &[u8], number: u32) -> Option<Line> {
-    let whole = whole_lines_from(text, number)?.next()?;
+    let whole = whole_line(text, number)?;
     let content = content(whole);
     let shown = content.get(..LONGEST_SHOWN).unwrap_or(content);
     let remark = if content.len() > shown.len() {
@@ -62,6 +67,8 @@ pub fn line(text: &[u8], number: u32) -> Option<Line> {
         Some("the line is empty".to_string())
     } else if !whole.ends_with(b"\n") {
         Some("the file ends here, without CR LF".to_string())
+    } else if content.ends_with(b" ") {
+        Some("a space stands at the end".to_string())
     } else {
         None
     };
@@ -82,8 +89,18 @@ fn whole_lines_from(text: &[u8], number: u32) -> Option<impl Iterator<Item = &[u
     Some(text.split_inclusive(|byte| *byte == b'\n').skip(before))
 }
 
+/// The line with this number, with its end.
+pub fn whole_line(text: &[u8], number: u32) -> Option<&[u8]> {
+    whole_lines_from(text, number)?.next()
+}
+
+/// How many lines stand behind the one with this number.
+pub fn lines_behind(text: &[u8], number: u32) -> usize {
+    whole_lines_from(text, number.saturating_add(1)).map_or(0, Iterator::count)
+}
+
 /// A line without its CR LF.
-fn content(whole: &[u8]) -> &[u8] {
+pub fn content(whole: &[u8]) -> &[u8] {
     whole.strip_suffix(b"\r\n").unwrap_or(whole)
 }
 

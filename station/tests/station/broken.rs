@@ -58,7 +58,7 @@ impl Broken {
 }
 
 /// The files of a folder.
-fn files(folder: &Path) -> Vec<PathBuf> {
+pub fn files(folder: &Path) -> Vec<PathBuf> {
     let entries = fs::read_dir(folder).expect("a folder");
     entries.map(|entry| entry.expect("a file").path()).collect()
 }
@@ -115,7 +115,7 @@ fn identification(inner: &[u8]) -> Vec<u8> {
 }
 
 /// The sixty-one sets, in a new folder of this name.
-fn broken_sets(name: &str) -> PathBuf {
+pub fn broken_sets(name: &str) -> PathBuf {
     let broken = Broken {
         folder: empty_folder(name),
     };

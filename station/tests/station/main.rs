@@ -2,6 +2,7 @@
 
 mod broken;
 mod common;
+mod obeyed;
 mod readme;
 mod reference;
 mod streams;

@@ -212,6 +212,18 @@ fn odd_files() -> PathBuf {
             .expect("a file of a terabyte, with nothing on the disk");
     }
 
+    put(folder.join("mend/lf.DER"), "[DerivaAsse_1]\nDeriva=0.40\n");
+    put(
+        folder.join("mend/mixed"),
+        "\u{feff}[DerivaAsse_1]\r\nA=1\nB=2\rC=3\r\r\nD=\u{e8}",
+    );
+    put(folder.join("mend/right.DER"), &drift);
+    put(folder.join("mend/wide.DER"), b"\xFF\xFE[\0D\0]\0");
+    put(
+        folder.join("mend/binary.DER"),
+        b"MZ\x90\0\x03\0\0\0\x04\0\0\0",
+    );
+
     put(folder.join("out/there"), "stays\n");
     put(folder.join("out/AC204711.DER"), &drift);
     folder
@@ -228,6 +240,10 @@ fn odd_files_on_disk() {
         out("AC204711.DER"),
         "in table order before, so the same bytes"
     );
+    let mend = |name: &str| fs::read(folder.join("mend").join(name)).expect("a file");
+    assert_eq!(mend("new"), b"[DerivaAsse_1]\r\nDeriva=0.40\r\n");
+    assert_eq!(mend("same"), mend("right.DER"), "nothing was to be mended");
+    assert!(!folder.join("mend/none").exists(), "no text was mended");
     assert!(
         !folder.join("out/refused").exists(),
         "a file was left by a refusal"

@@ -1,0 +1,72 @@
+//! Refusals 7 and 8: sections and entries that are not there.
+
+use mctc::Due;
+
+use crate::case::Refused;
+use crate::edit::{Action, Edit};
+use crate::finding::Finding;
+use crate::table::{self, Entry};
+use crate::words;
+
+/// Refusal 7.
+pub fn section(refused: &Refused) -> Option<Finding> {
+    let (_, missing) = table::missing_section(refused.refusal.file, refused.text())?;
+    let heading = missing.heading;
+    let names: Vec<&str> = missing
+        .entries
+        .iter()
+        .map(|entry| entry.name.as_str())
+        .collect();
+    let sections = table::sections(refused.refusal.file);
+    let axles = match table::axles_like(&sections, heading.as_bytes()).as_slice() {
+        [] => "",
+        _ => "; axles count from 1 without a gap",
+    };
+    let finding = Finding::default().meaning(format!("{}: {heading}", words::meaning(7)));
+    let names = shortened(&names);
+    Some(finding.advice(format!("add {heading} with its entries ({names}){axles}")))
+}
+
+/// The names, or the first and how many more.
+fn shortened(names: &[&str]) -> String {
+    match names {
+        [first, rest @ ..] if rest.len() > 9 => format!("{first} and {} more", rest.len()),
+        names => names.join(", "),
+    }
+}
+
+/// Refusal 8.
+pub fn entries(refused: &Refused) -> Option<Finding> {
+    let (file, line) = (refused.refusal.file, refused.refusal.line);
+    let missing = table::missing_entries(file, refused.text(), line);
+    let names: Vec<&str> = missing.iter().map(|entry| entry.name.as_str()).collect();
+    let names = names.join(", ");
+    let first = missing.first()?;
+    let mend = may_be_empty(refused, &missing)
+        .then(|| below(refused, first))
+        .and_then(|edit| refused.tried(edit));
+    let finding = Finding::default().meaning(format!("{}: {names}", words::meaning(8)));
+    Some(finding.mend_or(
+        mend,
+        format!("add to this section, with their values: {names}"),
+    ))
+}
+
+/// The entry as a line without a value, below its heading.
+fn below(refused: &Refused, entry: &Entry) -> Edit {
+    refused.edit(Action::Insert(format!("{}=", entry.name).into_bytes()))
+}
+
+/// Whether the first of these may be empty: with all of them there, the library says what is due.
+fn may_be_empty(refused: &Refused, missing: &[Entry]) -> bool {
+    let file = refused.refusal.file;
+    let text = missing.iter().fold(refused.text().to_vec(), |text, entry| {
+        below(refused, entry).apply(&text)
+    });
+    let column = refused.case.with_text(file, &text).due(file);
+    let due = column
+        .as_ref()
+        .zip(missing.first())
+        .and_then(|(column, first)| column.entries.get(first.number));
+    matches!(due, Some(Due::NotDue | Due::Free))
+}

@@ -1,0 +1,177 @@
+//! What the library was asked, kept so that it can be asked again with a change: advice is tried before it is given.
+
+use mctc::{Column, Places, Refusal};
+
+use crate::disk::SetOnDisk;
+use crate::edit::{Action, Edit};
+use crate::file_types::FILE_TYPES;
+use crate::shown;
+use crate::table;
+
+/// The new booking.
+pub const AC2: u32 = 1;
+
+/// A set, or one file that is read alone.
+#[derive(Clone, Copy)]
+pub struct Case<'a> {
+    stem: &'a [u8],
+    texts: [&'a [u8]; FILE_TYPES.len()],
+    /// The number of the file that is read alone.
+    alone: Option<u32>,
+}
+
+impl<'a> Case<'a> {
+    pub fn set(set: &'a SetOnDisk) -> Case<'a> {
+        Case {
+            stem: &set.stem,
+            texts: FILE_TYPES.map(|file| set.text(file.number)),
+            alone: None,
+        }
+    }
+
+    /// One file alone.
+    pub fn file(number: u32, text: &'a [u8]) -> Case<'a> {
+        let case = Case {
+            stem: &[],
+            texts: Default::default(),
+            alone: Some(number),
+        };
+        case.with_text(number, text)
+    }
+
+    pub fn stem(&self) -> &'a [u8] {
+        self.stem
+    }
+
+    /// The text of a file, empty where it is not given.
+    pub fn text(&self, file: u32) -> &'a [u8] {
+        let place = (file as usize).checked_sub(1);
+        let text = place.and_then(|at| self.texts.get(at));
+        text.copied().unwrap_or_default()
+    }
+
+    pub fn with_text<'b>(&self, file: u32, text: &'b [u8]) -> Case<'b>
+    where
+        'a: 'b,
+    {
+        let mut case: Case<'b> = *self;
+        let place = (file as usize).checked_sub(1);
+        if let Some(old) = place.and_then(|at| case.texts.get_mut(at)) {
+            *old = text;
+        }
+        case
+    }
+
+    fn with_stem<'b>(&self, stem: &'b [u8]) -> Case<'b>
+    where
+        'a: 'b,
+    {
+        Case { stem, ..*self }
+    }
+
+    /// The library's refusal, None where it accepts.
+    pub fn refusal(&self) -> Option<Refusal> {
+        let mut places = Places::default();
+        match self.alone {
+            Some(number) => mctc::read(number, self.text(number), &mut places).err(),
+            None => mctc::judge(&self.lent(), &mut places).err(),
+        }
+    }
+
+    fn lent(&self) -> mctc::Set<'a> {
+        let [ac2, acc, drift, suspension, gas, identification] = self.texts;
+        mctc::Set {
+            stem: self.stem,
+            ac2,
+            acc,
+            drift,
+            suspension,
+            gas,
+            identification,
+        }
+    }
+
+    /// What is due in a file, where that can be said.
+    pub fn due(&self, file: u32) -> Option<Column> {
+        let mut places = Places::default();
+        mctc::due(file, self.text(AC2), self.text(file), &mut places).ok()
+    }
+}
+
+/// A case that the library refused.
+#[derive(Clone, Copy)]
+pub struct Refused<'a> {
+    pub case: Case<'a>,
+    pub refusal: Refusal,
+}
+
+impl<'a> Refused<'a> {
+    /// The text of the file that the refusal names.
+    pub fn text(&self) -> &'a [u8] {
+        self.case.text(self.refusal.file)
+    }
+
+    /// Name and value on the refusal's line.
+    pub fn entry(&self) -> Option<(&'a [u8], &'a [u8])> {
+        shown::entry_on_line(self.text(), self.refusal.line)
+    }
+
+    /// A change at the refusal's file and line.
+    pub fn edit(&self, action: Action) -> Edit {
+        let Refusal { file, line, .. } = self.refusal;
+        Edit { file, line, action }
+    }
+
+    /// The refusal's line with another value.
+    pub fn with_value(&self, value: &[u8]) -> Option<Edit> {
+        let (name, _) = self.entry()?;
+        let line = [name, b"=", value].concat();
+        Some(self.edit(Action::Replace(line)))
+    }
+
+    /// Whether the library, asked again with the change, accepts or refuses at a later place.
+    pub fn helps(&self, edit: &Edit) -> bool {
+        if let Action::Rename(stem) = &edit.action {
+            let after = self.case.with_stem(stem).refusal();
+            return after.is_none_or(|after| after.number != self.refusal.number);
+        }
+        let text = edit.apply(self.case.text(edit.file));
+        let case = self.case.with_text(edit.file, &text);
+        let Some(refusal) = case.refusal() else {
+            return true;
+        };
+        let after = Refused { case, refusal };
+        match edit.action {
+            // The count of lines may have changed, so lines are compared from the start.
+            Action::LineEnds if refusal.file == self.refusal.file => {
+                refusal.number != self.refusal.number || refusal.line > self.refusal.line
+            }
+            _ => after.rank() > self.rank(),
+        }
+    }
+
+    /// The change, where it helps.
+    pub fn tried(&self, edit: Edit) -> Option<Edit> {
+        self.helps(&edit).then_some(edit)
+    }
+
+    /// Where the refusal stands in the order of judging (01, Judging): its file, the step, and the place in that step.
+    fn rank(&self) -> (u32, u32, usize) {
+        let Refusal { number, file, line } = self.refusal;
+        let text = self.text();
+        let entry = || table::entry_at(file, text, line).unwrap_or_default();
+        let (step, place) = match number {
+            11 => (0, 0),
+            3 => (1, 0),
+            // From the end, as lines above may be taken out.
+            4..=6 => (2, usize::MAX - shown::lines_behind(text, line)),
+            7 => (3, table::missing_section(file, text).map_or(0, |at| at.0)),
+            8 => (4, table::first_missing_entry(file, text, line)),
+            9 => (5, entry()),
+            10 => (6, entry()),
+            12 | 13 => (7, entry()),
+            _ => (number, 0),
+        };
+        (file, step, place)
+    }
+}

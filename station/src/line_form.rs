@@ -1,0 +1,258 @@
+//! Refusal 4: why a line does not have the form of a line (01, Lines).
+
+use crate::case::Refused;
+use crate::edit::{Action, Edit};
+use crate::finding::Finding;
+use crate::line_ends::{self, Ends, NoText, BYTE_ORDER_MARK};
+use crate::shown::{self, counted};
+use crate::table;
+
+/// 01, Lines: the most bytes before CR LF.
+const LONGEST: usize = 512;
+
+const FORM: &str = "a line is a heading in [ ], or name=value";
+
+pub fn finding(refused: &Refused) -> Option<Finding> {
+    let (text, line) = (refused.text(), refused.refusal.line);
+    let whole = shown::whole_line(text, line)?;
+    if let Some(no_text) = NoText::of(text) {
+        return Some(Finding::cause(no_text.cause()).advice(no_text.advice()));
+    }
+    let form = Line { refused, whole };
+    let finding = form.mark().or_else(|| form.line_end());
+    let finding = finding.or_else(|| form.length()).or_else(|| form.byte());
+    finding.or_else(|| form.last_end()).or_else(|| form.parts())
+}
+
+/// The refused line, with its end.
+struct Line<'a> {
+    refused: &'a Refused<'a>,
+    whole: &'a [u8],
+}
+
+impl<'a> Line<'a> {
+    /// The line without its CR LF, or the CR with which the file ends.
+    fn content(&self) -> &'a [u8] {
+        let content = shown::content(self.whole);
+        content.strip_suffix(b"\r").unwrap_or(content)
+    }
+
+    fn tried(&self, action: Action) -> Option<Edit> {
+        self.refused.tried(self.refused.edit(action))
+    }
+
+    fn replaced(&self, text: &[u8]) -> Option<Edit> {
+        self.tried(Action::Replace(text.to_vec()))
+    }
+
+    /// A change to the file as a whole.
+    fn line_ends(&self) -> Option<Edit> {
+        let file = self.refused.refusal.file;
+        self.refused.tried(Edit {
+            file,
+            line: 0,
+            action: Action::LineEnds,
+        })
+    }
+
+    fn mark(&self) -> Option<Finding> {
+        let first = self.refused.refusal.line == 1;
+        (first && self.whole.starts_with(BYTE_ORDER_MARK)).then(|| {
+            let cause = "the file begins with a byte order mark (EF BB BF hex)";
+            with_program(
+                cause,
+                "save the file without a byte order mark",
+                self.line_ends(),
+            )
+        })
+    }
+
+    /// LF without CR, or CR within the line.
+    fn line_end(&self) -> Option<Finding> {
+        let line = self.refused.refusal.line;
+        let feed = self.whole.ends_with(b"\n") && !self.whole.ends_with(b"\r\n");
+        let inner = self.content().strip_suffix(b"\n").unwrap_or(self.content());
+        let inner = inner.strip_suffix(b"\r").unwrap_or(inner);
+        let returns = inner.iter().position(|byte| *byte == b'\r');
+        if !feed && returns.is_none() {
+            return None;
+        }
+        let ends = line_ends::mended(self.refused.text()).ends;
+        let alone = Ends {
+            feeds: 1,
+            right: ends.right,
+            ..Ends::default()
+        };
+        if ends == alone {
+            let finding = Finding::cause(format!("line {line} ends in LF alone, without CR"));
+            let mend = self.replaced(inner);
+            let advice = format!("end line {line} with CR LF, as the other lines");
+            return Some(Finding {
+                mend,
+                ..finding.advice(advice)
+            });
+        }
+        let cause = match returns {
+            Some(at) if ends.wrong() == 1 => {
+                format!(
+                    "a CR (0D hex) that ends no line stands at column {}",
+                    at + 1
+                )
+            }
+            _ => ends.words().join("; "),
+        };
+        Some(with_program(
+            &cause,
+            "save the file with CR LF line ends",
+            self.line_ends(),
+        ))
+    }
+
+    fn length(&self) -> Option<Finding> {
+        let length = self.content().len();
+        if length == 0 {
+            let mend = self.tried(Action::Delete);
+            return Some(Finding::cause("the line is empty").mend_or(mend, "delete the line"));
+        }
+        (length > LONGEST).then(|| {
+            let over = counted(length - LONGEST, "byte");
+            Finding::cause(format!(
+                "the line has {length} bytes, {over} more than the {LONGEST} that a line may have"
+            ))
+            .advice(format!("shorten the line by {over} or more"))
+        })
+    }
+
+    /// A byte that a line may not have.
+    fn byte(&self) -> Option<Finding> {
+        let content = self.content();
+        let at = content
+            .iter()
+            .position(|byte| !matches!(byte, 0x20..=0x7E))?;
+        let (before, rest) = content.split_at(at);
+        let column = before.len() + 1;
+        let cause = format!("{} stands at column {column}", byte_words(rest));
+        let mend = self.tried_without_ends(content);
+        Some(Finding::cause(cause).mend_or(
+            mend,
+            format!(
+                "retype line {} with plain letters, digits and signs (20 to 7E hex)",
+                self.refused.refusal.line
+            ),
+        ))
+    }
+
+    /// Bytes that cannot be printed are taken away at the ends of a line; within it, what they stand for is not known.
+    fn tried_without_ends(&self, content: &[u8]) -> Option<Edit> {
+        let control = |byte: &u8| matches!(byte, 0..0x20 | 0x7F);
+        let start = content.iter().take_while(|byte| control(byte)).count();
+        let kept = content.get(start..)?;
+        let end = kept.iter().rev().take_while(|byte| control(byte)).count();
+        let kept = kept.get(..kept.len() - end)?;
+        if kept.is_empty() {
+            self.tried(Action::Delete)
+        } else {
+            self.replaced(kept)
+        }
+    }
+
+    fn last_end(&self) -> Option<Finding> {
+        (!self.whole.ends_with(b"\n")).then(|| {
+            let line = self.refused.refusal.line;
+            let cause = format!("the file ends in line {line} without CR LF");
+            let mend = self.replaced(self.content());
+            let finding = Finding::cause(cause).advice(format!("end line {line} with CR LF"));
+            Finding { mend, ..finding }
+        })
+    }
+
+    /// A heading without its end, a line without `=`, an entry before any heading.
+    fn parts(&self) -> Option<Finding> {
+        let content = self.content();
+        let trimmed = content.trim_ascii();
+        if trimmed.starts_with(b"[") {
+            return Some(self.heading(content, trimmed));
+        }
+        if !content.contains(&b'=') {
+            return Some(self.no_sign(trimmed));
+        }
+        let text = self.refused.text();
+        let above = table::heading_above(text, self.refused.refusal.line);
+        above.is_none().then(|| {
+            Finding::cause("the entry stands before any heading").advice(
+                "write the heading of its section above it, or move the line below the heading",
+            )
+        })
+    }
+
+    fn heading(&self, content: &[u8], trimmed: &[u8]) -> Finding {
+        let cause = match () {
+            () if !content.starts_with(b"[") => "a space stands before the heading",
+            () if trimmed.ends_with(b"]") => "a space stands behind the heading",
+            () if trimmed.contains(&b']') => "more stands behind the `]` of the heading",
+            () => "the heading does not end in `]`",
+        };
+        let closed = trimmed.split_inclusive(|byte| *byte == b']').next();
+        let mut heading = closed.unwrap_or_default().to_vec();
+        if !heading.ends_with(b"]") {
+            heading.push(b']');
+        }
+        let mend = self.replaced(&heading);
+        Finding::cause(cause).mend_or(mend, "write the heading in [ ] and nothing else")
+    }
+
+    fn no_sign(&self, trimmed: &[u8]) -> Finding {
+        if trimmed.is_empty() {
+            let mend = self.tried(Action::Delete);
+            return Finding::cause("the line has only spaces").mend_or(mend, "delete the line");
+        }
+        if [&b";"[..], b"#", b"//"]
+            .iter()
+            .any(|sign| trimmed.starts_with(sign))
+        {
+            let cause = format!("a comment is no line of a set: {FORM}");
+            return Finding::cause(cause).mend_or(self.tried(Action::Delete), "delete the line");
+        }
+        Finding::cause(format!("the line has no `=`: {FORM}"))
+            .advice("write the line as name=value, or delete it if it belongs to no entry")
+    }
+}
+
+/// What an editor can do, and `mctc format --mend` where that helps.
+fn with_program(cause: &str, advice: &str, mend: Option<Edit>) -> Finding {
+    let advice = match mend {
+        Some(_) => format!("{advice}, or let `mctc format --mend` write it so"),
+        None => advice.to_string(),
+    };
+    let finding = Finding::cause(cause).advice(advice);
+    Finding { mend, ..finding }
+}
+
+/// The first byte of these in words, with the letter that it begins.
+fn byte_words(rest: &[u8]) -> String {
+    let first = rest.first().copied().unwrap_or_default();
+    let what = match first {
+        0x00 => "a zero byte",
+        0x09 => "a tab",
+        0x0D => "a CR",
+        0x1A => "an end mark of old programs, Ctrl-Z",
+        0x80.. => "a letter or sign outside ASCII",
+        _ => "a control byte",
+    };
+    let letter = rest
+        .utf8_chunks()
+        .next()
+        .and_then(|chunk| chunk.valid().chars().next());
+    match letter.filter(|letter| !letter.is_ascii()) {
+        Some(letter) if !letter.is_control() => {
+            let mut buffer = [0; 4];
+            let bytes: Vec<String> = letter
+                .encode_utf8(&mut buffer)
+                .bytes()
+                .map(|byte| format!("{byte:02X}"))
+                .collect();
+            format!("{what} (`{letter}`, {} hex)", bytes.join(" "))
+        }
+        _ => format!("{what} ({first:02X} hex)"),
+    }
+}

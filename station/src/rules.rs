@@ -1,0 +1,150 @@
+//! Refusals 12 and 13: what would pass in place of the value, found by trial, and what that hangs on.
+
+use std::collections::BTreeSet;
+
+use crate::candidates;
+use crate::case::{Refused, AC2};
+use crate::edit::Action;
+use crate::file_types::by_number;
+use crate::finding::Finding;
+use crate::near::nearest;
+use crate::shown;
+use crate::table;
+use crate::words;
+
+/// Refusal 12.
+pub fn booking(refused: &Refused) -> Option<Finding> {
+    let (name, value) = refused.entry()?;
+    let rule = words::booking_rule(refused.refusal.file, name)?;
+    let passing = passing(refused);
+    let hangs = hangs_on(refused, name);
+    let found = format!("found {}", shown::value(value));
+    let behind = if hangs.is_empty() {
+        String::new()
+    } else {
+        format!("; this hangs on {}", hangs.join(", "))
+    };
+    let near = match passing.as_slice() {
+        [one] => Some(one.as_str()),
+        several => nearest(value, several.iter().map(String::as_str)),
+    };
+    let mend = near.and_then(|near| refused.with_value(near.as_bytes()));
+    let expected = listed(&passing);
+    let finding = match expected.as_str() {
+        "" => Finding::cause(format!("{found}, and no value fits here{behind}"))
+            .advice(format!("correct what it hangs on: {rule}")),
+        expected => {
+            let finding = Finding::cause(format!("{found}, expected {expected}{behind}"));
+            let advice = mend.as_ref().map(|mend| mend.words());
+            let advice = advice.unwrap_or("write the one of these that is right".to_string());
+            finding.advice(format!(
+                "{advice}, or correct what it hangs on if that is wrong"
+            ))
+        }
+    };
+    Some(Finding { mend, ..finding })
+}
+
+/// `A`, `B` or `C`.
+fn listed(values: &[String]) -> String {
+    let values: Vec<String> = values.iter().map(|value| format!("`{value}`")).collect();
+    match values.split_last() {
+        Some((last, before)) if !before.is_empty() => format!("{} or {last}", before.join(", ")),
+        _ => values.concat(),
+    }
+}
+
+/// What the library lets pass at the refusal's line: words, the new booking's own values, years and digits.
+fn passing(refused: &Refused) -> Vec<String> {
+    let lines = shown::lines_from(refused.case.text(AC2), 1)
+        .into_iter()
+        .flatten();
+    let values = lines.filter_map(shown::entry).map(|(_, value)| value);
+    let values = values.filter_map(|value| String::from_utf8(value.to_vec()).ok());
+    let all: BTreeSet<String> = candidates::words()
+        .chain(values)
+        .chain(candidates::years())
+        .chain(candidates::numbers(10))
+        .filter(|value| !value.is_empty())
+        .collect();
+    let passes = |value: &String| {
+        let edit = refused.with_value(value.as_bytes());
+        edit.is_some_and(|edit| refused.helps(&edit))
+    };
+    all.into_iter().filter(passes).collect()
+}
+
+/// The filled entries that the rule at an entry of a booking looks at, with their lines.
+fn hangs_on(refused: &Refused, name: &[u8]) -> Vec<String> {
+    let names: &[&str] = match (refused.refusal.file, name) {
+        (1, _) | (2, b"DescrizioneVeicolo") => &["CategoriaInternazionale"],
+        (2, b"TipoVeicolo") => &["TipoVeicolo"],
+        (2, b"AnnoPrimaImm") => &["DataPrimaImm"],
+        (2, b"Alimentazione_1") => &[
+            "Alimentazione_1",
+            "DirettivaEmissioniGasBenzinaAuto",
+            "DataPrimaImm",
+            "Turbo",
+            "CorrettorePressione",
+        ],
+        (2, b"FrenoStazionamento") => &["AzionamentoFrenoStazionamento"],
+        (2, b"NumAssiStazionamento") => &["PosAssiStaz"],
+        _ => &[],
+    };
+    let names = names
+        .iter()
+        .filter_map(|name| with_line(refused, AC2, name));
+    names.collect()
+}
+
+/// A filled entry of a file as `AC2 line 8: Alimentazione_1=..`, from any of its sections.
+pub fn with_line(refused: &Refused, file: u32, name: &str) -> Option<String> {
+    let text = refused.case.text(file);
+    let sections = table::sections(file);
+    let mut found = sections
+        .iter()
+        .filter_map(|section| table::line_of(text, &section.heading, name));
+    let (line, value) = found.find(|(_, value)| !value.is_empty())?;
+    let ending = by_number(file)?.ending;
+    Some(format!(
+        "{ending} line {line}: {name}={}",
+        shown::value(value)
+    ))
+}
+
+/// Refusal 13.
+pub fn difference(refused: &Refused) -> Option<Finding> {
+    let text = refused.text();
+    let (_, value) = refused.entry()?;
+    let (start, heading) = table::heading_above(text, refused.refusal.line)?;
+    let others: Vec<String> = table::lines_below(text, start)
+        .filter(|(line, _)| *line != refused.refusal.line)
+        .filter_map(|(line, entry)| {
+            let (name, value) = shown::entry(entry)?;
+            Some(format!(
+                "line {line}: {}={}",
+                shown::bytes(name),
+                shown::value(value)
+            ))
+        })
+        .collect();
+    let mut edits =
+        candidates::numbers(100).filter_map(|number| refused.with_value(number.as_bytes()));
+    let mend = edits.find(|edit| refused.helps(edit))?;
+    let expected = match &mend.action {
+        Action::Replace(line) => shown::entry(line).map(|(_, value)| shown::value(value)),
+        _ => None,
+    }?;
+    let cause = format!(
+        "{}: found {}, expected {expected}; this hangs on {}",
+        shown::value(heading),
+        shown::value(value),
+        others.join(", ")
+    );
+    let advice = format!("{}, if both grips are right", mend.words());
+    let finding = Finding::cause(cause).advice(advice);
+    Some(Finding {
+        mend: Some(mend),
+        ..finding
+    })
+}

@@ -1,0 +1,225 @@
+//! Where the program's advice leads: the mending that it gives first is done, again and again. No set may come to be
+//! accepted by that without a test that the vehicle needs.
+
+use std::ffi::{OsStr, OsString};
+use std::fs;
+use std::os::unix::ffi::OsStrExt;
+use std::path::{Path, PathBuf};
+
+use crate::broken::{broken_sets, files};
+use crate::common::run;
+
+const ENDINGS: [&str; 6] = ["AC2", "ACC", "DER", "SOS", "GAS", "ID"];
+
+/// More mendings than any broken set needs.
+const MOST_STEPS: usize = 20;
+
+/// The broken sets that are accepted once the advice is obeyed, besides those that are accepted as they are.
+const MENDED: [&str; 29] = [
+    "01-lf-only",
+    "02-bom",
+    "03-trailing-blank",
+    "04-lowercase-word",
+    "05-decimal-comma",
+    "07-dup-line",
+    "08-date-yyyymmdd",
+    "10-space-after-num",
+    "21-small-stem",
+    "26-tab-indent",
+    "27-spaces-round-eq",
+    "28-comment",
+    "29-case-name",
+    "30-case-heading",
+    "32-no-final-crlf",
+    "33-time-colon",
+    "34-grip-float",
+    "35-deriva-plus",
+    "38-year-acc",
+    "39-acc-fuel",
+    "40-id-textmode",
+    "45-ctrl-z",
+    "46-blank-mid",
+    "47-cr-only",
+    "48-date-slashes",
+    "49-rpm-nohash-6digits",
+    "50-typo-entry",
+    "51-lf-one-line",
+    "54-co-3dec",
+];
+
+/// The member `mend` of an answer.
+struct Mend {
+    file: usize,
+    line: usize,
+    action: String,
+    text: Vec<u8>,
+}
+
+impl Mend {
+    fn of(answer: &str) -> Option<Mend> {
+        let (_, mend) = answer.split_once("\"mend\":{")?;
+        let member = |key: &str| mend.split_once(&format!("\"{key}\":")).expect("a member").1;
+        let number = |key: &str| {
+            let digits = member(key).split(',').next().expect("a number");
+            digits.parse().expect("a number")
+        };
+        Some(Mend {
+            file: number("file"),
+            line: number("line"),
+            action: string(member("action"))
+                .expect("an action")
+                .into_iter()
+                .map(char::from)
+                .collect(),
+            text: string(member("text")).unwrap_or_default(),
+        })
+    }
+}
+
+/// A JSON string whose characters are bytes; None for null.
+fn string(text: &str) -> Option<Vec<u8>> {
+    let mut characters = text.strip_prefix('"')?.chars();
+    let mut bytes = Vec::new();
+    loop {
+        let character = match characters.next().expect("the string ends") {
+            '"' => return Some(bytes),
+            '\\' => match characters.next().expect("what is escaped") {
+                'u' => {
+                    let digits: String = characters.by_ref().take(4).collect();
+                    char::from(u8::from_str_radix(&digits, 16).expect("a byte"))
+                }
+                other => other,
+            },
+            other => other,
+        };
+        bytes.push(u8::try_from(u32::from(character)).expect("a byte"));
+    }
+}
+
+/// The files of a set that are not empty, by the place of their endings.
+fn given(folder: &Path, stem: &OsStr) -> [Option<PathBuf>; 6] {
+    let mut given: [Option<PathBuf>; 6] = Default::default();
+    for path in files(folder) {
+        let ending = path.extension().unwrap_or_default().to_ascii_uppercase();
+        let at = ENDINGS.iter().position(|other| ending == *other);
+        let is_filled = fs::metadata(&path).is_ok_and(|file| file.is_file() && file.len() > 0);
+        if let Some(at) = at.filter(|_| is_filled && path.file_stem() == Some(stem)) {
+            given[at] = Some(path);
+        }
+    }
+    given
+}
+
+/// Does what the advice says; the stem of the set after it.
+fn obey(folder: &Path, stem: &OsStr, mend: &Mend) -> OsString {
+    if mend.action == "rename" {
+        let stem = OsStr::from_bytes(&mend.text).to_owned();
+        for path in files(folder) {
+            let mut name = stem.clone();
+            name.push(".");
+            name.push(path.extension().expect("an ending"));
+            fs::rename(&path, folder.join(name)).expect("another name");
+        }
+        return stem;
+    }
+    let path = given(folder, stem)[mend.file - 1]
+        .clone()
+        .expect("the file");
+    let text = match mend.action.as_str() {
+        "line ends" => {
+            let output = run(
+                folder,
+                &[OsStr::new("format"), OsStr::new("--mend"), path.as_os_str()],
+            );
+            assert_eq!(output.status.code(), Some(0), "{}", path.display());
+            output.stdout
+        }
+        "content" => mend.text.clone(),
+        _ => with_line(&fs::read(&path).expect("a file"), mend),
+    };
+    fs::write(&path, text).expect("the file is written");
+    stem.to_owned()
+}
+
+fn with_line(text: &[u8], mend: &Mend) -> Vec<u8> {
+    let mut lines: Vec<Vec<u8>> = text
+        .split_inclusive(|byte| *byte == b'\n')
+        .map(<[u8]>::to_vec)
+        .collect();
+    let new = [&mend.text[..], b"\r\n"].concat();
+    match mend.action.as_str() {
+        "replace" => lines[mend.line - 1] = new,
+        "delete" => drop(lines.remove(mend.line - 1)),
+        "insert" => lines.insert(mend.line, new),
+        other => panic!("no action {other}"),
+    }
+    lines.concat()
+}
+
+/// Whether the set is accepted in the end, and after how many mendings.
+fn obeyed(folder: &Path) -> (bool, usize) {
+    let of_car = |path: &PathBuf| {
+        path.extension()
+            .is_some_and(|ending| ending == "AC2" || ending == "GAS")
+    };
+    let first = files(folder)
+        .into_iter()
+        .find(of_car)
+        .expect("a booking, or gas");
+    let mut stem = first.file_stem().expect("a stem").to_owned();
+    for step in 0..MOST_STEPS {
+        let words = [
+            OsStr::new("judge"),
+            OsStr::new("."),
+            &stem,
+            OsStr::new("--json"),
+        ];
+        let answer = String::from_utf8(run(folder, &words).stdout).expect("JSON is UTF-8");
+        if answer.contains("\"accepted\":true") {
+            return (true, step);
+        }
+        let before = given(folder, &stem);
+        let Some(mend) = Mend::of(&answer) else {
+            return (false, step);
+        };
+        stem = obey(folder, &stem, &mend);
+        let after = given(folder, &stem);
+        for (before, after) in before.iter().zip(&after) {
+            let taken_out = before.is_some() && after.is_none();
+            assert!(
+                !taken_out,
+                "{}: a file was taken out: {answer}",
+                folder.display()
+            );
+        }
+    }
+    panic!("{}: the advice has no end", folder.display());
+}
+
+#[test]
+fn no_test_is_left_out_by_obeying() {
+    let mut mended = Vec::new();
+    for folder in files(&broken_sets("obeyed")) {
+        let name = folder
+            .file_name()
+            .expect("a name")
+            .to_string_lossy()
+            .into_owned();
+        let gas = |folder: &Path| {
+            files(folder).iter().any(|path| {
+                let is_gas = path.extension().is_some_and(|ending| ending == "GAS");
+                is_gas && fs::metadata(path).is_ok_and(|file| file.len() > 0)
+            })
+        };
+        let (accepted, steps) = obeyed(&folder);
+        assert!(
+            !accepted || gas(&folder),
+            "{name}: accepted without the gas test"
+        );
+        if accepted && steps > 0 {
+            mended.push(name);
+        }
+    }
+    mended.sort();
+    assert_eq!(mended, MENDED);
+}
