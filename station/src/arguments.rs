@@ -26,6 +26,7 @@ pub enum Command {
     Due {
         folder: PathBuf,
         stem: OsString,
+        only_marked: bool,
     },
     Read(Input),
     Format {
@@ -82,6 +83,7 @@ const DUE: Grammar = Grammar {
     name: "due",
     help: help::DUE,
     json: false,
+    flag: Some("--only-marked"),
     make: due,
     ..JUDGE
 };
@@ -206,7 +208,11 @@ fn judge(given: Given) -> Result<Command, Trouble> {
 
 fn due(given: Given) -> Result<Command, Trouble> {
     let (folder, stem) = folder_and_stem(given.words, "a folder and a stem")?;
-    Ok(Command::Due { folder, stem })
+    Ok(Command::Due {
+        folder,
+        stem,
+        only_marked: given.flag,
+    })
 }
 
 fn read(given: Given) -> Result<Command, Trouble> {
@@ -245,6 +251,8 @@ fn input(words: Vec<OsString>, number: Option<&OsStr>) -> Result<Input, Trouble>
 
 fn number_of(word: &OsStr) -> Result<u32, Trouble> {
     let number = word.to_str().and_then(|word| word.parse().ok());
+    // A file with entries has a first heading.
+    let number = number.filter(|number| mctc::heading_name(*number, 0).is_ok());
     number.ok_or_else(|| about("--file takes a number from 1 to 5, and not", word))
 }
 

@@ -1,6 +1,6 @@
 //! What the library was asked, kept so that it can be asked again with a change: advice is tried before it is given.
 
-use mctc::{Column, Places, Refusal};
+use mctc::{Column, Due, Places, Refusal};
 
 use crate::disk::SetOnDisk;
 use crate::edit::{Action, Edit};
@@ -8,8 +8,13 @@ use crate::file_types::FILE_TYPES;
 use crate::shown;
 use crate::table;
 
-/// The new booking.
+/// The new booking, gas and the identification answer.
 pub const AC2: u32 = 1;
+pub const GAS: u32 = 5;
+const IDENTIFICATION: u32 = 6;
+
+/// The refusal of a file that is missing but due, or given but not due.
+const NOT_AS_DUE: u32 = 11;
 
 /// A set, or one file that is read alone.
 #[derive(Clone, Copy)]
@@ -89,6 +94,35 @@ impl<'a> Case<'a> {
             gas,
             identification,
         }
+    }
+
+    /// Whether a file is due, by trial with nothing else but what this may hang on: the new booking, and for the
+    /// identification answer gas. None where one of these is refused first, so that nothing can be said.
+    pub fn file_due(&self, file: u32) -> Option<Due> {
+        let only = Case {
+            texts: Default::default(),
+            ..*self
+        };
+        let only = only.with_text(AC2, self.text(AC2));
+        let only = match file {
+            IDENTIFICATION => only.with_text(GAS, self.text(GAS)),
+            _ => only,
+        };
+        let refused =
+            |text: &'static [u8]| {
+                let refusal = only.with_text(file, text).refusal();
+                match refusal {
+                    Some(refusal) if refusal.file < file => None,
+                    refusal => Some(refusal.is_some_and(|refusal| {
+                        refusal.file == file && refusal.number == NOT_AS_DUE
+                    })),
+                }
+            };
+        Some(match (refused(b"")?, refused(b"x")?) {
+            (true, _) => Due::Due,
+            (_, true) => Due::NotDue,
+            _ => Due::Free,
+        })
     }
 
     /// What is due in a file, where that can be said.

@@ -8,6 +8,7 @@ use std::os::unix::ffi::OsStrExt;
 use std::path::{Path, PathBuf};
 
 use crate::file_types::split_name;
+use crate::near;
 use crate::output::Trouble;
 use crate::shown;
 
@@ -81,6 +82,47 @@ impl Folder {
         Ok(set)
     }
 
+    /// Reads the files of a stem that the command names. One that no file has is most likely not the one that was meant.
+    pub fn named_set(&self, stem: &[u8]) -> Result<SetOnDisk, Trouble> {
+        if self.names.contains_key(stem) {
+            return self.set(stem);
+        }
+        let (folder, shown) = (shown::name(&self.path), stem_shown(stem));
+        let hint = self.hint(stem);
+        Err(Trouble(format!(
+            "{folder}: no file here has the stem {shown}; {hint}"
+        )))
+    }
+
+    /// What may have been meant by a stem that no file has.
+    fn hint(&self, stem: &[u8]) -> String {
+        if let Some((short, _)) =
+            split_name(stem).filter(|(short, _)| self.names.contains_key(*short))
+        {
+            return format!("name the stem without the ending: {}", stem_shown(short));
+        }
+        let alike = self.stems().find(|other| other.eq_ignore_ascii_case(stem));
+        match alike.or_else(|| near::nearest_stem(stem, self.stems())) {
+            Some(other) => {
+                let files = self.names.get(other).into_iter().flatten().flatten();
+                let file = files.map(shown::name).next().unwrap_or_default();
+                format!("{file} is here: its stem is {}", stem_shown(other))
+            }
+            None => self.stems_in_short(),
+        }
+    }
+
+    fn stems_in_short(&self) -> String {
+        let stems: Vec<String> = self.stems().take(3).map(stem_shown).collect();
+        match self.stems().len() {
+            0 => "it has no file of a set".to_string(),
+            count if count > stems.len() => {
+                format!("it has {} and more, {count} in all", stems.join(", "))
+            }
+            _ => format!("it has {}", stems.join(", ")),
+        }
+    }
+
     /// The file with one of these names, which differ only in the case of their endings.
     fn read_one_of(&self, names: &[OsString]) -> Result<Option<FileOnDisk>, Trouble> {
         match names {
@@ -116,11 +158,6 @@ impl SetOnDisk {
 
     pub fn is_given(&self, number: u32) -> bool {
         !self.text(number).is_empty()
-    }
-
-    /// Whether the folder has none of its files.
-    pub fn is_absent(&self) -> bool {
-        self.files.iter().all(Option::is_none)
     }
 
     /// The names of the files that are there and empty.

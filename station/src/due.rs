@@ -1,4 +1,4 @@
-//! `mctc due FOLDER STEM`: entry by entry what is due and what is found.
+//! `mctc due FOLDER STEM`: the verdict, and file by file and entry by entry what is due and what is found.
 
 use std::ffi::OsStr;
 use std::os::unix::ffi::OsStrExt;
@@ -10,34 +10,69 @@ use crate::case::{Case, AC2};
 use crate::disk::{Folder, SetOnDisk};
 use crate::explain::{explain, Subject};
 use crate::file_types::{FileType, FILE_TYPES};
-use crate::judge::counts_as_not_given;
+use crate::judge::{counts_as_not_given, Judged};
 use crate::output::{Output, Status, Trouble};
 use crate::table;
 
 /// The file without entries.
 const SERIAL_ANSWER: u32 = 6;
 
-pub fn run(folder: &Path, stem: &OsStr, out: &mut Output) -> Result<Status, Trouble> {
-    let set = Folder::list(folder)?.set(stem.as_bytes())?;
-    out.text(&format!(
-        "{}: entries due and entries found\n",
-        set.stem_shown()
-    ))?;
+pub fn run(
+    folder: &Path,
+    stem: &OsStr,
+    only_marked: bool,
+    out: &mut Output,
+) -> Result<Status, Trouble> {
+    let set = Folder::list(folder)?.named_set(stem.as_bytes())?;
+    let files = files(&set, only_marked);
+    let parts: Vec<(&FileType, Part)> = FILE_TYPES
+        .iter()
+        .map(|file| (file, part(&set, file, only_marked)))
+        .collect();
+    let judged = Judged::new(set);
+    let statuses = parts.iter().map(|(_, part)| part.status);
+    let status = statuses.fold(files.status.max(judged.status()), Status::max);
+    out.text(&judged.verdict_lines())?;
+    out.text(&files.text)?;
+    for (file, part) in &parts {
+        if !(only_marked && part.status == Status::Accepted) {
+            let FileType { number, title, .. } = file;
+            out.text(&format!("\nFile {number}, {title}: {}", part.text))?;
+        }
+    }
+    if only_marked && status == Status::Accepted {
+        out.text("\nNothing is marked.\n")?;
+    }
+    Ok(status)
+}
+
+/// A row for each file: whether it is due and whether it is given.
+fn files(set: &SetOnDisk, only_marked: bool) -> Part {
+    let mut rows = String::new();
     let mut status = Status::Accepted;
     for file in &FILE_TYPES {
-        let part = part(&set, file);
-        out.text(&format!(
-            "\nFile {}, {}: {}",
-            file.number, file.title, part.text
-        ))?;
-        status = status.max(part.status);
+        let given = set.is_given(file.number);
+        let found = if given { "given" } else { "absent" };
+        let (due, mark) = match (Case::set(set).file_due(file.number), given) {
+            (None, _) => ("unknown", ""),
+            (Some(Due::Due), true) => ("due", ""),
+            (Some(Due::Due), false) => ("due", "<-- due, but absent"),
+            (Some(Due::NotDue), true) => ("not due", "<-- given, but not due"),
+            (Some(Due::NotDue), false) => ("not due", ""),
+            (Some(Due::Free), _) => ("free", ""),
+        };
+        if !mark.is_empty() {
+            status = Status::Refused;
+        }
+        if !(only_marked && mark.is_empty()) {
+            rows += &row(&format!("{} {}", file.number, file.title), due, found, mark);
+        }
     }
-    let end = match status {
-        Status::Accepted => "Every entry that was read agrees with what is due.",
-        _ => "Something disagrees or was refused: see above.",
-    };
-    out.text(&format!("\n{end}\n`mctc judge` judges the whole set.\n"))?;
-    Ok(status)
+    if rows.is_empty() {
+        return Part::agrees(rows);
+    }
+    let text = row("file", "due", "found", "") + &rows;
+    Part { text, status }
 }
 
 /// What is printed of one file, and whether all of it agrees.
@@ -58,26 +93,26 @@ impl Part {
     }
 }
 
-fn part(set: &SetOnDisk, file: &FileType) -> Part {
+fn part(set: &SetOnDisk, file: &FileType, only_marked: bool) -> Part {
     let number = file.number;
     let name = set.file(number).map(|on_disk| on_disk.name.as_str());
     match name {
-        _ if number == AC2 => column(set, number, name.unwrap_or("not given")),
+        _ if number == AC2 => column(set, number, name.unwrap_or("not given"), only_marked),
         None => Part::agrees("not given\n".to_string()),
         Some(name) if !set.is_given(number) => Part::agrees(counts_as_not_given(name) + "\n"),
         Some(name) if number == SERIAL_ANSWER => Part::agrees(format!("{name}, no entries\n")),
-        Some(name) => column(set, number, name),
+        Some(name) => column(set, number, name, only_marked),
     }
 }
 
 /// The column of a file, or why it has none.
-fn column(set: &SetOnDisk, number: u32, name: &str) -> Part {
+fn column(set: &SetOnDisk, number: u32, name: &str, only_marked: bool) -> Part {
     let mut places = Places::default();
     match mctc::due(number, set.text(AC2), set.text(number), &mut places) {
         Ok(column) if column.entries.is_empty() => {
             Part::agrees(format!("{name}, not read with category L\n"))
         }
-        Ok(column) => two_columns(number, name, &column, &places),
+        Ok(column) => two_columns(number, name, &column, &places, only_marked),
         Err(refusal) if refusal.file != number => {
             Part::refused(format!("{name}\n  no column: the new booking is refused\n"))
         }
@@ -92,7 +127,13 @@ fn column(set: &SetOnDisk, number: u32, name: &str) -> Part {
     }
 }
 
-fn two_columns(number: u32, name: &str, column: &Column, places: &Places) -> Part {
+fn two_columns(
+    number: u32,
+    name: &str,
+    column: &Column,
+    places: &Places,
+    only_marked: bool,
+) -> Part {
     let mut text = format!("{name}\n{}", row("", "due", "found", ""));
     let mut disagreeing = 0;
     for section in table::sections(number) {
@@ -103,7 +144,9 @@ fn two_columns(number: u32, name: &str, column: &Column, places: &Places) -> Par
             };
             let value = places.value(number, entry.number).unwrap_or_default();
             let (due, found, mark) = judged(*due, !value.is_empty());
-            rows += &row(&entry.name, due, found, mark);
+            if !(only_marked && mark.is_empty()) {
+                rows += &row(&entry.name, due, found, mark);
+            }
             disagreeing += usize::from(!mark.is_empty());
         }
         if !rows.is_empty() {

@@ -7,7 +7,8 @@ mctc: judges MCTCNet2 test sets with the proved library
 
   mctc judge FOLDER STEM [--json]   judge one set
   mctc judge FOLDER [--json]        judge all sets of a folder
-  mctc due FOLDER STEM              entry by entry: what is due, what is found
+  mctc due FOLDER STEM [--only-marked]
+                                    entry by entry: what is due, what is found
   mctc read FILE [--file N]         one file alone, with its values
   mctc format FILE [--file N] [--output NEW]
                                     one file written in table order
@@ -60,27 +61,30 @@ judged. With --json one object: folder, sets (an array of the objects above),
 accepted, refused, not_judged; or folder and error.
 
 Exit status: 0 all accepted; 1 one is refused; 2 bad usage, no set in the
-folder, or a file cannot be read.
+folder, no file of that stem, or a file cannot be read.
 ";
 
 pub const DUE: &str = "\
-mctc due FOLDER STEM
+mctc due FOLDER STEM [--only-marked]
 
-Prints for every given file, entry by entry in table order, whether the entry is
-due and whether it is filled, and marks what disagrees. A file that cannot be
-read by its form (refusals 3 to 9) has no column, and where the new booking
-cannot, no file has one.
+Prints the verdict, for each file whether it is due and whether it is given, and
+for every given file, entry by entry in table order, whether the entry is due
+and whether it is filled; marks what disagrees. A file that cannot be read by
+its form (refusals 3 to 9) has no column, and where the new booking cannot, no
+file has one.
 
-Exit status: 0 nothing disagrees; 1 something disagrees or is refused; 2 bad
-usage, or a file cannot be read.
+  --only-marked  only what disagrees or is refused
+
+Exit status: 0 accepted, and nothing disagrees; 1 something disagrees or is
+refused; 2 bad usage, no file of that stem, or a file cannot be read.
 ";
 
 pub const READ: &str = "\
 mctc read FILE [--file N]
 
 Reads one file alone and prints its axle count and each entry with its value, in
-table order; or the refusal (3 to 9, 11 for an empty file, 16 for a wrong
-number). What is due and the rules between files are left to `mctc judge`.
+table order; or the refusal (3 to 9, 11 for an empty file). What is due and the
+rules between files are left to `mctc judge`.
 
   --file N   the file's number: 1 new booking, 2 old booking, 3 drift,
              4 suspension, 5 gas; without it the ending of FILE says it

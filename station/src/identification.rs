@@ -1,13 +1,11 @@
 //! Refusals 14 and 15: what is off about the identification answer, found by trial.
 
-use crate::case::Refused;
+use crate::case::{Refused, GAS};
 use crate::edit::{Action, Edit};
 use crate::finding::Finding;
 use crate::rules::with_line;
 use crate::shown::{self, counted};
 use crate::table;
-
-const GAS: u32 = 5;
 
 /// The first byte, the last byte, and the one between fields.
 const START: u8 = 0x02;

@@ -17,7 +17,7 @@ use crate::page::labelled;
 use crate::shown::counted;
 
 pub fn run(folder: &Path, stem: &OsStr, json: bool, out: &mut Output) -> Result<Status, Trouble> {
-    let set = Folder::list(folder).and_then(|folder| folder.set(stem.as_bytes()));
+    let set = Folder::list(folder).and_then(|folder| folder.named_set(stem.as_bytes()));
     match set.map(Judged::new) {
         Ok(judged) => {
             let text = if json {
@@ -88,11 +88,6 @@ impl Judged {
     /// What is to be noted beside a refusal, which speaks of its own file.
     fn notes(&self, explained: &Explained) -> String {
         let mut notes = String::new();
-        if self.set.is_absent() {
-            let stem = self.set.stem_shown();
-            let note = format!("the folder has no file of the stem {stem}, written just so");
-            notes += &labelled("note", &note);
-        }
         for name in self.set.empty_files() {
             if explained.name.as_deref() != Some(name) {
                 notes += &labelled("note", &counts_as_not_given(name));
@@ -101,7 +96,20 @@ impl Judged {
         notes
     }
 
-    /// In a few words, for a line of its own.
+    /// The verdict with its stem, and where and why it is refused.
+    pub fn verdict_lines(&self) -> String {
+        let stem = self.set.stem_shown();
+        match &self.verdict {
+            Ok(_) => format!("{stem}: accepted\n"),
+            Err(explained) => {
+                let why = labelled("why", &explained.in_short());
+                let number = explained.refusal.number;
+                format!("{stem}: refused, number {number}\n{why}")
+            }
+        }
+    }
+
+    /// In a few words, behind its stem.
     pub fn in_short(&self) -> String {
         let verdict = match &self.verdict {
             Ok(acceptance) => format!("accepted{}", marks_in_short(acceptance)),

@@ -56,7 +56,11 @@ fn run(command: Command) -> Result<Status, Trouble> {
         Command::Print(text) => out.text(text).map(|()| Status::Accepted),
         Command::JudgeSet { folder, stem, json } => judge::run(folder, stem, *json, &mut out),
         Command::JudgeFolder { folder, json } => folder::run(folder, *json, &mut out),
-        Command::Due { folder, stem } => due::run(folder, stem, &mut out),
+        Command::Due {
+            folder,
+            stem,
+            only_marked,
+        } => due::run(folder, stem, *only_marked, &mut out),
         Command::Read(input) => read::run(input, &mut out),
         Command::Format { input, new } => format::run(input, new.as_deref(), &mut out),
         Command::Mend { path, new } => format::mend(path, new.as_deref(), &mut out),

@@ -19,6 +19,14 @@ pub fn nearest<'a>(written: &[u8], names: impl Iterator<Item = &'a str>) -> Opti
     }
 }
 
+/// The stem that is nearest to one that no file has, where one is at most one byte off.
+pub fn nearest_stem<'a>(
+    written: &[u8],
+    mut stems: impl Iterator<Item = &'a [u8]>,
+) -> Option<&'a [u8]> {
+    stems.find(|stem| distance(&plain(written), &plain(stem)) <= 1)
+}
+
 /// Small letters, without spaces.
 fn plain(name: &[u8]) -> Vec<u8> {
     let kept = name.iter().filter(|byte| !byte.is_ascii_whitespace());
