@@ -5,9 +5,11 @@ use std::os::unix::ffi::OsStrExt;
 use std::path::PathBuf;
 
 use crate::help;
+use crate::judge::Wish;
 use crate::output::Trouble;
 use crate::read::Input;
 use crate::shown::{self, counted};
+use crate::words;
 
 /// What the program is asked to do.
 #[derive(Debug, PartialEq, Eq)]
@@ -17,17 +19,19 @@ pub enum Command {
     JudgeSet {
         folder: PathBuf,
         stem: OsString,
-        json: bool,
+        wish: Wish,
     },
     JudgeFolder {
         folder: PathBuf,
-        json: bool,
+        wish: Wish,
     },
     Due {
         folder: PathBuf,
         stem: OsString,
         only_marked: bool,
     },
+    /// A refusal's number.
+    Explain(u32),
     Read(Input),
     Format {
         input: Input,
@@ -48,6 +52,7 @@ pub fn parse(words: &[OsString]) -> Result<Command, Trouble> {
         Some("--version" | "-V") => Ok(Command::Print(help::VERSION)),
         Some("judge") => command(&JUDGE, rest),
         Some("due") => command(&DUE, rest),
+        Some("explain") => command(&EXPLAIN, rest),
         Some("read") => command(&READ, rest),
         Some("format") => command(&FORMAT, rest),
         _ => {
@@ -75,7 +80,7 @@ const JUDGE: Grammar = Grammar {
     json: true,
     file: false,
     output: false,
-    flag: None,
+    flag: Some("--all"),
     make: judge,
 };
 
@@ -88,11 +93,21 @@ const DUE: Grammar = Grammar {
     ..JUDGE
 };
 
+const EXPLAIN: Grammar = Grammar {
+    name: "explain",
+    help: help::EXPLAIN,
+    json: false,
+    flag: None,
+    make: explain,
+    ..JUDGE
+};
+
 const READ: Grammar = Grammar {
     name: "read",
     help: help::READ,
     json: false,
     file: true,
+    flag: None,
     make: read,
     ..JUDGE
 };
@@ -196,14 +211,17 @@ fn about(what: &str, word: &OsStr) -> Trouble {
 }
 
 fn judge(given: Given) -> Result<Command, Trouble> {
-    let json = given.json;
+    let wish = Wish {
+        json: given.json,
+        all: given.flag,
+    };
     if given.words.len() == 1 {
         let [folder] = exactly(given.words, "a folder")?;
         let folder = folder.into();
-        return Ok(Command::JudgeFolder { folder, json });
+        return Ok(Command::JudgeFolder { folder, wish });
     }
     let (folder, stem) = folder_and_stem(given.words, "a folder, and a stem for one set")?;
-    Ok(Command::JudgeSet { folder, stem, json })
+    Ok(Command::JudgeSet { folder, stem, wish })
 }
 
 fn due(given: Given) -> Result<Command, Trouble> {
@@ -213,6 +231,15 @@ fn due(given: Given) -> Result<Command, Trouble> {
         stem,
         only_marked: given.flag,
     })
+}
+
+fn explain(given: Given) -> Result<Command, Trouble> {
+    let [word] = exactly(given.words, "a refusal's number")?;
+    let number = word.to_str().and_then(|word| word.parse().ok());
+    let number = number.filter(|number| (1..=words::LAST).contains(number));
+    let number =
+        number.ok_or_else(|| about("refusals have the numbers 1 to 18, and not", &word))?;
+    Ok(Command::Explain(number))
 }
 
 fn read(given: Given) -> Result<Command, Trouble> {

@@ -29,7 +29,7 @@ pub fn run(
         .iter()
         .map(|file| (file, part(&set, file, only_marked)))
         .collect();
-    let judged = Judged::new(set);
+    let judged = Judged::new(set, false);
     let statuses = parts.iter().map(|(_, part)| part.status);
     let status = statuses.fold(files.status.max(judged.status()), Status::max);
     out.text(&judged.verdict_lines())?;

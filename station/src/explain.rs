@@ -201,6 +201,16 @@ impl Explained {
         page + &labelled("to do", &self.advice)
     }
 
+    /// The labelled lines of a finding beside the verdict.
+    pub fn further_lines(&self) -> String {
+        let number = self.refusal.number;
+        let mut lines = labelled("further", &format!("number {number}, {}", self.in_short()));
+        if let Some(cause) = &self.cause {
+            lines += &labelled("cause", cause);
+        }
+        lines + &labelled("to do", &self.advice)
+    }
+
     /// In a line behind others: the place and the meaning.
     pub fn in_short(&self) -> String {
         let place = match (&self.name, self.refusal.line) {

@@ -4,23 +4,24 @@ use std::path::Path;
 
 use crate::disk::{stem_shown, Folder};
 use crate::json::Object;
-use crate::judge::{not_judged_json, Judged};
+use crate::judge::{not_judged_json, Judged, Wish};
 use crate::output::{Output, Status, Trouble};
 use crate::progress::Progress;
 use crate::shown::{self, counted};
 
-pub fn run(path: &Path, json: bool, out: &mut Output) -> Result<Status, Trouble> {
+pub fn run(path: &Path, wish: Wish, out: &mut Output) -> Result<Status, Trouble> {
+    let Wish { json, all } = wish;
     let name = shown::name(path);
     let start = Object::default().string("folder", &name);
     match Folder::list(path).and_then(|folder| with_sets(folder, &name)) {
         Ok(folder) if json => {
             out.text(&format!("{{{},\"sets\":[", start.members()))?;
-            let counts = judge_all(&folder, out, one_object)?;
+            let counts = judge_all(&folder, all, out, one_object)?;
             out.text(&format!("],{}}}\n", counts.members()))?;
             Ok(counts.worst)
         }
         Ok(folder) => {
-            let counts = judge_all(&folder, out, one_line)?;
+            let counts = judge_all(&folder, all, out, one_line)?;
             out.text(&counts.line())?;
             Ok(counts.worst)
         }
@@ -46,11 +47,11 @@ fn with_sets(folder: Folder, name: &str) -> Result<Folder, Trouble> {
 /// What is printed of a set, with how many were printed before it.
 type Text = fn(&[u8], &Result<Judged, Trouble>, usize) -> String;
 
-fn judge_all(folder: &Folder, out: &mut Output, text: Text) -> Result<Counts, Trouble> {
+fn judge_all(folder: &Folder, all: bool, out: &mut Output, text: Text) -> Result<Counts, Trouble> {
     let mut counts = Counts::default();
     let mut progress = Progress::new(folder.stems().len());
     for (before, stem) in folder.stems().enumerate() {
-        let judged = folder.set(stem).map(Judged::new);
+        let judged = folder.set(stem).map(|set| Judged::new(set, all));
         counts.add(&judged);
         progress.print(&text(stem, &judged, before), out)?;
     }
@@ -64,7 +65,11 @@ fn one_line(stem: &[u8], judged: &Result<Judged, Trouble>, _before: usize) -> St
         stem => stem_shown(stem),
     };
     match judged {
-        Ok(judged) => format!("{stem:8}  {}\n", judged.in_short()),
+        Ok(judged) => format!(
+            "{stem:8}  {}\n{}",
+            judged.in_short(),
+            judged.further_in_short()
+        ),
         Err(trouble) => format!("{stem:8}  not judged  {}\n", trouble.0),
     }
 }

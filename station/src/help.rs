@@ -5,10 +5,13 @@ pub const VERSION: &str = concat!("mctc ", env!("CARGO_PKG_VERSION"), "\n");
 pub const PROGRAM: &str = "\
 mctc: judges MCTCNet2 test sets with the proved library
 
-  mctc judge FOLDER STEM [--json]   judge one set
-  mctc judge FOLDER [--json]        judge all sets of a folder
+  mctc judge FOLDER STEM [--all] [--json]
+                                    judge one set
+  mctc judge FOLDER [--all] [--json]
+                                    judge all sets of a folder
   mctc due FOLDER STEM [--only-marked]
                                     entry by entry: what is due, what is found
+  mctc explain NUMBER               what a refusal means, and what to do
   mctc read FILE [--file N]         one file alone, with its values
   mctc format FILE [--file N] [--output NEW]
                                     one file written in table order
@@ -33,8 +36,8 @@ Exit status: 0 accepted; 1 refused; 2 bad usage, or a file cannot be read.
 ";
 
 pub const JUDGE: &str = "\
-mctc judge FOLDER STEM [--json]
-mctc judge FOLDER [--json]
+mctc judge FOLDER STEM [--all] [--json]
+mctc judge FOLDER [--all] [--json]
 
 Judges one set, or every set of the folder. A refusal has its number, what it
 means, the file, the line and its text (bytes that cannot be printed as \\xHH),
@@ -55,6 +58,12 @@ has file, line, action and text:
   line ends  the file is written as `mctc format --mend` does
   content    the whole file is this text, each character one byte
   rename     all files of the set have this stem
+
+With --all also what else can be said beside the verdict, which stays as it is:
+each file read alone (3 to 9), and the entries that are not as due (10) of files
+that pass, where the new booking passes. With --json a member further: an array
+of objects with number, file, line, name, meaning, text, remark, to_do, cause,
+mend.
 
 Without STEM: a line for each set, then how many were accepted, refused and not
 judged. With --json one object: folder, sets (an array of the objects above),
@@ -77,6 +86,15 @@ file has one.
 
 Exit status: 0 accepted, and nothing disagrees; 1 something disagrees or is
 refused; 2 bad usage, no file of that stem, or a file cannot be read.
+";
+
+pub const EXPLAIN: &str = "\
+mctc explain NUMBER
+
+Says what refusals with this number (1 to 18) mean, what they carry, in which
+calls they come, and what to do.
+
+Exit status: 0 explained; 2 bad usage.
 ";
 
 pub const READ: &str = "\

@@ -39,6 +39,12 @@ impl Object {
         )
     }
 
+    /// An array of objects.
+    pub fn objects(self, key: &str, values: impl Iterator<Item = Object>) -> Object {
+        let values: Vec<String> = values.map(|object| object.text()).collect();
+        self.raw(key, format!("[{}]", values.join(",")))
+    }
+
     fn raw(mut self, key: &str, value: impl Display) -> Object {
         self.members.push(format!("{}:{value}", string(key)));
         self

@@ -11,14 +11,25 @@ use crate::disk::{stem_shown, Folder, SetOnDisk};
 use crate::edit::Edit;
 use crate::explain::{explain, Explained, Subject};
 use crate::file_types::{FileType, FILE_TYPES};
+use crate::further::further;
 use crate::json::Object;
 use crate::output::{Output, Status, Trouble};
 use crate::page::labelled;
 use crate::shown::counted;
 
-pub fn run(folder: &Path, stem: &OsStr, json: bool, out: &mut Output) -> Result<Status, Trouble> {
+/// What is asked for besides the verdict.
+#[derive(Clone, Copy, Debug, PartialEq, Eq)]
+pub struct Wish {
+    /// For programs.
+    pub json: bool,
+    /// Further findings.
+    pub all: bool,
+}
+
+pub fn run(folder: &Path, stem: &OsStr, wish: Wish, out: &mut Output) -> Result<Status, Trouble> {
+    let json = wish.json;
     let set = Folder::list(folder).and_then(|folder| folder.named_set(stem.as_bytes()));
-    match set.map(Judged::new) {
+    match set.map(|set| Judged::new(set, wish.all)) {
         Ok(judged) => {
             let text = if json {
                 judged.json() + "\n"
@@ -48,19 +59,27 @@ pub struct Judged {
     set: SetOnDisk,
     places: Places,
     verdict: Result<Acceptance, Explained>,
+    /// Beside the verdict, where they are asked for.
+    further: Option<Vec<Explained>>,
 }
 
 impl Judged {
-    pub fn new(set: SetOnDisk) -> Judged {
+    /// With all further findings, or with the verdict alone.
+    pub fn new(set: SetOnDisk, all: bool) -> Judged {
         let mut places = Places::default();
         let verdict = mctc::judge(&set.lent(), &mut places).map_err(|refusal| {
             let subject = Subject::of_set(&set, refusal.file);
             explain(Case::set(&set), refusal, subject)
         });
+        let further = all.then(|| match &verdict {
+            Ok(_) => Vec::new(),
+            Err(explained) => further(&set, explained.refusal),
+        });
         Judged {
             set,
             places,
             verdict,
+            further,
         }
     }
 
@@ -78,11 +97,33 @@ impl Judged {
             Err(explained) => {
                 let (number, page) = (explained.refusal.number, explained.page());
                 format!(
-                    "{stem}: refused, number {number}\n{page}{}",
-                    self.notes(explained)
+                    "{stem}: refused, number {number}\n{page}{}{}",
+                    self.notes(explained),
+                    self.further_page()
                 )
             }
         }
+    }
+
+    fn further(&self) -> impl Iterator<Item = &Explained> {
+        self.further.iter().flatten()
+    }
+
+    fn further_page(&self) -> String {
+        match &self.further {
+            None => String::new(),
+            Some(findings) if findings.is_empty() => labelled("further", "nothing more was found"),
+            Some(findings) => findings.iter().map(Explained::further_lines).collect(),
+        }
+    }
+
+    /// A line for each further finding.
+    pub fn further_in_short(&self) -> String {
+        let lines = self.further().map(|finding| {
+            let number = finding.refusal.number;
+            format!("{:10}further {number:2}  {}\n", "", finding.in_short())
+        });
+        lines.collect()
     }
 
     /// What is to be noted beside a refusal, which speaks of its own file.
@@ -165,43 +206,47 @@ impl Judged {
             Err(explained) => (explained.refusal, NO_ACCEPTANCE),
         };
         let explained = self.verdict.as_ref().err();
-        let line = explained.and_then(|explained| explained.line.as_ref());
-        Object::default()
+        let object = Object::default()
             .string("stem", &self.set.stem_shown())
-            .truth("accepted", explained.is_none())
-            .number("number", refusal.number)
-            .number("file", refusal.file)
-            .number("line", refusal.line)
-            .optional(
-                "name",
-                explained.and_then(|explained| explained.name.as_deref()),
-            )
-            .optional(
-                "meaning",
-                explained.map(|explained| explained.meaning.as_str()),
-            )
-            .optional("text", line.map(|line| line.text.as_str()))
-            .optional("remark", line.and_then(|line| line.remark.as_deref()))
-            .optional(
-                "to_do",
-                explained.map(|explained| explained.advice.as_str()),
-            )
-            .optional(
-                "cause",
-                explained.and_then(|explained| explained.cause.as_deref()),
-            )
-            .object(
-                "mend",
-                explained.and_then(|explained| explained.mend.as_ref().map(Edit::json)),
-            )
+            .truth("accepted", explained.is_none());
+        let object = about_refusal(object, refusal, explained)
             .number("drift_axles", acceptance.drift_axles)
             .number("suspension_axles", acceptance.suspension_axles)
             .truth("drift_mark", acceptance.drift_mark)
             .truth("suspension_mark", acceptance.suspension_mark)
             .truth("gas_mark", acceptance.gas_mark)
-            .strings("empty", self.set.empty_files())
-            .text()
+            .strings("empty", self.set.empty_files());
+        let object = match &self.further {
+            None => object,
+            Some(findings) => object.objects(
+                "further",
+                findings.iter().map(|finding| {
+                    about_refusal(Object::default(), finding.refusal, Some(finding))
+                }),
+            ),
+        };
+        object.text()
     }
+}
+
+/// The members that say what is refused and what is known of it.
+fn about_refusal(object: Object, refusal: Refusal, explained: Option<&Explained>) -> Object {
+    let said = |what: fn(&Explained) -> Option<&str>| explained.and_then(what);
+    let line = explained.and_then(|explained| explained.line.as_ref());
+    object
+        .number("number", refusal.number)
+        .number("file", refusal.file)
+        .number("line", refusal.line)
+        .optional("name", said(|explained| explained.name.as_deref()))
+        .optional("meaning", said(|explained| Some(&explained.meaning)))
+        .optional("text", line.map(|line| line.text.as_str()))
+        .optional("remark", line.and_then(|line| line.remark.as_deref()))
+        .optional("to_do", said(|explained| Some(&explained.advice)))
+        .optional("cause", said(|explained| explained.cause.as_deref()))
+        .object(
+            "mend",
+            explained.and_then(|explained| explained.mend.as_ref().map(Edit::json)),
+        )
 }
 
 pub fn counts_as_not_given(name: &str) -> String {

@@ -17,6 +17,7 @@ mod file_types;
 mod finding;
 mod folder;
 mod format;
+mod further;
 mod help;
 mod identification;
 mod json;
@@ -54,13 +55,14 @@ fn run(command: Command) -> Result<Status, Trouble> {
     let mut out = Output::standard();
     let status = match &command {
         Command::Print(text) => out.text(text).map(|()| Status::Accepted),
-        Command::JudgeSet { folder, stem, json } => judge::run(folder, stem, *json, &mut out),
-        Command::JudgeFolder { folder, json } => folder::run(folder, *json, &mut out),
+        Command::JudgeSet { folder, stem, wish } => judge::run(folder, stem, *wish, &mut out),
+        Command::JudgeFolder { folder, wish } => folder::run(folder, *wish, &mut out),
         Command::Due {
             folder,
             stem,
             only_marked,
         } => due::run(folder, stem, *only_marked, &mut out),
+        Command::Explain(number) => out.text(&words::page(*number)).map(|()| Status::Accepted),
         Command::Read(input) => read::run(input, &mut out),
         Command::Format { input, new } => format::run(input, new.as_deref(), &mut out),
         Command::Mend { path, new } => format::mend(path, new.as_deref(), &mut out),

@@ -1,5 +1,59 @@
 //! What each refusal means and what to do, in plain words.
 
+use crate::file_types::by_number;
+use crate::page::labelled;
+
+/// The last number of a refusal.
+pub const LAST: u32 = 18;
+
+/// All that is said of refusals with this number.
+pub fn page(number: u32) -> String {
+    let mut page = format!("Refusal {number}\n");
+    page += &labelled("meaning", meaning(number));
+    page += &labelled("where", place(number));
+    page += &labelled("comes", calls(number));
+    page += &labelled("to do", advice(number));
+    let mut rules = match number {
+        11 => (1..=6).map(when_given).map(String::from).collect(),
+        12 => booking_rules(),
+        _ => Vec::new(),
+    };
+    rules.dedup();
+    for rule in rules {
+        page += &labelled("rule", &rule);
+    }
+    page
+}
+
+/// 01's table: what a refusal carries.
+fn place(number: u32) -> &'static str {
+    match number {
+        1 | 2 => "no file and no line",
+        3 | 7 | 11 | 14 | 15 | 16 | 18 => "a file, and no line",
+        8 => "a file, and the line of the section's heading",
+        9 => "a file and the line; in writing, the line that the entry would have",
+        17 => "a file, and the line that the entry would have",
+        _ => "a file and the line",
+    }
+}
+
+/// In which calls a refusal comes, with the commands that make them.
+fn calls(number: u32) -> &'static str {
+    match number {
+        1 => "never from this program, which lends enough places",
+        2 | 12..=15 => "in judging a set (`mctc judge`)",
+        3..=8 => "in judging a set and in reading a file alone (`mctc judge`, `mctc due`, `mctc read`, `mctc format`)",
+        9 => {
+            "in judging a set, in reading a file alone and in writing one (`mctc judge`, `mctc due`, `mctc read`, \
+             `mctc format`)"
+        }
+        10 => "in judging a set (`mctc judge`; `mctc due` shows all entries)",
+        11 => "in judging a set, and in reading a file alone that is empty (`mctc judge`, `mctc due`, `mctc read`)",
+        16 => "in reading an identification answer alone, which has no entries (`mctc read`)",
+        _ => "in writing (`mctc_write` of the library); never from this program, which writes what it has read",
+    }
+}
+
 /// What a refusal means, by its number (01's table).
 pub fn meaning(number: u32) -> &'static str {
     match number {
@@ -29,6 +83,7 @@ pub fn meaning(number: u32) -> &'static str {
 pub fn advice(number: u32) -> &'static str {
     match number {
         2 => "give all files of the set one name of two capital letters and six digits, such as AB123456",
+        1 => "lend the library at least 278 numbers",
         3 => "put the file there as the device or the booking office made it",
         4 => "retype the line: a heading in [ ], or name=value below a heading; 1 to 512 bytes of 20 to 7E hex, then \
               CR LF (0D 0A hex)",
@@ -40,12 +95,23 @@ pub fn advice(number: u32) -> &'static str {
             "correct the value by its kind in document 01: a day is ddmmyyyy, a time hhmmss, Deriva has two digits \
              behind the point, words stand as listed"
         }
+        10 => {
+            "fill in what is due and empty; for what is filled and not due, look first at the values that decide it, \
+             and only if all of them are right leave nothing behind the `=`"
+        }
+        11 => {
+            "add what is due; for a file that is given and not due, look first at the values that decide it, and only \
+             if they are right take it out of the set"
+        }
+        12 => "correct the value, or what it hangs on if that is wrong",
         13 => "correct Aderenza%Sx, Aderenza%Dx or Differenza% of this axle",
         14 => "have the analyser's answer recorded again: 02 hex, ten fields separated by 17 hex (GAS, address, ID and \
                seven values), the checksum as two capital hexadecimal digits, 03 hex; at most 512 bytes",
         15 => "compare the last seven fields with gas: MarcaAnalizzatore, TipoAnalizzatore, NumOmologaAnalizzatore, \
                NumSerieAnalizzatore, DataScadenzaAnalizzatore, NumVersSoftwareAnalizzatore, NumVersioneProtocollo",
         16 => "name the file's number: 1 new booking, 2 old booking, 3 drift, 4 suspension, 5 gas",
+        17 => "lend the places that reading this text gave",
+        18 => "lend an output as long as the text that was read",
         _ => "report this to whoever maintains the program",
     }
 }
@@ -59,6 +125,22 @@ pub fn when_given(file: u32) -> &'static str {
         6 => "the identification answer is given exactly when gas has TipoCollegamento=RS SENZA ESITO",
         _ => "drift and suspension are optional",
     }
+}
+
+/// The rules of both bookings, each with its entry.
+fn booking_rules() -> Vec<String> {
+    let files = [1, 2].into_iter();
+    let entries = files.flat_map(|file| {
+        let entries = (0..).map_while(move |entry| mctc::entry_name(file, entry).ok());
+        entries.map(move |entry| (file, entry.name))
+    });
+    entries
+        .filter_map(|(file, name)| {
+            let rule = booking_rule(file, name.as_bytes())?;
+            let ending = by_number(file)?.ending;
+            Some(format!("{ending}, {name}: {rule}"))
+        })
+        .collect()
 }
 
 /// 01, Bookings: the rule at an entry of a booking.

@@ -115,8 +115,9 @@ fn refused_samples() {
 }
 
 #[test]
-fn due_entries_of_samples() {
+fn due_entries_of_samples_and_refusals_explained() {
     check("due.txt", &repository());
+    check("explain.txt", &repository());
 }
 
 #[test]
@@ -210,6 +211,36 @@ fn odd_files() -> PathBuf {
         let file = File::create(folder.join(name)).expect("a file");
         file.set_len(1 << 40)
             .expect("a file of a terabyte, with nothing on the disk");
+    }
+
+    let car = |ending: &str| {
+        let text = sample(&format!("accepted-car/AA123456.{ending}"));
+        String::from_utf8(text).expect("a text")
+    };
+    let several = [
+        ("AC2", car("AC2")),
+        ("ACC", car("ACC").replace("=2004", "=04")),
+        (
+            "DER",
+            car("DER")
+                .replace("=0.40", "=0.4")
+                .replace("=12052026", "=2026"),
+        ),
+        (
+            "SOS",
+            car("SOS")
+                .replace("=72", "=100")
+                .replace("Marca=", "marca="),
+        ),
+        (
+            "GAS",
+            car("GAS")
+                .replace("=TECNOGAS", "=")
+                .replace("ModuloChiaveContagiriRS=", "ModuloChiaveContagiriRS=x"),
+        ),
+    ];
+    for (ending, text) in several {
+        put(folder.join(format!("several/AA123456.{ending}")), text);
     }
 
     put(folder.join("mend/lf.DER"), "[DerivaAsse_1]\nDeriva=0.40\n");
