@@ -23,6 +23,8 @@ pub struct Case<'a> {
     texts: [&'a [u8]; FILE_TYPES.len()],
     /// The number of the file that is read alone.
     alone: Option<u32>,
+    /// The folder has a set with this stem in capitals, which a change of the stem would meet.
+    twin: bool,
 }
 
 impl<'a> Case<'a> {
@@ -31,6 +33,7 @@ impl<'a> Case<'a> {
             stem: &set.stem,
             texts: FILE_TYPES.map(|file| set.text(file.number)),
             alone: None,
+            twin: set.twin,
         }
     }
 
@@ -40,12 +43,17 @@ impl<'a> Case<'a> {
             stem: &[],
             texts: Default::default(),
             alone: Some(number),
+            twin: false,
         };
         case.with_text(number, text)
     }
 
     pub fn stem(&self) -> &'a [u8] {
         self.stem
+    }
+
+    pub fn has_twin(&self) -> bool {
+        self.twin
     }
 
     /// The text of a file, empty where it is not given.

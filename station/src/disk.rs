@@ -32,6 +32,8 @@ pub struct FileOnDisk {
 /// The files of one stem.
 pub struct SetOnDisk {
     pub stem: Vec<u8>,
+    /// The folder has another set whose stem is this one in capitals.
+    pub twin: bool,
     files: [Option<FileOnDisk>; 6],
 }
 
@@ -70,8 +72,10 @@ impl Folder {
 
     /// Reads the files of a stem. Absent is not given; what cannot be read is trouble.
     pub fn set(&self, stem: &[u8]) -> Result<SetOnDisk, Trouble> {
+        let capitals = stem.to_ascii_uppercase();
         let mut set = SetOnDisk {
             stem: stem.to_vec(),
+            twin: capitals != stem && self.names.contains_key(&capitals),
             files: Default::default(),
         };
         if let Some(names) = self.names.get(stem) {
@@ -130,7 +134,7 @@ impl Folder {
             [name] => match read_file(&self.path.join(name), name) {
                 Ok(file) => Ok(Some(file)),
                 Err(Trouble(why)) => Err(Trouble(format!(
-                    "{why}; mend this, or take it out of the folder"
+                    "{why}; mend this, or take it out of the folder if it is no part of the set"
                 ))),
             },
             [..] => {

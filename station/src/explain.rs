@@ -122,16 +122,24 @@ fn stem(refused: &Refused) -> Finding {
     let stem = refused.case.stem();
     let found = stem_shown(stem);
     let length = counted(stem.len(), "byte");
+    let capitals = stem.to_ascii_uppercase();
     let mend = refused.tried(Edit {
         file: 0,
         line: 0,
-        action: Action::Rename(stem.to_ascii_uppercase()),
+        action: Action::Rename(capitals.clone()),
     });
     let cause = match mend {
         Some(_) => format!("the stem `{found}` has small letters"),
         None => format!("the stem `{found}` has {length}"),
     };
-    Finding::cause(cause).mend_or(mend, words::advice(2))
+    let finding = Finding::cause(cause);
+    if refused.case.has_twin() {
+        let twin = stem_shown(&capitals);
+        return finding.advice(format!(
+            "the folder has a set `{twin}` too: find out which files belong to it, and give the others a stem of their own"
+        ));
+    }
+    finding.mend_or(mend, words::advice(2))
 }
 
 /// Row 10: which of the two. To take the value out comes last: it may be right, and another wrong by which it is not
@@ -205,6 +213,9 @@ impl Explained {
     pub fn further_lines(&self) -> String {
         let number = self.refusal.number;
         let mut lines = labelled("further", &format!("number {number}, {}", self.in_short()));
+        if let Some(line) = &self.line {
+            lines += &verbatim("text", &line.text);
+        }
         if let Some(cause) = &self.cause {
             lines += &labelled("cause", cause);
         }

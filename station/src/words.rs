@@ -40,7 +40,7 @@ fn place(number: u32) -> &'static str {
 /// In which calls a refusal comes, with the commands that make them.
 fn calls(number: u32) -> &'static str {
     match number {
-        1 => "never from this program, which lends enough places",
+        1 => "in every call with places; never from this program, which lends enough",
         2 | 12..=15 => "in judging a set (`mctc judge`)",
         3..=8 => "in judging a set and in reading a file alone (`mctc judge`, `mctc due`, `mctc read`, `mctc format`)",
         9 => {
@@ -49,8 +49,12 @@ fn calls(number: u32) -> &'static str {
         }
         10 => "in judging a set (`mctc judge`; `mctc due` shows all entries)",
         11 => "in judging a set, and in reading a file alone that is empty (`mctc judge`, `mctc due`, `mctc read`)",
-        16 => "in reading an identification answer alone, which has no entries (`mctc read`)",
-        _ => "in writing (`mctc_write` of the library); never from this program, which writes what it has read",
+        16 => {
+            "in every call with a file's number but judging; from this program where an identification answer, which \
+             has no entries, is read alone (`mctc read`)"
+        }
+        17 => "in writing; never from this program, which writes what it has read",
+        _ => "in writing, names and due columns; never from this program, which lends enough",
     }
 }
 

@@ -10,6 +10,9 @@ use crate::shown::{self, counted};
 /// 01: no value that a kind sets a length for is longer.
 const LONGEST: usize = 320;
 
+/// Of no word, number, day or time.
+const NONSENSE: &str = "%";
+
 pub fn finding(refused: &Refused) -> Option<Finding> {
     let (_, value) = refused.entry()?;
     slip(refused, value)
@@ -116,13 +119,14 @@ fn slip(refused: &Refused, value: &[u8]) -> Option<Finding> {
         .filter_map(|slip| Some((slip, changed(slip, value)?)))
         .collect();
     for (slip, mended) in &once {
-        if let Some(edit) = passing(refused, mended) {
+        if let Some(edit) = slipped(refused, value, mended) {
             return Some(said(value, slip.what.to_string(), edit));
         }
     }
     for (first, mended) in &once {
         for second in &SLIPS {
-            let edit = changed(second, mended).and_then(|mended| passing(refused, &mended));
+            let mended = changed(second, mended);
+            let edit = mended.and_then(|mended| slipped(refused, value, &mended));
             if let Some(edit) = edit {
                 return Some(said(
                     value,
@@ -133,6 +137,17 @@ fn slip(refused: &Refused, value: &[u8]) -> Option<Finding> {
         }
     }
     None
+}
+
+/// As `passing`, but of an entry that takes any text of this length only a space may go: a digit more in a key would be
+/// another key.
+fn slipped(refused: &Refused, value: &[u8], mended: &[u8]) -> Option<Edit> {
+    let any = NONSENSE.repeat(mended.len());
+    let is_text = passing(refused, any.as_bytes()).is_some();
+    if is_text && mended != value.trim_ascii() {
+        return None;
+    }
+    passing(refused, mended)
 }
 
 /// The line with this value, where the library lets it pass.
@@ -156,7 +171,7 @@ fn said(value: &[u8], what: String, edit: Edit) -> Finding {
 fn other_word(refused: &Refused, value: &[u8]) -> Option<Finding> {
     let passes = |value: &str| passing(refused, value.as_bytes()).is_some();
     // What takes any text of a length is no word list.
-    let is_word = |word: &str| passes(word) && !passes(&"%".repeat(word.len()));
+    let is_word = |word: &str| passes(word) && !passes(&NONSENSE.repeat(word.len()));
     let words: Vec<String> = candidates::words().filter(|word| is_word(word)).collect();
     if words.is_empty() {
         return None;

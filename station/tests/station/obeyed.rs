@@ -7,7 +7,9 @@ use std::os::unix::ffi::OsStrExt;
 use std::path::{Path, PathBuf};
 
 use crate::broken::{broken_sets, files};
-use crate::common::run;
+use crate::common::{empty_folder, put, run};
+use outside::comparison::set_case;
+use outside::judge::Call;
 
 const ENDINGS: [&str; 6] = ["AC2", "ACC", "DER", "SOS", "GAS", "ID"];
 
@@ -46,6 +48,10 @@ const MENDED: [&str; 29] = [
     "51-lf-one-line",
     "54-co-3dec",
 ];
+
+/// Generated sets; seeds apart from those of other tests.
+const GENERATED: u64 = 300;
+const FIRST_SEED: u64 = 10 << 40;
 
 /// The member `mend` of an answer.
 struct Mend {
@@ -156,17 +162,19 @@ fn with_line(text: &[u8], mend: &Mend) -> Vec<u8> {
     lines.concat()
 }
 
-/// Whether the set is accepted in the end, and after how many mendings.
-fn obeyed(folder: &Path) -> (bool, usize) {
-    let of_car = |path: &PathBuf| {
-        path.extension()
-            .is_some_and(|ending| ending == "AC2" || ending == "GAS")
+/// The stem of a folder's set: of its booking, or of gas where that is missing.
+fn stem_of(folder: &Path) -> OsString {
+    let is_one = |path: &PathBuf| {
+        let ending = path.extension();
+        ending.is_some_and(|ending| ending == "AC2" || ending == "GAS")
     };
-    let first = files(folder)
-        .into_iter()
-        .find(of_car)
-        .expect("a booking, or gas");
-    let mut stem = first.file_stem().expect("a stem").to_owned();
+    let path = files(folder).into_iter().find(is_one);
+    let path = path.expect("a booking, or gas");
+    path.file_stem().expect("a stem").to_owned()
+}
+
+/// Whether the set is accepted in the end, and after how many mendings.
+fn obeyed(folder: &Path, mut stem: OsString) -> (bool, usize) {
     for step in 0..MOST_STEPS {
         let words = [
             OsStr::new("judge"),
@@ -211,7 +219,7 @@ fn no_test_is_left_out_by_obeying() {
                 is_gas && fs::metadata(path).is_ok_and(|file| file.len() > 0)
             })
         };
-        let (accepted, steps) = obeyed(&folder);
+        let (accepted, steps) = obeyed(&folder, stem_of(&folder));
         assert!(
             !accepted || gas(&folder),
             "{name}: accepted without the gas test"
@@ -222,4 +230,26 @@ fn no_test_is_left_out_by_obeying() {
     }
     mended.sort();
     assert_eq!(mended, MENDED);
+}
+
+/// Generated sets, most of them broken in several places: the advice comes to an end, and takes no file out.
+#[test]
+fn advice_has_an_end() {
+    let root = empty_folder("obeyed-generated");
+    let mut mended = 0;
+    for at in 0..GENERATED {
+        let Call::Judge { set, .. } = set_case(FIRST_SEED + at).call else {
+            continue;
+        };
+        let (folder, stem) = (root.join(at.to_string()), "AB123456");
+        fs::create_dir_all(&folder).expect("a folder");
+        for (ending, slice) in ENDINGS.iter().zip(&set.slices) {
+            if !slice.is_empty() {
+                put(folder.join(format!("{stem}.{ending}")), slice);
+            }
+        }
+        let (accepted, steps) = obeyed(&folder, stem.into());
+        mended += usize::from(accepted && steps > 0);
+    }
+    assert!(mended > 0, "no generated set was mended");
 }
