@@ -67,14 +67,15 @@ impl<'a> Line<'a> {
         })
     }
 
-    /// LF without CR, or CR within the line.
+    /// LF without CR or with two, or CR within the line.
     fn line_end(&self) -> Option<Finding> {
         let line = self.refused.refusal.line;
         let feed = self.whole.ends_with(b"\n") && !self.whole.ends_with(b"\r\n");
         let inner = self.content().strip_suffix(b"\n").unwrap_or(self.content());
         let inner = inner.strip_suffix(b"\r").unwrap_or(inner);
         let returns = inner.iter().position(|byte| *byte == b'\r');
-        if !feed && returns.is_none() {
+        let doubled = self.whole.ends_with(b"\r\r\n");
+        if !feed && !doubled && returns.is_none() {
             return None;
         }
         let ends = line_ends::mended(self.refused.text()).ends;

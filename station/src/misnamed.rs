@@ -114,6 +114,7 @@ fn unknown(refused: &Refused, start: u32, section: &Section) -> Finding {
     let near = nearest(name, names.filter(|name| !stands(name)));
     let mend = near.and_then(|near| renamed(refused, near, name, value));
     let cause = match (near, elsewhere(refused.refusal.file, name)) {
+        _ if name.is_empty() => "no name stands before the `=`".to_string(),
         (Some(near), _) => {
             format!("no entry of `{heading}` has the name {shown}; `{near}` is near")
         }

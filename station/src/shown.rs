@@ -18,8 +18,11 @@ pub fn bytes(bytes: &[u8]) -> String {
     text
 }
 
-/// A value in backticks, so that its end is seen; a backtick within as `\x60`.
+/// A value in backticks, so that its end is seen; a backtick within as `\x60`. An empty one in words.
 pub fn value(value: &[u8]) -> String {
+    if value.is_empty() {
+        return "nothing".to_string();
+    }
     format!("`{}`", bytes(value).replace('`', "\\x60"))
 }
 

@@ -19,6 +19,7 @@ pub fn finding(refused: &Refused) -> Option<Finding> {
         .or_else(|| other_word(refused, value))
         .or_else(|| length(refused, value))
         .or_else(|| sign(refused, value))
+        .or_else(|| no_digit(refused, value))
 }
 
 /// How a value is often written otherwise: in words, and the value without that. None where it does not apply.
@@ -189,31 +190,67 @@ fn other_word(refused: &Refused, value: &[u8]) -> Option<Finding> {
 
 /// A value that passes when bytes are taken from its end or put there.
 fn length(refused: &Refused, value: &[u8]) -> Option<Finding> {
-    let shorter = (1..value.len()).rev().find(|length| {
-        let start = value.get(..*length).unwrap_or_default();
-        passing(refused, start).is_some()
-    });
-    if let Some(length) = shorter {
-        let over = counted(value.len() - length, "byte");
-        return Some(
-            Finding::cause(format!("it is too long by {over}")).advice(format!(
-                "correct the value; at most {} pass here",
-                counted(length, "byte")
-            )),
-        );
+    too_long(refused, value).or_else(|| too_short(refused, value))
+}
+
+fn too_long(refused: &Refused, value: &[u8]) -> Option<Finding> {
+    let passes = |value: &[u8]| passing(refused, value).is_some();
+    let starts = (1..value.len())
+        .rev()
+        .filter_map(|length| value.split_at_checked(length));
+    let (start, rest) = starts.into_iter().find(|(start, _)| passes(start))?;
+    let longer = [start, start.get(start.len() - 1..)?].concat();
+    if passes(&longer) {
+        // Longer values pass, so it is not the length.
+        let (start, rest) = (shown::value(start), shown::value(rest));
+        let cause = format!("{rest} does not belong behind {start}");
+        return Some(Finding::cause(cause).advice("correct the value"));
     }
+    let over = counted(rest.len(), "byte");
+    let most = counted(start.len(), "byte");
+    Some(
+        Finding::cause(format!("it is too long by {over}"))
+            .advice(format!("correct the value: it may have at most {most}")),
+    )
+}
+
+fn too_short(refused: &Refused, value: &[u8]) -> Option<Finding> {
     let last = value.last()?;
-    let longer = (value.len() + 1..=LONGEST).find(|length| {
+    let length = (value.len() + 1..=LONGEST).find(|length| {
         let mut value = value.to_vec();
         value.resize(*length, *last);
         passing(refused, &value).is_some()
     })?;
-    let short = counted(longer - value.len(), "byte");
+    let short = counted(length - value.len(), "byte");
     Some(
         Finding::cause(format!("it is too short by {short}")).advice(format!(
-            "correct the value; {} pass here",
-            counted(longer, "byte")
+            "correct the value: it must have {}",
+            counted(length, "byte")
         )),
+    )
+}
+
+/// One byte stands where a digit passes.
+fn no_digit(refused: &Refused, value: &[u8]) -> Option<Finding> {
+    let others = (0..).zip(value).filter(|(_, byte)| !byte.is_ascii_digit());
+    let (at, byte) = others.into_iter().find(|(at, _)| {
+        (b'0'..=b'9').any(|digit| {
+            let mut value = value.to_vec();
+            value
+                .iter_mut()
+                .skip(*at)
+                .take(1)
+                .for_each(|byte| *byte = digit);
+            passing(refused, &value).is_some()
+        })
+    })?;
+    let byte = shown::value(&[*byte]);
+    Some(
+        Finding::cause(format!(
+            "{byte} stands where a digit must be, as byte {} of the value",
+            at + 1
+        ))
+        .advice("correct the value"),
     )
 }
 

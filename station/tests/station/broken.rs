@@ -156,7 +156,7 @@ fn files_on_disk(broken: &Broken) {
     fs::copy(file_of_car(&folder, "DER"), file_of_car(&folder, "der")).expect("a copy");
     fs::create_dir(broken.without("18-dir-as-file", "DER")).expect("a folder");
     let path = file_of_car(&broken.car("19-unreadable"), "DER");
-    fs::set_permissions(path, Permissions::from_mode(0)).expect("no permissions");
+    fs::set_permissions(path, Permissions::from_mode(0o000)).expect("no permissions");
     let path = broken.without("20-symlink-loop", "DER");
     symlink(path.file_name().expect("a name"), &path).expect("a link");
     rename_all(&broken.car("21-small-stem"), b"aa123456");
