@@ -1,5 +1,5 @@
 /* The judge of MCTCNet2 test sets: a whole set judged, one file read, one file written, names of entries and headings,
- * the kinds of entries and their words, the due column of one file.
+ * the kinds of entries and their words, the due column of one file, and what the judge goes by.
  *
  * Linked from libmctc.a. Every function answers for whatever bytes and numbers it is lent, keeps no state, allocates
  * nothing and always returns.
@@ -43,6 +43,9 @@
  *     3        judge: axles of drift              0
  *              read, due: axles; write: length
  *              names, word: length; kind: form
+ *              conditions: what is asked
+ *              test: 1 passes; field: entry
+ *              identification: end of a field
  *     4        judge: axles of suspension         0
  *              names, word: heading; due: entries
  *              kind: most bytes
@@ -51,7 +54,9 @@
  *     6        judge: mark of suspension          0
  *              kind: words
  *     7        judge: mark of gas                 0
- *     8 ..15   0                                  0
+ *     4 ..15   conditions: reasons                0
+ *     3 ..12   identification: ends of fields     0
+ *     others   0                                  0
  *
  * Numbers past the first 16 stay. Each function returns number 0 of the answer. Where the answer has fewer than 16
  * numbers it returns MCTC_ANSWER_TOO_SHORT and writes to no array.
@@ -244,6 +249,71 @@ uint32_t mctc_due(uint32_t file,
                   uint32_t *places, size_t places_length,
                   uint32_t *column, size_t column_length,
                   uint32_t *answer, size_t answer_length);
+
+/* What is asked of an entry or a file, whatever a set's values are: always; nothing; to be filled or given exactly when
+ * its reasons hold; to be given only when they hold. */
+#define MCTC_ALWAYS 1
+/* MCTC_FREE 3, above */
+#define MCTC_WHEN 4
+#define MCTC_ONLY_WHEN 5
+
+/* A reason is a test that one value passes or not. Reasons stand in groups: all hold where each group has one that
+ * holds. The tests: a category that is L1e, L2e or L6e; L3e, L4e, L5e or L7e; M or N; not O; not L. */
+#define MCTC_TEST_MOPED 1
+#define MCTC_TEST_MOTORCYCLE 2
+#define MCTC_TEST_M_OR_N 3
+#define MCTC_TEST_NOT_O 4
+#define MCTC_TEST_NOT_L 5
+/* A plate of six bytes; BENZINA; DIESEL. */
+#define MCTC_TEST_SIX_BYTES 6
+#define MCTC_TEST_PETROL 7
+#define MCTC_TEST_DIESEL 8
+/* A car's directive that is 91/441/CEE or 98/69/CE; a motorcycle's that is NESSUNA. */
+#define MCTC_TEST_LATE_DIRECTIVE 9
+#define MCTC_TEST_NO_DIRECTIVE 10
+/* RS SENZA ESITO; ESTERNO; version 200; version 210. */
+#define MCTC_TEST_SERIAL_LINK 11
+#define MCTC_TEST_EXTERNAL_COUNTER 12
+#define MCTC_TEST_VERSION_200 13
+#define MCTC_TEST_VERSION_210 14
+/* A stem whose first digit is 9. */
+#define MCTC_TEST_NINE_STEM 15
+
+/* Says what is asked of a file's entry, by its number, and why. Refuses with 16 where there is no such file or entry;
+ * the refusal carries the file as handed in.
+ *
+ * Accepted: answer 3 is MCTC_ALWAYS, MCTC_FREE or MCTC_WHEN. From answer 4 on stand at most three reasons of four numbers
+ * each: the test, the file and the entry of the value that it looks at, and the number of the group, from 1; 0 for each
+ * number of a reason that there is not. An entry that MCTC_WHEN asks for is due where its reasons hold, and else not
+ * due; that is what mctc_judge holds it to (refusal 10). */
+uint32_t mctc_condition(uint32_t file, uint32_t entry,
+                        uint32_t *answer, size_t answer_length);
+
+/* Says what is asked of a file, 1 to 6, and why. Refuses with 16 where there is no such file; the refusal carries it as
+ * handed in.
+ *
+ * Accepted: as mctc_condition, with MCTC_ONLY_WHEN besides. A reason of file 0 looks at the stem. The identification answer
+ * is given exactly when gas is given and its reasons hold (refusal 11). */
+uint32_t mctc_file_condition(uint32_t file,
+                             uint32_t *answer, size_t answer_length);
+
+/* Says whether a value passes a test: answer 3 is 1 or 0. Refuses with 16, file 0, where there is no such test. */
+uint32_t mctc_test(uint32_t test,
+                   const uint8_t *value, size_t value_length,
+                   uint32_t *answer, size_t answer_length);
+
+/* Finds the ten fields of an identification answer: GAS, the address, ID, and the seven that gas has too. Refuses with 14,
+ * file 6, where it is not of the form.
+ *
+ * Accepted: answers 3 to 12 are the places at which the fields end. The first starts at place 1, each other one place
+ * after the end of the one before. */
+uint32_t mctc_identification(const uint8_t *text, size_t text_length,
+                             uint32_t *answer, size_t answer_length);
+
+/* Says which entry of gas a field of the identification answer must equal (refusal 15), fields counted from 0: answer 3 is
+ * the entry's number. Refuses with 16, file 0, where the field is not 3 to 9. */
+uint32_t mctc_field(uint32_t field,
+                    uint32_t *answer, size_t answer_length);
 
 #ifdef __cplusplus
 }

@@ -93,6 +93,27 @@ extern "C" {
         answer: *mut u32,
         answer_length: usize,
     ) -> u32;
+
+    fn mctc_condition(file: u32, entry: u32, answer: *mut u32, answer_length: usize) -> u32;
+
+    fn mctc_file_condition(file: u32, answer: *mut u32, answer_length: usize) -> u32;
+
+    fn mctc_test(
+        test: u32,
+        value: *const u8,
+        value_length: usize,
+        answer: *mut u32,
+        answer_length: usize,
+    ) -> u32;
+
+    fn mctc_identification(
+        text: *const u8,
+        text_length: usize,
+        answer: *mut u32,
+        answer_length: usize,
+    ) -> u32;
+
+    fn mctc_field(field: u32, answer: *mut u32, answer_length: usize) -> u32;
 }
 
 // What the header asks of its callers, Rust grants for every slice: a pointer and a length belong together, the pointer
@@ -237,4 +258,44 @@ pub fn word(file: u32, entry: u32, word: u32, output: &mut [u8], answer: &mut [u
             answer.len(),
         )
     }
+}
+
+/// What is asked of an entry, and why.
+pub fn condition(file: u32, entry: u32, answer: &mut [u32]) -> u32 {
+    unsafe { mctc_condition(file, entry, answer.as_mut_ptr(), answer.len()) }
+}
+
+/// What is asked of a file, and why.
+pub fn file_condition(file: u32, answer: &mut [u32]) -> u32 {
+    unsafe { mctc_file_condition(file, answer.as_mut_ptr(), answer.len()) }
+}
+
+/// Whether a value passes a test.
+pub fn test(test: u32, value: &[u8], answer: &mut [u32]) -> u32 {
+    unsafe {
+        mctc_test(
+            test,
+            value.as_ptr(),
+            value.len(),
+            answer.as_mut_ptr(),
+            answer.len(),
+        )
+    }
+}
+
+/// Where the fields of an identification answer end.
+pub fn identification(text: &[u8], answer: &mut [u32]) -> u32 {
+    unsafe {
+        mctc_identification(
+            text.as_ptr(),
+            text.len(),
+            answer.as_mut_ptr(),
+            answer.len(),
+        )
+    }
+}
+
+/// The entry of gas that a field of the identification answer must equal.
+pub fn field(field: u32, answer: &mut [u32]) -> u32 {
+    unsafe { mctc_field(field, answer.as_mut_ptr(), answer.len()) }
 }

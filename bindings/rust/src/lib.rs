@@ -34,6 +34,9 @@ const MOST_ENTRIES: usize = 53;
 /// No name, no heading and no word is longer.
 const LONGEST_NAME: usize = 64;
 
+/// How many fields an identification answer has.
+const FIELDS: usize = 10;
+
 /// A set as handed in: the files' common name and six texts, each empty where it is not given.
 #[derive(Clone, Copy, Debug, Default)]
 pub struct Set<'a> {
@@ -220,6 +223,143 @@ pub struct Kind {
     pub words: Vec<String>,
 }
 
+/// What is asked of an entry or of a file, whatever a set's values are.
+#[derive(Clone, Copy, Debug, PartialEq, Eq)]
+pub enum Asked {
+    /// Filled, or given.
+    Always,
+    /// Nothing.
+    Free,
+    /// Filled or given exactly when the reasons hold.
+    When,
+    /// Given only when the reasons hold.
+    OnlyWhen,
+}
+
+impl Asked {
+    fn from_number(number: u32) -> Asked {
+        match number {
+            1 => Asked::Always,
+            4 => Asked::When,
+            5 => Asked::OnlyWhen,
+            _ => Asked::Free,
+        }
+    }
+}
+
+/// A test that one value passes or not.
+#[derive(Clone, Copy, Debug, PartialEq, Eq)]
+pub enum Test {
+    /// A category that is L1e, L2e or L6e.
+    Moped,
+    /// A category that is L3e, L4e, L5e or L7e.
+    Motorcycle,
+    /// A category that is M or N.
+    MOrN,
+    /// A category that is not O.
+    NotO,
+    /// A category that is not L.
+    NotL,
+    /// A plate of six bytes.
+    SixBytes,
+    /// BENZINA.
+    Petrol,
+    /// DIESEL.
+    Diesel,
+    /// 91/441/CEE or 98/69/CE.
+    LateDirective,
+    /// NESSUNA.
+    NoDirective,
+    /// RS SENZA ESITO.
+    SerialLink,
+    /// ESTERNO.
+    ExternalCounter,
+    /// 200.
+    Version200,
+    /// 210.
+    Version210,
+    /// A stem whose first digit is 9.
+    NineStem,
+}
+
+/// The tests, in the order of their numbers, from 1.
+pub const TESTS: [Test; 15] = [
+    Test::Moped,
+    Test::Motorcycle,
+    Test::MOrN,
+    Test::NotO,
+    Test::NotL,
+    Test::SixBytes,
+    Test::Petrol,
+    Test::Diesel,
+    Test::LateDirective,
+    Test::NoDirective,
+    Test::SerialLink,
+    Test::ExternalCounter,
+    Test::Version200,
+    Test::Version210,
+    Test::NineStem,
+];
+
+impl Test {
+    /// None for a number that no test has.
+    fn from_number(number: u32) -> Option<Test> {
+        let place = usize::try_from(number).ok()?.checked_sub(1)?;
+        TESTS.get(place).copied()
+    }
+
+    fn number(self) -> u32 {
+        let place = TESTS.iter().position(|test| *test == self);
+        place.map_or(0, |place| place as u32 + 1)
+    }
+
+    /// Whether a value passes, by the library.
+    pub fn passes(self, value: &[u8]) -> bool {
+        let answer = answered(|answer| lent::test(self.number(), value, answer));
+        matches!(answer, Ok([1, ..]))
+    }
+}
+
+/// A value that decides, and the test that it must pass.
+#[derive(Clone, Copy, Debug, PartialEq, Eq)]
+pub struct Reason {
+    pub test: Test,
+    /// 0 for the stem.
+    pub file: u32,
+    /// Numbered as in [`entry_name`].
+    pub entry: u32,
+}
+
+/// What is asked, and why: the reasons hold where each group has one that holds.
+#[derive(Clone, Debug, PartialEq, Eq)]
+pub struct Condition {
+    pub asked: Asked,
+    pub groups: Vec<Vec<Reason>>,
+}
+
+impl Condition {
+    fn from_numbers(numbers: &[u32]) -> Condition {
+        let (asked, reasons) = numbers.split_first().unwrap_or((&0, &[]));
+        let mut groups: Vec<Vec<Reason>> = Vec::new();
+        for reason in reasons.chunks_exact(4) {
+            let &[test, file, entry, group] = reason else {
+                continue;
+            };
+            let Some(test) = Test::from_number(test) else {
+                continue;
+            };
+            groups.resize(groups.len().max(group as usize), Vec::new());
+            if let Some(group) = groups.last_mut() {
+                group.push(Reason { test, file, entry });
+            }
+        }
+        Condition {
+            asked: Asked::from_number(*asked),
+            groups,
+        }
+    }
+}
+
 /// Judges a whole set; the places have the pairs of all files that were read.
 pub fn judge(set: &Set, places: &mut Places) -> Result<Acceptance, Refusal> {
     answered(|answer| lent::judge(set, &mut places.0, answer)).map(|values| {
@@ -299,6 +439,36 @@ fn word(file: u32, entry: u32, word: u32) -> Result<String, Refusal> {
     let mut output = [0; LONGEST_NAME];
     let [length, ..] = answered(|answer| lent::word(file, entry, word, &mut output, answer))?;
     Ok(text_of(&output, length))
+}
+
+/// What is asked of an entry, and why, entries numbered as in [`entry_name`].
+pub fn condition(file: u32, entry: u32) -> Result<Condition, Refusal> {
+    answered(|answer| lent::condition(file, entry, answer))
+        .map(|numbers| Condition::from_numbers(&numbers))
+}
+
+/// What is asked of a file, 1 to 6, and why. The identification answer is given exactly when gas is given, too.
+pub fn file_condition(file: u32) -> Result<Condition, Refusal> {
+    answered(|answer| lent::file_condition(file, answer))
+        .map(|numbers| Condition::from_numbers(&numbers))
+}
+
+/// The fields of an identification answer: GAS, the address, ID, and the seven that gas has too.
+pub fn identification(text: &[u8]) -> Result<Vec<Range<usize>>, Refusal> {
+    let numbers = answered(|answer| lent::identification(text, answer))?;
+    let mut start = 1;
+    let ends = numbers.iter().take(FIELDS).map(|end| *end as usize);
+    let fields = ends.map(|end| {
+        let field = start..end;
+        start = end + 1;
+        field
+    });
+    Ok(fields.collect())
+}
+
+/// The entry of gas that a field of the identification answer must equal, fields counted from 0.
+pub fn field_entry(field: u32) -> Result<u32, Refusal> {
+    answered(|answer| lent::field(field, answer)).map(|[entry, ..]| entry)
 }
 
 fn text_of(output: &[u8], length: u32) -> String {

@@ -125,3 +125,48 @@ fn entries_have_kinds() {
     assert_eq!(mctc::kind(5, 46), Ok(carbon_monoxide));
     assert_eq!(mctc::kind(5, 53), Err(refusal(16, 5, 0)));
 }
+
+#[test]
+fn entries_and_files_have_reasons() {
+    let reason = |test, file, entry| mctc::Reason { test, file, entry };
+    let directive = mctc::Condition {
+        asked: mctc::Asked::When,
+        groups: vec![
+            vec![reason(mctc::Test::Petrol, 1, 5)],
+            vec![reason(mctc::Test::MOrN, 1, 2)],
+        ],
+    };
+    assert_eq!(mctc::condition(1, 8), Ok(directive));
+    let bench_key = mctc::condition(5, 30).expect("IDChiaveProvaVelocitaRS");
+    let groups: Vec<usize> = bench_key.groups.iter().map(Vec::len).collect();
+    assert_eq!(groups, [1, 2]);
+    let old_booking = mctc::Condition {
+        asked: mctc::Asked::OnlyWhen,
+        groups: vec![vec![
+            reason(mctc::Test::NotL, 1, 2),
+            reason(mctc::Test::NineStem, 0, 0),
+        ]],
+    };
+    assert_eq!(mctc::file_condition(2), Ok(old_booking));
+    assert_eq!(mctc::condition(1, 12), Err(refusal(16, 1, 0)));
+    assert_eq!(mctc::file_condition(7), Err(refusal(16, 7, 0)));
+    assert!(mctc::Test::Petrol.passes(b"BENZINA"));
+    assert!(!mctc::Test::Petrol.passes(b"benzina"));
+}
+
+#[test]
+fn the_identification_answer_has_fields() {
+    let text = b"\x02GAS\x171\x17ID\x17a\x17b\x17c\x17d\x17e\x17f\x17g83\x03";
+    let mut text = text.to_vec();
+    let sum = text[1..text.len() - 3].iter().map(|byte| u32::from(*byte)).sum::<u32>() % 256;
+    let at = text.len() - 3;
+    text.splice(at..at + 2, format!("{sum:02X}").into_bytes());
+    let fields = mctc::identification(&text).expect("a well-formed answer");
+    let fields: Vec<&[u8]> = fields.into_iter().map(|field| &text[field]).collect();
+    assert_eq!(fields, [&b"GAS"[..], b"1", b"ID", b"a", b"b", b"c", b"d", b"e", b"f", b"g"]);
+    assert_eq!(mctc::identification(b"GAS"), Err(refusal(14, 6, 0)));
+    assert_eq!(mctc::field_entry(3), Ok(0));
+    assert_eq!(mctc::field_entry(7), Ok(5));
+    assert_eq!(mctc::field_entry(9), Ok(22));
+    assert_eq!(mctc::field_entry(2), Err(refusal(16, 0, 0)));
+}
