@@ -14,6 +14,7 @@ use crate::misnamed;
 use crate::page::{labelled, verbatim};
 use crate::rules;
 use crate::shown::{self, counted, Line};
+use crate::suspect;
 use crate::words;
 use crate::wrong_value;
 
@@ -159,11 +160,11 @@ fn filled_or_empty(refused: &Refused) -> Option<Finding> {
         }
         None => first.to_string(),
     };
-    Some(
-        Finding::default()
-            .meaning("filled, but not due")
-            .advice(advice),
-    )
+    let finding = Finding {
+        cause: suspect::suspect(refused),
+        ..Finding::default()
+    };
+    Some(finding.meaning("filled, but not due").advice(advice))
 }
 
 /// Row 11: missing or not due; read alone, empty. To take a file out comes last, as in row 10.
@@ -188,7 +189,12 @@ fn missing_or_not_due(refused: &Refused, subject: &Subject) -> Option<Finding> {
             ("given, but not due", advice)
         }
     };
-    Some(Finding::default().meaning(meaning).advice(advice))
+    let given = matches!(subject.presence, Presence::InSet) && !subject.text.is_empty();
+    let finding = Finding {
+        cause: given.then(|| suspect::suspect(refused)).flatten(),
+        ..Finding::default()
+    };
+    Some(finding.meaning(meaning).advice(advice))
 }
 
 impl Explained {

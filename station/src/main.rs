@@ -32,6 +32,7 @@ mod progress;
 mod read;
 mod rules;
 mod shown;
+mod suspect;
 mod table;
 mod words;
 mod wrong_value;
