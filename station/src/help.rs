@@ -80,7 +80,8 @@ Prints the verdict, for each file whether it is due and whether it is given, and
 for every given file, entry by entry in table order, whether the entry is due
 and whether it is filled; marks what disagrees. A file that cannot be read by
 its form (refusals 3 to 9) has no column, and where the new booking cannot, no
-file has one.
+file has one. Whether a file is due is unknown where the new booking, or gas for
+the identification answer, is refused.
 
   --only-marked  only what disagrees or is refused
 
