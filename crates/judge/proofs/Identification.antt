@@ -6,7 +6,7 @@ use Rattle.kinds.proofs.Laws.{by-test}
 use mathlib.Core.List.{List, []}
 use Rattle.refusals.specs.Answer.{Answer, acceptance, require}
 use Rattle.refusals.specs.declared.RefusalKind.the-variants.{SliceNotAsDue, IdentificationForm, IdentificationDiffers}
-use Rattle.tables.specs.File.{gas}
+use Rattle.tables.specs.File.{gas, identificationNumber}
 use Rattle.tables.specs.Value.{valuesOf}
 use Rattle.rules.specs.Slices.{identificationRight}
 use Rattle.rules.specs.Identification.{sevenOf, sameFields}
@@ -15,7 +15,7 @@ use Rattle.serial.specs.declared.FieldEnds.{FieldEnds}
 use Rattle.serial.specs.declared.IdentificationRead.{IdentificationRead}
 use Rattle.serial.specs.declared.IdentificationRead.the-variants.{Malformed, Fields}
 use Rattle.sets.specs.Records.{isGiven}
-use Rattle.sets.specs.Judge.{judgeFields, judgeIdentification, identificationNumber}
+use Rattle.sets.specs.Judge.{judgeFields, judgeIdentification}
 use Rattle.judge.specs.Steps.{noFigures, identificationJudged, JudgesIdentification, identificationRefused}
 use Rattle.judge.specs.declared.Step.the-variants.{Go}
 

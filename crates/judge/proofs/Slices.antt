@@ -11,7 +11,7 @@ use Rattle.refusals.specs.Answer.{Answer, refusal, acceptance, refusalOf, requi
 use Rattle.refusals.specs.declared.Refusal.{Refusal}
 use Rattle.places.specs.Places.{placeSize, setPairs, pairsAt, valueAt, Within}
 use Rattle.places.proofs.Laws.{set-length, drop-pairs}
-use Rattle.tables.specs.File.{File, ac2, acc, drift, suspension, gas, files, hasAxles, fileNumber, entries, room, firstPair, leastPlaces}
+use Rattle.tables.specs.File.{File, ac2, acc, drift, suspension, gas, files, hasAxles, fileNumber, entries, room, firstPair, leastPlaces, identificationNumber}
 use Rattle.tables.proofs.Axles.{entries-most}
 use Rattle.files.proofs.Pairs.{few-axles, rooms-fit, own-pairs}
 use Rattle.due.specs.Booking.{bookingIn}
@@ -23,7 +23,7 @@ use Rattle.rules.specs.declared.Stated.{Stated}
 use Rattle.due.proofs.Pairs.{gas-count}
 use Rattle.serial.specs.Reading.{readIdentification}
 use Rattle.sets.specs.Records.{Slices, isGiven}
-use Rattle.sets.specs.Judge.{FileRead, SetRead, notRead, judgeBooking, judgeFields, judgeFile, judgeIdentification, fileGiven, identificationStep, setRead, Slice, fileSlice, identificationSlice, laterSlices, eachAccepted, judgeSlices, setFiles, identificationNumber}
+use Rattle.sets.specs.Judge.{FileRead, SetRead, notRead, judgeBooking, judgeFields, judgeFile, judgeIdentification, fileGiven, identificationStep, setRead, Slice, fileSlice, identificationSlice, laterSlices, eachAccepted, judgeSlices, setFiles}
 use Rattle.sets.specs.declared.SetAnswer.{SetAnswer}
 use Rattle.sets.specs.declared.SetAnswer.the-variants.{Accepted, Refused}
 use Rattle.sets.proofs.File.{FilePassed, Passed, file-sound, booking-file}

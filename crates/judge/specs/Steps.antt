@@ -9,7 +9,7 @@ use Rattle.refusals.specs.Refusals.{refusalWith}
 use Rattle.refusals.specs.declared.Refusal.{Refusal}
 use Rattle.refusals.specs.declared.RefusalKind.{RefusalKind}
 use Rattle.places.specs.Places.{setPairs}
-use Rattle.tables.specs.File.{File, ac2, acc, drift, suspension, gas, files, fileNumber, mostAxles, sections, allSections, fixedSections, entries, firstPair, leastPlaces, ofNumber}
+use Rattle.tables.specs.File.{File, ac2, acc, drift, suspension, gas, files, fileNumber, mostAxles, sections, allSections, fixedSections, entries, firstPair, leastPlaces, ofNumber, identificationNumber}
 use Rattle.tables.specs.Row.{mostRows}
 use Rattle.files.specs.Files.{axlesOf}
 use Rattle.due.specs.Booking.{bookingIn}
@@ -19,7 +19,7 @@ use Rattle.due.specs.Values.{newValues, Held}
 use Rattle.rules.specs.Marks.{isMarked}
 use Rattle.rules.specs.declared.Stated.{Stated}
 use Rattle.sets.specs.Records.{Slices, isGiven}
-use Rattle.sets.specs.Judge.{acceptanceOf, FileRead, SetRead, fileRead, checkedFile, firstFailed, fileChecks, judgeText, judgeFile, judgeIdentification, setRead, laterSlices, eachAccepted, setFiles, answerIs, identificationNumber}
+use Rattle.sets.specs.Judge.{acceptanceOf, FileRead, SetRead, fileRead, checkedFile, firstFailed, fileChecks, judgeText, judgeFile, judgeIdentification, setRead, laterSlices, eachAccepted, setFiles, answerIs}
 use Rattle.sets.specs.declared.Acceptance.{Acceptance}
 use Rattle.sets.specs.declared.SetAnswer.{SetAnswer}
 use Rattle.sets.specs.declared.SetAnswer.the-variants.{Accepted, Refused}

@@ -23,11 +23,9 @@ use tables::AC2;
 use tables::ACC;
 use tables::DRIFT;
 use tables::GAS;
+use tables::IDENTIFICATION;
 use tables::MOST_ROWS;
 use tables::SUSPENSION;
-
-// The identification answer's number (01, the set), as a refusal's file.
-const IDENTIFICATION: u32 = 6;
 
 // What acceptance takes from a file that passed: its axle count, and whether its CodErrore is filled.
 struct Figures {

@@ -5,6 +5,7 @@ use mathlib.Core.Path.{_≡_}
 use mathlib.Core.Bool.{cond}
 use mathlib.Core.List.{List, [], _∷_}
 use lib.Dec.{eqb}
+use Rattle.tables.specs.File.{identificationNumber}
 use Rattle.serial.specs.Reading.{Ordered, readIdentification}
 use Rattle.serial.specs.declared.FieldEnds.{FieldEnds}
 use Rattle.serial.specs.declared.IdentificationRead.{IdentificationRead}
@@ -43,7 +44,7 @@ endNumbers e =
 
 -- 14 where it is not of the form
 abbrev pub fieldNumbers : IdentificationRead → List ℕ
-fieldNumbers Malformed = 14 ∷ 6 ∷ 0 ∷ []
+fieldNumbers Malformed = 14 ∷ identificationNumber ∷ 0 ∷ []
 fieldNumbers (Fields e) = endNumbers e
 
 -- they are places of at most 512 bytes

@@ -141,7 +141,7 @@ fn fill_fields(answer: &mut [u32], read: IdentificationRead) -> u32
             answer,
             Refusal {
                 kind: RefusalKind::IdentificationForm,
-                file: 6,
+                file: tables::IDENTIFICATION,
                 line: 0,
             },
         ),

@@ -2,7 +2,7 @@
 use mathlib.Core.Path.{_≡_, refl}
 use mathlib.Core.Bool.{true}
 use mathlib.Core.List.{List, []}
-use Prim.Native.Nat.{ℕ, zero, suc}
+use Prim.Native.Nat.{ℕ, zero, suc, _+_}
 use Rattle.lines.specs.Bytes.{sameBytes, allPrintable, without}
 use Rattle.lines.specs.Line.{wellFormed}
 use Rattle.kinds.specs.Kind.{words}
@@ -36,6 +36,13 @@ tables-short acc = refl
 tables-short drift = refl
 tables-short suspension = refl
 tables-short gas = refl
+
+-- the most bytes that the files have by their kinds alone
+pub bounds : (tableLength (allSections ac2) + widths (entriesOf (allSections ac2)) ≡ 471) × (tableLength (allSections acc) + widths (entriesOf (allSections acc)) ≡ 396)
+    × (tableLength (allSections drift) + widths (entriesOf (allSections drift)) ≡ 1401) × (tableLength (allSections suspension) + widths (entriesOf (allSections suspension)) ≡ 1748)
+    × (tableLength (allSections gas) + widths (entriesOf (allSections gas)) ≡ 3597)
+unfolding tableLength entriesLength widths entriesOf width longest words newBooking oldBooking tester protocol measurement sixteen driftAxle suspensionAxle analyser counter speedTest allKeyDates allKeyBodies analysis fuelAnalysis fixedSections axleEntries axlesFrom axleSections sections
+bounds = (refl, refl, refl, refl, refl)
 
 -- what holds of the files' tables and of the empty one holds of the table of any number
 by-number : (P : List Section → Type 0) → P [] → ((f : File) → P (allSections f)) → (n : ℕ) → P (tableOf n)

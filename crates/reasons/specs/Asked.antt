@@ -5,7 +5,7 @@ use mathlib.Core.Bool.{Bool, true, cond, not, _&&_, _||_}
 use mathlib.Core.List.{List, [], map}
 use lib.Dec.{eqb, leb, ltb}
 use lib.ListN.{getD}
-use Rattle.tables.specs.File.{File, ac2, acc, drift, suspension, gas, ofNumber, room}
+use Rattle.tables.specs.File.{File, ac2, acc, drift, suspension, gas, identificationNumber, ofNumber, room}
 use Rattle.tables.specs.Value.{placeOf}
 use Rattle.due.specs.Due.{conditionAt, conditionIn, when}
 use Rattle.due.specs.declared.Due.{Due}
@@ -61,12 +61,11 @@ givenNumber gas = 4
 abbrev pub rightBy : ℕ → Bool → Bool → Bool
 rightBy n b given = cond (eqb n 1) given (cond (eqb n 3) true (cond (eqb n 4) (exactly b given) (not given || b)))
 
--- 6 is the identification answer
 unfoldable pub fileAsked : ℕ → ℕ
-fileAsked n = cond (eqb n 6) 4 (ofNumber 0 givenNumber n)
+fileAsked n = cond (eqb n identificationNumber) 4 (ofNumber 0 givenNumber n)
 
 unfoldable pub fileReasons : ℕ → List ℕ
-fileReasons n = reasonNumbers (cond (eqb n 6) identificationReasons (ofNumber [] givenReasons n))
+fileReasons n = reasonNumbers (cond (eqb n identificationNumber) identificationReasons (ofNumber [] givenReasons n))
 
 -- ---- fields of the identification answer, from 0: GAS, the address, ID, and the seven
 

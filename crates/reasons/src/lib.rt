@@ -15,6 +15,7 @@ use tables::AC2;
 use tables::ACC;
 use tables::DRIFT;
 use tables::GAS;
+use tables::IDENTIFICATION;
 use tables::SUSPENSION;
 use tables::pairs;
 
@@ -48,9 +49,6 @@ const VERSION_200: u32 = 13;
 const VERSION_210: u32 = 14;
 
 const NINE_STEM: u32 = 15;
-
-// The file of the identification answer.
-const IDENTIFICATION: u32 = 6;
 
 // Entries of AC2 and of gas, by their places in entry order: each its pair less the file's first.
 const PLATE: u32 = pairs::AC2_TARGA_NOMINALE as u32;

@@ -17,7 +17,7 @@ use Rattle.refusals.specs.Answer.{Answer, acceptance}
 use Rattle.tables.specs.Section.{Entry, entriesOf}
 use Rattle.tables.specs.Entries.{protocol, measurement, analysis, analyser, counter, speedTest, allKeyDates, allKeyBodies, fuelAnalysis}
 use Rattle.tables.specs.Row.{noEntry}
-use Rattle.tables.specs.File.{gas, entries, sections, fixedSections, axleSections}
+use Rattle.tables.specs.File.{gas, entries, sections, fixedSections, axleSections, identificationNumber}
 use Rattle.tables.specs.Value.{placeOf, isEntry, of}
 use Rattle.reading.specs.Fitting.{EachKept}
 use Rattle.reading.proofs.Written.{kept-length}
@@ -35,7 +35,7 @@ use Rattle.serial.specs.declared.IdentificationRead.{IdentificationRead}
 use Rattle.serial.specs.declared.IdentificationRead.the-variants.{Malformed, Fields}
 use Rattle.serial.proofs.Exact.{Written, read-sound, Found, read-complete}
 use Rattle.sets.specs.Records.{isGiven, Address, EachAsDue}
-use Rattle.sets.specs.Judge.{judgeFields, judgeIdentification, identificationNumber}
+use Rattle.sets.specs.Judge.{judgeFields, judgeIdentification}
 use Rattle.sets.proofs.Steps.{require-inv}
 
 -- ---- gas's seven values, where kinds and due entries are kept, are fields of an answer

@@ -7,7 +7,7 @@ use lib.ListN.{length, getD}
 use Rattle.places.specs.Places.{Pair, valueAt, setPairs, cleared}
 use Rattle.refusals.specs.Refusals.{numberOf}
 use Rattle.refusals.specs.Answer.{Answer, refusal, acceptance, refusalOf, require, followed, givenBy}
-use Rattle.tables.specs.File.{File, ac2, acc, drift, suspension, gas, files, fileNumber, firstPair, leastPlaces}
+use Rattle.tables.specs.File.{File, ac2, acc, drift, suspension, gas, files, fileNumber, identificationNumber, firstPair, leastPlaces}
 use Rattle.reading.specs.Reading.{Reading, refused, read}
 use Rattle.files.specs.Files.{readFile, axlesOf}
 use Rattle.due.specs.Booking.{bookingIn}
@@ -116,10 +116,6 @@ judgeFile f stated a s =
     (cond (isRead f (bookingIn a) (isGiven s)) (judgeText f (λ own. a) s) (acceptance notRead))
 
 -- ---- slice 6
-
--- 01, the set: the identification answer's number, as a refusal's file
-abbrev pub identificationNumber : ℕ
-identificationNumber = 6
 
 -- 14, 15
 abbrev pub judgeFields : List (List ℕ) → List ℕ → IdentificationRead → Answer (List ℕ)

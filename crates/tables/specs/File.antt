@@ -30,6 +30,10 @@ fileNumber drift = 3
 fileNumber suspension = 4
 fileNumber gas = 5
 
+-- "6 the analyser's identification answer", which is no file of sections and entries
+abbrev pub identificationNumber : ℕ
+identificationNumber = 6
+
 abbrev pub orElse : {A : Type 0} → A → (File → A) → Option File → A
 orElse d g none = d
 orElse d g (some f) = g f

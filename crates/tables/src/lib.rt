@@ -28,6 +28,9 @@ pub const SUSPENSION: u32 = 4;
 
 pub const GAS: u32 = 5;
 
+// No file of sections and entries: the identification answer.
+pub const IDENTIFICATION: u32 = 6;
+
 // As many rows as any table has: the size of an array with a number for each row.
 pub const MOST_ROWS: usize = 64;
 
