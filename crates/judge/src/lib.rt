@@ -6,7 +6,7 @@ ghost use Rattle.tables.specs.File.{ac2 as bookingFile, files, mostAxles, least
 ghost use Rattle.tables.specs.Row.{mostRows};
 ghost use Rattle.tables.specs.Value.{valuesOf};
 ghost use Rattle.due.specs.Values.{Held, NumberHeld};
-ghost use Rattle.sets.specs.Records.{slicesOf};
+ghost use Rattle.sets.specs.Records.{callerOf, slicesOf};
 ghost use Rattle.sets.specs.Judge.{judgeText, judgeBooking, judgeSlices};
 ghost use Rattle.judge.specs.Steps.{fileNumbered, IsNumber, figuresFrom, figuresIn, acceptanceWith, IsBooking, FileReady, ValuesReady, JudgesValues, JudgesFile, textJudged, fileJudged, JudgesBooking, Asked, Next, identificationJudged, JudgesIdentification, IdentificationReady, identificationRefused, JudgesSlices, JudgesLater};
 ghost use Rattle.judge.specs.Judged.{SetJudged};
@@ -395,7 +395,7 @@ pub fn judge_set(
     identification: &[u8],
     places: &mut [u32],
 ) -> SetAnswer
-    ensures { λ r. ⌜ SetJudged (now (stem .entry)) (slicesOf (now (ac2 .entry)) (now (acc .entry)) (now (drift .entry))
+    ensures { λ r. ⌜ SetJudged (callerOf (now (stem .entry))) (slicesOf (now (ac2 .entry)) (now (acc .entry)) (now (drift .entry))
         (now (suspension .entry)) (now (gas .entry)) (now (identification .entry)))
         (now (places .entry)) (now (places .exit)) r ⌝ }
 {

@@ -23,7 +23,7 @@ use Rattle.names.specs.Names as N
 use Rattle.names.specs.declared.NameAnswer.{NameAnswer}
 use Rattle.names.specs.declared.KindAnswer.{KindAnswer}
 use Rattle.sets.specs.Judge as J
-use Rattle.sets.specs.Records.{Slices}
+use Rattle.sets.specs.Records.{Caller, Slices}
 use Rattle.files.specs.declared.FileAcceptance.{FileAcceptance}
 use Rattle.writing.specs.declared.WriteAcceptance.{WriteAcceptance}
 use Rattle.names.specs.declared.Named.{Named}
@@ -57,8 +57,8 @@ module _ (a : List ℕ) (l : length a < answerSize) where
   pub kind-short : (file : ℕ) (x : Option Kind) → KindCall file x a a tooShort
   kind-short file x = let b = lt-leb answerSize (length a) l in record { number = rw b; answer = rw b }
 
-  pub judge-short : (stem : List ℕ) (s : Slices) (p : List ℕ) → JudgeCall stem s p p a a tooShort
-  judge-short stem s p =
+  pub judge-short : (caller : Caller) (s : Slices) (p : List ℕ) → JudgeCall caller s p p a a tooShort
+  judge-short caller s p =
       let b = lt-leb answerSize (length a) l in
       record {
         number = rw b;
@@ -104,8 +104,8 @@ module _ (a b : List ℕ) (r : ℕ) (l : answerSize ≤ length a) where
       let g = subst (λ (z : Answer Shape). Filled (kindNumbers z) a b r) h f in
       record { number = rw e (g .number); answer = rw e (g .answer) }
 
-  pub judge-done : (stem : List ℕ) (s : Slices) (p q : List ℕ) (x : SetAnswer) → SetJudged stem s p q x → Filled (setNumbers (J.answerIs x)) a b r → JudgeCall stem s p q a b r
-  judge-done stem s p q x h f =
+  pub judge-done : (caller : Caller) (s : Slices) (p q : List ℕ) (x : SetAnswer) → SetJudged caller s p q x → Filled (setNumbers (J.answerIs x)) a b r → JudgeCall caller s p q a b r
+  judge-done caller s p q x h f =
       let t = le-leb answerSize (length a) l in
       let g = subst (λ (y : Answer Acceptance). Filled (setNumbers y) a b r) (h .answer) f in
       let z = zero-accepts x r (f .number) in
@@ -114,7 +114,7 @@ module _ (a b : List ℕ) (r : ℕ) (l : answerSize ≤ length a) where
         number = rw t (g .number);
         answer = rw t (g .answer);
         places = rw t (h .places);
-        demand3 = λ k. subst (λ (y : Answer Acceptance). Demand3 stem s p y q) (h .answer) (h .demand3);
+        demand3 = λ k. subst (λ (y : Answer Acceptance). Demand3 caller s p y q) (h .answer) (h .demand3);
         accepted = (λ e. let w = h .demand3 .exactly .0 (z .0 e) in (l, w .0, w .1, w .2), λ w. z .1 (h .demand3 .exactly .1 (w .1, w .2, w .3)));
         leaves = record { zero = λ n. v .zero (λ k. n .1 (z .1 k)); short = v .short; beyond = v .beyond; same-length = v .same-length };
       }

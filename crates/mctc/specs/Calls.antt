@@ -15,7 +15,7 @@ use Rattle.writing.specs.Writing.{quoteFor, outputAfter}
 use Rattle.writing.specs.ReadBack.{IsReadBack}
 use Rattle.names.specs.Names as N
 use Rattle.rules.specs.Slices.{goodStem}
-use Rattle.sets.specs.Records.{Slices}
+use Rattle.sets.specs.Records.{Caller, Slices}
 use Rattle.sets.specs.Judge.{judge}
 use Rattle.sets.specs.Demand3.{HasRecord, Demand3, Leaves}
 use Rattle.columns.specs.Column as C
@@ -64,13 +64,13 @@ pub record KindCall (file : ℕ) (x : Option Kind) (a b : List ℕ) (r : ℕ) : 
   pub answer : b ≡ answerAfter (kindNumbers (N.kindAnswerOf file x)) a
 
 -- a set of these slices judged (01, Judging: "The answer and places equal one definition over the inputs")
-pub record JudgeCall (stem : List ℕ) (s : Slices) (p q a b : List ℕ) (r : ℕ) : Type 0 where
-  pub number : r ≡ returned (setNumbers (judge stem s p .0)) a
-  pub answer : b ≡ answerAfter (setNumbers (judge stem s p .0)) a
-  pub places : q ≡ whereFits a (judge stem s p .1) p
-  pub demand3 : answerSize ≤ length a → Demand3 stem s p (judge stem s p .0) q
+pub record JudgeCall (caller : Caller) (s : Slices) (p q a b : List ℕ) (r : ℕ) : Type 0 where
+  pub number : r ≡ returned (setNumbers (judge caller s p .0)) a
+  pub answer : b ≡ answerAfter (setNumbers (judge caller s p .0)) a
+  pub places : q ≡ whereFits a (judge caller s p .1) p
+  pub demand3 : answerSize ≤ length a → Demand3 caller s p (judge caller s p .0) q
   -- demand 3 in the returned number: 0 exactly when the answer array is long enough, the stem good, the places enough, and some lawful record fits
-  pub accepted : (r ≡ 0) ↔ ((answerSize ≤ length a) × (goodStem stem ≡ true) × (leastPlaces ≤ length p) × HasRecord stem s)
+  pub accepted : (r ≡ 0) ↔ ((answerSize ≤ length a) × (goodStem (caller .stem) ≡ true) × (leastPlaces ≤ length p) × HasRecord caller s)
   -- what any other number but `tooShort` leaves
   pub leaves : Leaves ((answerSize ≤ length a) × ¬ (r ≡ 0)) p q
 

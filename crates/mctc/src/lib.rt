@@ -10,7 +10,7 @@ ghost use Rattle.files.specs.Alone as F;
 ghost use Rattle.writing.specs.Writing as W;
 ghost use Rattle.names.specs.Names as N;
 ghost use Rattle.sets.specs.Judge as J;
-ghost use Rattle.sets.specs.Records.{slicesOf};
+ghost use Rattle.sets.specs.Records.{callerOf, slicesOf};
 ghost use Rattle.columns.specs.Column as C;
 ghost use Rattle.mctc.specs.Answers.{answerSize, refusalNumbers, readNumbers, writeNumbers, nameNumbers, kindNumbers, markNumber, setNumbers, dueNumbers, Room, Filled};
 ghost use Rattle.mctc.specs.Calls.{ReadCall, WriteCall, NameCall, KindCall, JudgeCall, DueCall};
@@ -123,7 +123,7 @@ pub extern "C" fn mctc_judge(
     places: &mut [u32],
     answer: &mut [u32],
 ) -> u32
-    ensures { λ r. ⌜ JudgeCall (now (stem .entry)) (slicesOf (now (ac2 .entry)) (now (acc .entry)) (now (drift .entry)) (now (suspension .entry)) (now (gas .entry)) (now (identification .entry))) (now (places .entry)) (now (places .exit)) (now (answer .entry)) (now (answer .exit)) r ⌝ }
+    ensures { λ r. ⌜ JudgeCall (callerOf (now (stem .entry))) (slicesOf (now (ac2 .entry)) (now (acc .entry)) (now (drift .entry)) (now (suspension .entry)) (now (gas .entry)) (now (identification .entry))) (now (places .entry)) (now (places .exit)) (now (answer .entry)) (now (answer .exit)) r ⌝ }
 {
     if answer.len() < ANSWER_SIZE {
         return TOO_SHORT;

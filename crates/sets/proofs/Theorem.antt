@@ -18,10 +18,10 @@ use Rattle.files.specs.Files.{AxleCount}
 use Rattle.files.proofs.Pairs.{few-axles}
 use Rattle.due.specs.Booking.{bookingIn}
 use Rattle.places.proofs.Values.{value-length}
-use Rattle.rules.specs.Slices.{goodStem, statedOf, isRead}
+use Rattle.rules.specs.Slices.{goodStem, isRead}
 use Rattle.rules.specs.Marks.{isMarked}
 use Rattle.rules.specs.declared.Stated.{Stated}
-use Rattle.sets.specs.Records.{Slices, isGiven, Record, Read, NotRead, Lawful, Fits}
+use Rattle.sets.specs.Records.{Caller, statedIn, Slices, isGiven, Record, Read, NotRead, Lawful, Fits}
 use Rattle.sets.specs.Judge.{acceptanceOf, FileRead, SetRead, judgeSlices, setFiles, settled, judge}
 use Rattle.sets.specs.declared.Acceptance.{Acceptance}
 use Rattle.sets.specs.Demand3.{IsAccepted, Placed, Returned, Exactly, Unique, IsReturned, Demands}
@@ -100,88 +100,88 @@ module _ (st : Stated) (s : Slices) (p : List ℕ) (enough : leastPlaces ≤ len
 
 -- ---- demand 3
 
-judged : (stem : List ℕ) (s : Slices) (p : List ℕ) → goodStem stem ≡ true → leastPlaces ≤ length p → judge stem s p ≡ settled p (judgeSlices (statedOf stem) s)
+judged : (caller : Caller) (s : Slices) (p : List ℕ) → goodStem (caller .stem) ≡ true → leastPlaces ≤ length p → judge caller s p ≡ settled p (judgeSlices (statedIn caller) s)
 unfolding judge
-judged stem s p g h = rw (le-leb leastPlaces (length p) h, g) refl
+judged caller s p g h = rw (le-leb leastPlaces (length p) h, g) refl
 
 -- what is accepted has a good stem, places enough, and slices that passed
-module _ (stem : List ℕ) (s : Slices) (p : List ℕ) where
+module _ (caller : Caller) (s : Slices) (p : List ℕ) where
   record Passed : Type 0 where
-    good : goodStem stem ≡ true
+    good : goodStem (caller .stem) ≡ true
     enough : leastPlaces ≤ length p
     set : SetRead
-    slices : judgeSlices (statedOf stem) s ≡ acceptance set
+    slices : judgeSlices (statedIn caller) s ≡ acceptance set
 
-  passed : IsAccepted (judge stem s p .0) → Passed
+  passed : IsAccepted (judge caller s p .0) → Passed
   unfolding judge
-  passed a = on (leb leastPlaces (length p)) refl (goodStem stem) refl (judgeSlices (statedOf stem) s) refl a
+  passed a = on (leb leastPlaces (length p)) refl (goodStem (caller .stem)) refl (judgeSlices (statedIn caller) s) refl a
     where
-      on : (b : Bool) → leb leastPlaces (length p) ≡ b → (g : Bool) → goodStem stem ≡ g → (t : Answer SetRead) → judgeSlices (statedOf stem) s ≡ t
+      on : (b : Bool) → leb leastPlaces (length p) ≡ b → (g : Bool) → goodStem (caller .stem) ≡ g → (t : Answer SetRead) → judgeSlices (statedIn caller) s ≡ t
           → IsAccepted (cond b (settled p (require g 2 0 0 t)) (refusal 1 0 0, p) .0) → Passed
       on false e g f t k a = absurd a
       on true e false f t k a = absurd a
       on true e true f (refusal n i l) k a = absurd a
       on true e true f (acceptance x) k a = record { good = f; enough = leb-true leastPlaces (length p) e; set = x; slices = k }
 
-  exactly-one : Exactly stem s p (judge stem s p .0)
+  exactly-one : Exactly caller s p (judge caller s p .0)
   exactly-one = (
     λ a. let v = passed a in
-        let w = slices-sound (statedOf stem) s (v .set) (v .slices) in
-        (v .good, v .enough, (recordOf s (v .set), passed-lawful (statedOf stem) s (v .set) w, passed-fits (statedOf stem) s (v .set) w)),
+        let w = slices-sound (statedIn caller) s (v .set) (v .slices) in
+        (v .good, v .enough, (recordOf s (v .set), passed-lawful (statedIn caller) s (v .set) w, passed-fits (statedIn caller) s (v .set) w)),
     λ h. let r = h .2 in
-        let w = slices-complete (statedOf stem) s (r .0) (r .1) (r .2) in
-        subst (λ (y : Answer Acceptance × List ℕ). IsAccepted (y .0)) (sym (judged stem s p (h .0) (h .1) ∙ ap (settled p) (w .1))) tt,
+        let w = slices-complete (statedIn caller) s (r .0) (r .1) (r .2) in
+        subst (λ (y : Answer Acceptance × List ℕ). IsAccepted (y .0)) (sym (judged caller s p (h .0) (h .1) ∙ ap (settled p) (w .1))) tt,
   )
 
-  unique-record : Unique stem s
+  unique-record : Unique caller s
   unique-record q r lq fq lr fr =
-      let v = slices-complete (statedOf stem) s q lq fq in
-      let w = slices-complete (statedOf stem) s r lr fr in
+      let v = slices-complete (statedIn caller) s q lq fq in
+      let w = slices-complete (statedIn caller) s r lr fr in
       let e : v .0 ≡ w .0 = cc (v .1, w .1) in
       sym (v .2) ∙ ap (recordOf s) e ∙ w .2
 
-  returned-record : IsReturned stem s p (judge stem s p .0) (judge stem s p .1)
+  returned-record : IsReturned caller s p (judge caller s p .0) (judge caller s p .1)
   returned-record a r l f =
       let v = passed a in
-      let w = slices-complete (statedOf stem) s r l f in
+      let w = slices-complete (statedIn caller) s r l f in
       let x : SetRead = w .0 in
-      let t = slices-sound (statedOf stem) s x (w .1) in
-      subst (λ (y : Answer Acceptance × List ℕ). Returned r s p (y .0) (y .1)) (sym (judged stem s p (v .good) (v .enough) ∙ ap (settled p) (w .1)))
-      (subst (λ (q : Record). Returned q s p (acceptance (acceptanceOf (λ f. x .file f .axles) (λ f. x .file f .values))) (setFiles files x (cleared leastPlaces p))) (w .2) (passed-returned (statedOf stem) s p (v .enough) x t))
+      let t = slices-sound (statedIn caller) s x (w .1) in
+      subst (λ (y : Answer Acceptance × List ℕ). Returned r s p (y .0) (y .1)) (sym (judged caller s p (v .good) (v .enough) ∙ ap (settled p) (w .1)))
+      (subst (λ (q : Record). Returned q s p (acceptance (acceptanceOf (λ f. x .file f .axles) (λ f. x .file f .values))) (setFiles files x (cleared leastPlaces p))) (w .2) (passed-returned (statedIn caller) s p (v .enough) x t))
 
 -- ---- what a judging leaves in the places
 
 -- what holds of places that stay, of those cleared, and of those of a set that passed
 module _ (P : List ℕ → List ℕ → Type 0) (same : (p : List ℕ) → P p p) (cleared-so : (p : List ℕ) → leastPlaces ≤ length p → P (cleared leastPlaces p) p)
     (filled-so : (p : List ℕ) → leastPlaces ≤ length p → (x : SetRead) → ((f : File) → length (x .file f .pairs) ≤ room f) → P (setFiles files x (cleared leastPlaces p)) p) where
-  of-places : (stem : List ℕ) (s : Slices) (p : List ℕ) → P (judge stem s p .1) p
+  of-places : (caller : Caller) (s : Slices) (p : List ℕ) → P (judge caller s p .1) p
   unfolding judge
-  of-places stem s p = on (leb leastPlaces (length p)) refl
+  of-places caller s p = on (leb leastPlaces (length p)) refl
     where
       step : Answer SetRead
-      step = require (goodStem stem) 2 0 0 (judgeSlices (statedOf stem) s)
+      step = require (goodStem (caller .stem)) 2 0 0 (judgeSlices (statedIn caller) s)
 
       after : (t : Answer SetRead) → step ≡ t → leastPlaces ≤ length p → P (settled p t .1) p
       after (refusal k f l) e h = cleared-so p h
       after (acceptance x) e h =
-          let w = slices-sound (statedOf stem) s x (require-inv (goodStem stem) 2 0 0 (judgeSlices (statedOf stem) s) x e .1) in
-          filled-so p h x (fit (statedOf stem) s p h x w)
+          let w = slices-sound (statedIn caller) s x (require-inv (goodStem (caller .stem)) 2 0 0 (judgeSlices (statedIn caller) s) x e .1) in
+          filled-so p h x (fit (statedIn caller) s p h x w)
 
       on : (b : Bool) → leb leastPlaces (length p) ≡ b → P (cond b (settled p step) (refusal 1 0 0, p) .1) p
       on true q = after step refl (leb-true leastPlaces (length p) q)
       on false q = same p
 
-module _ (stem : List ℕ) (s : Slices) (p : List ℕ) where
-  stay : length p < leastPlaces → judge stem s p .1 ≡ p
+module _ (caller : Caller) (s : Slices) (p : List ℕ) where
+  stay : length p < leastPlaces → judge caller s p .1 ≡ p
   unfolding judge
   stay h = rw (lt-leb leastPlaces (length p) h) refl
 
-  zero-after : ¬ IsAccepted (judge stem s p .0) → leastPlaces ≤ length p → (j : ℕ) → j < leastPlaces → getD (judge stem s p .1) j 0 ≡ 0
+  zero-after : ¬ IsAccepted (judge caller s p .0) → leastPlaces ≤ length p → (j : ℕ) → j < leastPlaces → getD (judge caller s p .1) j 0 ≡ 0
   unfolding judge
   zero-after n l j h = rw (le-leb leastPlaces (length p) l) (after step (rw (le-leb leastPlaces (length p) l) at n))
     where
       step : Answer SetRead
-      step = require (goodStem stem) 2 0 0 (judgeSlices (statedOf stem) s)
+      step = require (goodStem (caller .stem)) 2 0 0 (judgeSlices (statedIn caller) s)
 
       after : (t : Answer SetRead) → ¬ IsAccepted (settled p t .0) → getD (settled p t .1) j 0 ≡ 0
       after (refusal a b c) n = cleared-zero leastPlaces p j h
@@ -189,11 +189,11 @@ module _ (stem : List ℕ) (s : Slices) (p : List ℕ) where
 
 pub theorem : Demands
 theorem = record {
-  demand3 = λ stem s p. record { exactly = exactly-one stem s p; unique = unique-record stem s p; returned = returned-record stem s p };
-  leaves = λ stem s p. record {
-    zero = zero-after stem s p;
-    short = stay stem s p;
-    beyond = of-places (λ q p. drop leastPlaces q ≡ drop leastPlaces p) (λ p. refl) (λ p h. cleared-drop leastPlaces p) (λ p h x k. places-beyond x k p h) stem s p;
-    same-length = of-places (λ q p. length q ≡ length p) (λ p. refl) (λ p h. cleared-length leastPlaces p h) (λ p h x k. places-length x k p h) stem s p;
+  demand3 = λ caller s p. record { exactly = exactly-one caller s p; unique = unique-record caller s p; returned = returned-record caller s p };
+  leaves = λ caller s p. record {
+    zero = zero-after caller s p;
+    short = stay caller s p;
+    beyond = of-places (λ q p. drop leastPlaces q ≡ drop leastPlaces p) (λ p. refl) (λ p h. cleared-drop leastPlaces p) (λ p h x k. places-beyond x k p h) caller s p;
+    same-length = of-places (λ q p. length q ≡ length p) (λ p. refl) (λ p h. cleared-length leastPlaces p h) (λ p h x k. places-length x k p h) caller s p;
   };
 }

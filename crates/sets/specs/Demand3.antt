@@ -9,8 +9,8 @@ use Rattle.refusals.specs.Answer.{Answer, refusal, acceptance}
 use Rattle.places.specs.Places.{startOf, lengthOf, valueAt}
 use Rattle.tables.specs.File.{File, sections, room, firstPair, leastPlaces}
 use Rattle.reading.specs.Fitting.{StartOf}
-use Rattle.rules.specs.Slices.{goodStem, statedOf}
-use Rattle.sets.specs.Records.{Slices, Record, Lawful, Fits}
+use Rattle.rules.specs.Slices.{goodStem}
+use Rattle.sets.specs.Records.{Caller, statedIn, Slices, Record, Lawful, Fits}
 use Rattle.sets.specs.Judge.{acceptanceOf, judge}
 use Rattle.sets.specs.declared.Acceptance.{Acceptance}
 
@@ -41,26 +41,26 @@ pub record Returned (r : Record) (s : Slices) (before : List ℕ) (answer : Answ
   pub same-length : length after ≡ length before
 
 -- some lawful record fits the set
-abbrev pub HasRecord : List ℕ → Slices → Type 0
-HasRecord stem s = (r : Record) × Lawful (statedOf stem) r × Fits r s
+abbrev pub HasRecord : Caller → Slices → Type 0
+HasRecord caller s = (r : Record) × Lawful (statedIn caller) r × Fits r s
 
 -- (a) "given a good stem and enough places, a set is accepted exactly when some lawful record fits it"; without these it is not accepted
-abbrev pub Exactly : List ℕ → Slices → List ℕ → Answer Acceptance → Type 0
-Exactly stem s before answer = IsAccepted answer ↔ ((goodStem stem ≡ true) × (leastPlaces ≤ length before) × HasRecord stem s)
+abbrev pub Exactly : Caller → Slices → List ℕ → Answer Acceptance → Type 0
+Exactly caller s before answer = IsAccepted answer ↔ ((goodStem (caller .stem) ≡ true) × (leastPlaces ≤ length before) × HasRecord caller s)
 
 -- (b) any two lawful records that fit it are the same
-abbrev pub Unique : List ℕ → Slices → Type 0
-Unique stem s = (q r : Record) → Lawful (statedOf stem) q → Fits q s → Lawful (statedOf stem) r → Fits r s → q ≡ r
+abbrev pub Unique : Caller → Slices → Type 0
+Unique caller s = (q r : Record) → Lawful (statedIn caller) q → Fits q s → Lawful (statedIn caller) r → Fits r s → q ≡ r
 
 -- (c) on acceptance answer and places are those of the lawful record that fits
-abbrev pub IsReturned : List ℕ → Slices → List ℕ → Answer Acceptance → List ℕ → Type 0
-IsReturned stem s before answer after = IsAccepted answer → (r : Record) → Lawful (statedOf stem) r → Fits r s → Returned r s before answer after
+abbrev pub IsReturned : Caller → Slices → List ℕ → Answer Acceptance → List ℕ → Type 0
+IsReturned caller s before answer after = IsAccepted answer → (r : Record) → Lawful (statedIn caller) r → Fits r s → Returned r s before answer after
 
 -- demand 3 of an answer and of the places before and after it
-pub record Demand3 (stem : List ℕ) (s : Slices) (before : List ℕ) (answer : Answer Acceptance) (after : List ℕ) : Type 0 where
-  pub exactly : Exactly stem s before answer
-  pub unique : Unique stem s
-  pub returned : IsReturned stem s before answer after
+pub record Demand3 (caller : Caller) (s : Slices) (before : List ℕ) (answer : Answer Acceptance) (after : List ℕ) : Type 0 where
+  pub exactly : Exactly caller s before answer
+  pub unique : Unique caller s
+  pub returned : IsReturned caller s before answer after
 
 -- what a judging leaves in the places, where `refused` says that the set was refused
 pub record Leaves (refused : Type 0) (before after : List ℕ) : Type 0 where
@@ -74,5 +74,5 @@ pub record Leaves (refused : Type 0) (before after : List ℕ) : Type 0 where
 
 -- the demands of the judge's definition
 pub record Demands : Type 0 where
-  pub demand3 : (stem : List ℕ) (s : Slices) (p : List ℕ) → Demand3 stem s p (judge stem s p .0) (judge stem s p .1)
-  pub leaves : (stem : List ℕ) (s : Slices) (p : List ℕ) → Leaves (¬ IsAccepted (judge stem s p .0)) p (judge stem s p .1)
+  pub demand3 : (caller : Caller) (s : Slices) (p : List ℕ) → Demand3 caller s p (judge caller s p .0) (judge caller s p .1)
+  pub leaves : (caller : Caller) (s : Slices) (p : List ℕ) → Leaves (¬ IsAccepted (judge caller s p .0)) p (judge caller s p .1)

@@ -16,7 +16,7 @@ use Rattle.due.specs.Due.{firstNotAsDue}
 use Rattle.due.specs.declared.Conditions.{Conditions}
 use Rattle.rules.specs.Rule.{firstBroken}
 use Rattle.rules.specs.Rules.{rulesOf}
-use Rattle.rules.specs.Slices.{goodStem, statedOf, sliceRight, isRead, identificationRight}
+use Rattle.rules.specs.Slices.{goodStem, sliceRight, isRead, identificationRight}
 use Rattle.rules.specs.Identification.{sevenOf, sameFields}
 use Rattle.rules.specs.Marks.{isMarked}
 use Rattle.rules.specs.declared.Stated.{Stated}
@@ -25,7 +25,7 @@ use Rattle.rules.specs.declared.RuleCheck.the-variants.{Kept, Broken}
 use Rattle.serial.specs.Reading.{readIdentification, addressIn, sevenIn}
 use Rattle.serial.specs.declared.IdentificationRead.{IdentificationRead}
 use Rattle.serial.specs.declared.IdentificationRead.the-variants.{Malformed, Fields}
-use Rattle.sets.specs.Records.{Slices, isGiven}
+use Rattle.sets.specs.Records.{Caller, statedIn, Slices, isGiven}
 use Rattle.sets.specs.declared.Acceptance.{Acceptance}
 use Rattle.sets.specs.declared.SetAnswer.{SetAnswer}
 use Rattle.sets.specs.declared.SetAnswer.the-variants.{Accepted, Refused}
@@ -180,8 +180,8 @@ settled p (refusal k f l) = (refusal k f l, cleared leastPlaces p)
 settled p (acceptance x) = (acceptance (acceptanceOf (λ f. x .file f .axles) (λ f. x .file f .values)), setFiles files x (cleared leastPlaces p))
 
 -- "Order: 1, 2, then slices 1 to 6"; with 1 the places stay
-unfoldable pub judge : List ℕ → Slices → List ℕ → Answer Acceptance × List ℕ
-judge stem s p =
+unfoldable pub judge : Caller → Slices → List ℕ → Answer Acceptance × List ℕ
+judge caller s p =
     cond (leb leastPlaces (length p))
-    (settled p (require (goodStem stem) 2 0 0 (judgeSlices (statedOf stem) s)))
+    (settled p (require (goodStem (caller .stem)) 2 0 0 (judgeSlices (statedIn caller) s)))
     (refusal 1 0 0, p)

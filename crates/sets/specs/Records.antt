@@ -13,7 +13,7 @@ use Rattle.due.specs.Conditions.{conditionsOf}
 use Rattle.due.specs.Due.{isAsDue}
 use Rattle.rules.specs.Rule.{allHold}
 use Rattle.rules.specs.Rules.{rulesOf}
-use Rattle.rules.specs.Slices.{sliceRight, isRead, identificationRight}
+use Rattle.rules.specs.Slices.{statedOf, sliceRight, isRead, identificationRight}
 use Rattle.rules.specs.Identification.{sevenOf}
 use Rattle.rules.specs.declared.Stated.{Stated}
 use Rattle.serial.specs.Identification.{identificationOf, addressOk}
@@ -24,6 +24,16 @@ use Rattle.serial.specs.Identification.{identificationOf, addressOk}
 pub record Slices : Type 0 where
   pub file : File → List ℕ
   pub identification : List ℕ
+
+-- what the caller states besides the slices: the stem of the files
+pub record Caller : Type 0 where
+  pub stem : List ℕ
+
+abbrev pub callerOf : List ℕ → Caller
+callerOf s = record { stem = s }
+
+abbrev pub statedIn : Caller → Stated
+statedIn c = statedOf (c .stem)
 
 -- what there is for each file, in their order
 abbrev pub eachFile : {A : Type 0} → A → A → A → A → A → File → A
