@@ -23,13 +23,13 @@ use Rattle.rules.specs.declared.Stated.{Stated}
 use Rattle.due.proofs.Pairs.{gas-count}
 use Rattle.serial.specs.Reading.{readIdentification}
 use Rattle.sets.specs.Records.{Slices, isGiven}
-use Rattle.sets.specs.Judge.{FileRead, SetRead, notRead, judgeBooking, judgeFields, judgeFile, judgeIdentification, fileGiven, identificationStep, setRead, Slice, fileSlice, identificationSlice, laterSlices, eachAccepted, judgeSlices, setFiles}
+use Rattle.sets.specs.Judge.{FileRead, SetRead, notRead, judgeBooking, judgeFields, judgeFile, judgeIdentification, fileGiven, identificationStep, setRead, Slice, fileSlice, identificationSlice, laterSlices, eachAccepted, judgeSlices, setFiles, acceptanceWith}
 use Rattle.sets.specs.declared.SetAnswer.{SetAnswer}
 use Rattle.sets.specs.declared.SetAnswer.the-variants.{Accepted, Refused}
 use Rattle.sets.proofs.File.{FilePassed, Passed, file-sound, booking-file}
 use Rattle.sets.proofs.Set.{each-sound}
-use Rattle.judge.specs.Steps.{fileNumbered, IsNumber, figuresOf, figuresIn, acceptanceWith, IsBooking, FileReady, JudgesFile, JudgesBooking, Asked, Next, identificationJudged, JudgesIdentification, IdentificationReady, laterFiles, acceptanceIn, JudgesSlices, JudgesLater}
-use Rattle.judge.specs.declared.Figures.{Figures}
+use Rattle.judge.specs.Steps.{fileNumbered, IsNumber, figuresOf, figuresIn, IsBooking, FileReady, JudgesFile, JudgesBooking, Asked, Next, identificationJudged, JudgesIdentification, IdentificationReady, laterFiles, acceptanceIn, JudgesSlices, JudgesLater}
+use Rattle.sets.specs.declared.Figures.{Figures}
 use Rattle.judge.specs.declared.Booked.{Booked}
 use Rattle.judge.specs.declared.Step.{Step}
 use Rattle.judge.specs.declared.Step.the-variants.{Stop, Go}

@@ -31,7 +31,7 @@ use Rattle.due.specs.Values.{newValues, Held}
 use Rattle.due.proofs.Pairs.{new-count}
 use Rattle.sets.specs.Judge.{fileRead, fileChecks, firstFailed, checkedFile, judgeReading, judgeText}
 use Rattle.judge.specs.Steps.{fileNumbered, IsNumber, figuresOf, IsBooking, FileReady, ValuesReady, valuesStep, JudgesValues, JudgesFile, textJudged, JudgesBooking}
-use Rattle.judge.specs.declared.Figures.{Figures}
+use Rattle.sets.specs.declared.Figures.{Figures}
 use Rattle.judge.specs.declared.Step.{Step}
 use Rattle.judge.specs.declared.Step.the-variants.{Stop, Go}
 use Rattle.judge.specs.declared.BookingStep.the-variants as B

@@ -33,9 +33,9 @@ use Rattle.rules.specs.declared.BrokenRule.{BrokenRule}
 use Rattle.rules.specs.declared.RuleCheck.{RuleCheck}
 use Rattle.rules.specs.declared.RuleCheck.the-variants.{Kept, Broken}
 use Rattle.due.proofs.Pairs.{held-number, fixed-held}
-use Rattle.sets.specs.Judge.{checkRule, checkedFile, firstFailed}
-use Rattle.judge.specs.Steps.{fileNumbered, IsNumber, figuresFrom, ValuesReady, readAt, valuesStep, JudgesValues}
-use Rattle.judge.specs.declared.Figures as K
+use Rattle.sets.specs.Judge.{checkRule, checkedFile, firstFailed, figuresFrom}
+use Rattle.judge.specs.Steps.{fileNumbered, IsNumber, ValuesReady, readAt, valuesStep, JudgesValues}
+use Rattle.sets.specs.declared.Figures as K
 use Rattle.judge.specs.declared.Step.the-variants.{Stop, Go}
 use Rattle.judge.proofs.Numbers.{by-file, table, few-entries}
 

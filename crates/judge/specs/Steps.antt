@@ -16,14 +16,13 @@ use Rattle.due.specs.Booking.{bookingIn}
 use Rattle.due.specs.declared.Booking.{Booking}
 use Rattle.tables.specs.Value.{pairsOf, valuesOf}
 use Rattle.due.specs.Values.{newValues, Held}
-use Rattle.rules.specs.Marks.{isMarked}
 use Rattle.rules.specs.declared.Stated.{Stated}
 use Rattle.sets.specs.Records.{Slices, isGiven}
-use Rattle.sets.specs.Judge.{acceptanceOf, FileRead, SetRead, fileRead, checkedFile, firstFailed, fileChecks, judgeText, judgeFile, judgeIdentification, setRead, laterSlices, eachAccepted, setFiles, answerIs}
+use Rattle.sets.specs.Judge.{figuresFrom, acceptanceOf, FileRead, SetRead, fileRead, checkedFile, firstFailed, fileChecks, judgeText, judgeFile, judgeIdentification, setRead, laterSlices, eachAccepted, setFiles, answerIs}
 use Rattle.sets.specs.declared.Acceptance.{Acceptance}
 use Rattle.sets.specs.declared.SetAnswer.{SetAnswer}
 use Rattle.sets.specs.declared.SetAnswer.the-variants.{Accepted, Refused}
-use Rattle.judge.specs.declared.Figures.{Figures}
+use Rattle.sets.specs.declared.Figures.{Figures}
 use Rattle.judge.specs.declared.Step.{Step}
 use Rattle.judge.specs.declared.Step.the-variants.{Stop, Go}
 use Rattle.judge.specs.declared.BookingStep.{BookingStep}
@@ -38,10 +37,6 @@ IsNumber n = fileNumber (fileNumbered n) ≡ n
 
 -- ---- what acceptance takes from a file
 
--- of a file of n axles with these values
-abbrev pub figuresFrom : File → ℕ → List (List ℕ) → Figures
-figuresFrom f n vs = record { axles = n; mark = isMarked f vs }
-
 abbrev pub figuresOf : File → FileRead → Figures
 figuresOf f g = figuresFrom f (g .axles) (g .values)
 
@@ -52,16 +47,6 @@ noFigures = record { axles = 0; mark = false }
 abbrev pub figuresIn : Step → Figures
 figuresIn (Stop x) = noFigures
 figuresIn (Go y) = y
-
--- the acceptance, from the figures of drift, suspension and gas
-abbrev pub acceptanceWith : Figures → Figures → Figures → Acceptance
-acceptanceWith d u g = record {
-  driftaxles = d .axles;
-  suspensionaxles = u .axles;
-  driftmark = d .mark;
-  suspensionmark = u .mark;
-  gasmark = g .mark;
-}
 
 -- ---- one file
 

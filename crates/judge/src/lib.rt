@@ -7,8 +7,8 @@ ghost use Rattle.tables.specs.Row.{mostRows};
 ghost use Rattle.tables.specs.Value.{valuesOf};
 ghost use Rattle.due.specs.Values.{Held, NumberHeld};
 ghost use Rattle.sets.specs.Records.{callerOf, slicesOf};
-ghost use Rattle.sets.specs.Judge.{judgeText, judgeBooking, judgeSlices};
-ghost use Rattle.judge.specs.Steps.{fileNumbered, IsNumber, figuresFrom, figuresIn, acceptanceWith, IsBooking, FileReady, ValuesReady, JudgesValues, JudgesFile, textJudged, fileJudged, JudgesBooking, Asked, Next, identificationJudged, JudgesIdentification, IdentificationReady, identificationRefused, JudgesSlices, JudgesLater};
+ghost use Rattle.sets.specs.Judge.{figuresFrom, acceptanceWith, judgeText, judgeBooking, judgeSlices};
+ghost use Rattle.judge.specs.Steps.{fileNumbered, IsNumber, figuresIn, IsBooking, FileReady, ValuesReady, JudgesValues, JudgesFile, textJudged, fileJudged, JudgesBooking, Asked, Next, identificationJudged, JudgesIdentification, IdentificationReady, identificationRefused, JudgesSlices, JudgesLater};
 ghost use Rattle.judge.specs.Judged.{SetJudged};
 use due::Booking;
 use files::TextAnswer;
@@ -18,6 +18,7 @@ use rules::RuleCheck;
 use rules::Stated;
 use serial::IdentificationRead;
 use sets::Acceptance;
+use sets::Figures;
 use sets::SetAnswer;
 use tables::AC2;
 use tables::ACC;
@@ -26,12 +27,6 @@ use tables::GAS;
 use tables::IDENTIFICATION;
 use tables::MOST_ROWS;
 use tables::SUSPENSION;
-
-// What acceptance takes from a file that passed: its axle count, and whether its CodErrore is filled.
-struct Figures {
-    axles: u32,
-    mark: bool,
-}
 
 // Of a file that is not read, and of slice 6.
 const NO_FIGURES: Figures = Figures {

@@ -26,6 +26,7 @@ use Rattle.serial.specs.Reading.{readIdentification, addressIn, sevenIn}
 use Rattle.serial.specs.declared.IdentificationRead.{IdentificationRead}
 use Rattle.serial.specs.declared.IdentificationRead.the-variants.{Malformed, Fields}
 use Rattle.sets.specs.Records.{Caller, statedIn, Slices, isGiven}
+use Rattle.sets.specs.declared.Figures.{Figures}
 use Rattle.sets.specs.declared.Acceptance.{Acceptance}
 use Rattle.sets.specs.declared.SetAnswer.{SetAnswer}
 use Rattle.sets.specs.declared.SetAnswer.the-variants.{Accepted, Refused}
@@ -37,16 +38,28 @@ abbrev pub answerIs : SetAnswer → Answer Acceptance
 answerIs (Accepted a) = acceptance a
 answerIs (Refused x) = refusalOf x
 
--- "acceptance, with two axle counts (0 for a file not given) and a mark per result file, set exactly when it is given with CodErrore
--- filled": from the files' axle counts and values. Of a file that is not given no value is there, so no mark is set (`not-given`).
-abbrev pub acceptanceOf : (File → ℕ) → (File → List (List ℕ)) → Acceptance
-acceptanceOf axles values = record {
-  driftaxles = axles drift;
-  suspensionaxles = axles suspension;
-  driftmark = isMarked drift (values drift);
-  suspensionmark = isMarked suspension (values suspension);
-  gasmark = isMarked gas (values gas);
+-- what acceptance takes from a file of n axles with these values: "a mark .., set exactly when it is given with CodErrore filled".
+-- Of a file that is not given no value is there, so no mark is set (`not-given`).
+abbrev pub figuresFrom : File → ℕ → List (List ℕ) → Figures
+figuresFrom f n vs = record { axles = n; mark = isMarked f vs }
+
+-- "acceptance, with two axle counts (0 for a file not given) and a mark per result file": of drift, suspension and gas
+abbrev pub acceptanceWith : Figures → Figures → Figures → Acceptance
+acceptanceWith d u g = record {
+  driftaxles = d .axles;
+  suspensionaxles = u .axles;
+  driftmark = d .mark;
+  suspensionmark = u .mark;
+  gasmark = g .mark;
 }
+
+-- from the files' axle counts and values
+abbrev pub acceptanceOf : (File → ℕ) → (File → List (List ℕ)) → Acceptance
+acceptanceOf axles values =
+    acceptanceWith
+    (figuresFrom drift (axles drift) (values drift))
+    (figuresFrom suspension (axles suspension) (values suspension))
+    (figuresFrom gas (axles gas) (values gas))
 
 -- ---- the checks of a file that is read
 
