@@ -1,9 +1,9 @@
 -- A file beside what AC2 says: what each call of `column_beside` asks, and a law for each way out. Assumes nothing.
-use Prim.Native.Nat.{ℕ, _+_, _-_, _≤_, _<_}
+use Prim.Native.Nat.{ℕ, _+_, _≤_, _<_}
 use native.Mathlib.Omega.{arith}
 use mathlib.Core.Path.{_≡_, refl, ap, ap₂, sym, subst, _∙_}
 use mathlib.Core.Bool.{Bool, true, false, cond}
-use mathlib.Core.List.{List, [], _++_, map}
+use mathlib.Core.List.{List, _++_, map}
 use lib.ListN.{length, drop}
 use borrow.Author.Tests.{le-leb, lt-leb}
 use Rattle.refusals.specs.Refusals.{numberOf, refusalWith}
@@ -17,9 +17,8 @@ use Rattle.tables.specs.File.{File, ofNumber, fixedSections, entries, firstPair
 use Rattle.tables.proofs.Files.{table-of}
 use Rattle.tables.proofs.Numbers.{first-pairs}
 use Rattle.tables.proofs.Axles.{entries-most}
-use Rattle.reading.specs.Reading.{Reading}
 use Rattle.files.specs.Files.{axlesOf}
-use Rattle.files.specs.Alone.{readAlone, ReadsAlone}
+use Rattle.files.specs.Alone.{ReadsAlone}
 use Rattle.files.specs.declared.FileAnswer.{FileAnswer}
 use Rattle.files.specs.declared.FileAnswer.the-variants as FileAnswer
 use Rattle.files.proofs.Pairs.{AloneRead, rooms-fit, refused-inv, by-alone, alone-few, alone-sections, alone-length, alone-pairs, alone-cleared}
@@ -32,7 +31,7 @@ use Rattle.due.specs.declared.Conditions.{Conditions}
 use Rattle.due.proofs.Entries.{due-file, conditions-file}
 use Rattle.rules.specs.Slices.{isRead}
 use Rattle.due.proofs.Pairs.{held-number, fixed-held}
-use Rattle.columns.specs.Column.{numbersFrom, columnOf, Outcome, refuses, gives, givesFile, givesRead, givesBeside, fitting, Gives}
+use Rattle.columns.specs.Column.{numbersFrom, columnOf, FileColumn, noColumn, columnRead, columnOfText, columnBeside, fitting, Gives}
 use Rattle.columns.specs.declared.ColumnAnswer.{ColumnAnswer}
 use Rattle.columns.specs.declared.ColumnAnswer.the-variants.{Column, Refused}
 use Rattle.columns.proofs.Numbers.{numbers-length, numbers-same}
@@ -88,43 +87,38 @@ module _ (file : ℕ) (t p q : List ℕ) (n : ℕ) (x : AloneRead file t p q n) 
         numbers-same (λ i. dueIn file i c) (λ i. dueOf f i (conditionsOf f a own)) (λ i. ap₂ (λ (j : ℕ) (y : Conditions). dueIn j i y) (x .number-is) conditions-are ∙ due-file f i (conditionsOf f a own)) 0 m
         ∙ ap (numbersFrom (λ i. dueOf f i (conditionsOf f a own)) 0) (em ∙ ap (λ (j : ℕ). length (entries f j)) (x .axles-are))
 
-  column-size : (a : List (List ℕ)) → length (columnOf f (axlesOf f (x .count)) a own) ≡ size
+  abbrev whole : List (List ℕ) → FileColumn
+  whole a = columnRead f a t (x .count) (x .pairs)
+
+  column-size : (a : List (List ℕ)) → length (whole a .numbers) ≡ size
   unfolding columnOf
   column-size a =
       numbers-length (λ i. dueOf f i (conditionsOf f a own)) 0 (length (entries f (axlesOf f (x .count))))
       ∙ ap (λ (j : ℕ). length (entries f j)) (sym (x .axles-are))
 
-  outcome-is : (a : List (List ℕ)) → givesRead file a t (readAlone file t) ≡ givesFile f a t (x .count) (x .pairs)
-  outcome-is a = ap (givesRead file a t) (x .reading-is) ∙ by-alone x (refuses 16 file 0) (λ f. givesFile f a t (x .count) (x .pairs))
+  text-column : (a : List (List ℕ)) → columnOfText file a t ≡ acceptance (whole a)
+  text-column a =
+      rw (x .reading-is) (by-alone x (refusal 16 file 0) (λ f. acceptance (columnRead f a t (x .count) (x .pairs))))
 
   -- ---- 18, or the column
 
   module _ (out : List ℕ) (a : List (List ℕ)) (m : ℕ) (em : m ≡ size) where
-    abbrev read-as : Outcome
-    read-as = givesFile f a t (x .count) (x .pairs)
-
-    many : length (columnOf f (axlesOf f (x .count)) a own) ≡ m
+    many : length (whole a .numbers) ≡ m
     many = column-size a ∙ sym em
 
     pub too-short : length out < m → (k : ℕ) → k ≡ leastPlaces
-        → Gives file (fitting file (length out) (givesRead file a t (readAlone file t))) p (cleared k q) out out (Refused (refusalWith OutputTooShort file 0))
+        → Gives file (fitting file (length out) (columnOfText file a t)) p (cleared k q) out out (Refused (refusalWith OutputTooShort file 0))
     too-short l k ek =
-        let o : fitting file (length out) (givesRead file a t (readAlone file t)) ≡ refuses 18 file 0
-        = ap (fitting file (length out)) (outcome-is a)
-        ∙ ap (λ (y : Bool). cond y read-as (refuses 18 file 0)) (lt-leb (length (columnOf f (axlesOf f (x .count)) a own)) (length out) (omega (arith, many, l))) in
-        rw o (record {
+        rw (text-column a, lt-leb (length (whole a .numbers)) (length out) (omega (arith, many, l))) (record {
           answer = refl;
           places = rw (le-leb leastPlaces (length p) (x .enough)) (ap (λ (j : ℕ). cleared j q) ek ∙ alone-cleared x);
           column = refl;
         })
 
-    pub given : m ≤ length out → (c : Conditions) → numbersFrom (λ i. dueIn file i c) 0 m ≡ columnOf f (axlesOf f (x .count)) a own
-        → Gives file (fitting file (length out) (givesRead file a t (readAlone file t))) p q out (numbersFrom (λ i. dueIn file i c) 0 m ++ drop m out) (Column (record { axles = n; count = m }))
+    pub given : m ≤ length out → (c : Conditions) → numbersFrom (λ i. dueIn file i c) 0 m ≡ whole a .numbers
+        → Gives file (fitting file (length out) (columnOfText file a t)) p q out (numbersFrom (λ i. dueIn file i c) 0 m ++ drop m out) (Column (record { axles = n; count = m }))
     given l c ec =
-        let o : fitting file (length out) (givesRead file a t (readAlone file t)) ≡ read-as
-        = ap (fitting file (length out)) (outcome-is a)
-        ∙ ap (λ (y : Bool). cond y read-as (refuses 18 file 0)) (le-leb (length (columnOf f (axlesOf f (x .count)) a own)) (length out) (omega (arith, many, l))) in
-        rw o (record {
+        rw (text-column a, le-leb (length (whole a .numbers)) (length out) (omega (arith, many, l))) (record {
           answer = ap₂ (λ (j y : ℕ). acceptance (record { axles = j; count = y })) (x .axles-are) (sym many);
           places = x .places-are ∙ ap (λ (j : ℕ). setPairs j (x .pairs) (cleared leastPlaces p)) (sym (by-alone x 0 firstPair));
           column = ap₂ (λ (y : List ℕ) (j : ℕ). y ++ drop j out) ec (sym many);
@@ -134,31 +128,26 @@ module _ (file : ℕ) (t p q : List ℕ) (n : ℕ) (x : AloneRead file t p q n) 
 
 module _ (file : ℕ) (t p out : List ℕ) (b : Booking) (u : Bool) (eu : u ≡ ofNumber true (λ f. isRead f b true) file) (a : List (List ℕ)) (eb : b ≡ bookingIn a) where
   abbrev Left : List ℕ → List ℕ → ColumnAnswer → Type 0
-  Left q after r = Gives file (fitting file (length out) (givesBeside file a t)) p q out after r
+  Left q after r = Gives file (fitting file (length out) (columnBeside file a t)) p q out after r
 
-  test : (v : Bool) → u ≡ v → givesBeside file a t ≡ cond v (givesRead file a t (readAlone file t)) (gives 0 [] [])
+  test : (v : Bool) → u ≡ v → columnBeside file a t ≡ cond v (columnOfText file a t) (acceptance noColumn)
   test v e =
-      ap (λ (y : Bool). cond y (givesRead file a t (readAlone file t)) (gives 0 [] []))
+      ap (λ (y : Bool). cond y (columnOfText file a t) (acceptance noColumn))
       (ap (λ (y : Booking). ofNumber true (λ f. isRead f y true) file) (sym eb) ∙ sym eu ∙ e)
 
   pub beside-unread : u ≡ false → (k : ℕ) → k ≡ leastPlaces → Left (cleared k p) out (Column (record { axles = 0; count = 0 }))
   unfolding setPairs
   beside-unread e k ek =
-      let o : fitting file (length out) (givesBeside file a t) ≡ gives 0 [] []
-      = ap (fitting file (length out)) (test false e)
-      ∙ ap (λ (y : Bool). cond y (gives 0 [] []) (refuses 18 file 0)) (le-leb 0 (length out) (omega arith)) in
-      rw o (record { answer = refl; places = ap (λ (j : ℕ). cleared j p) ek; column = refl })
+      rw (test false e, le-leb 0 (length out) (omega arith)) (record { answer = refl; places = ap (λ (j : ℕ). cleared j p) ek; column = refl })
 
   -- of a file that is read
-  pub beside-read : u ≡ true → (q after : List ℕ) (r : ColumnAnswer) → Gives file (fitting file (length out) (givesRead file a t (readAlone file t))) p q out after r → Left q after r
-  beside-read e q after r g = subst (λ (y : Outcome). Gives file (fitting file (length out) y) p q out after r) (sym (test true e)) g
+  pub beside-read : u ≡ true → (q after : List ℕ) (r : ColumnAnswer) → Gives file (fitting file (length out) (columnOfText file a t)) p q out after r → Left q after r
+  beside-read e q after r g = rw (test true e) g
 
   pub beside-refused : u ≡ true → leastPlaces ≤ length p → (q : List ℕ) (r : FileAnswer) → ReadsAlone file t p q r → (x : Refusal) → r ≡ FileAnswer.Refused x → Left q out (Refused x)
   beside-refused e l q r w x ex =
       let v = refused-inv w x ex l in
-      let o : fitting file (length out) (givesRead file a t (readAlone file t)) ≡ refuses (numberOf (x .kind)) file (x .line)
-      = ap (λ (y : Reading). fitting file (length out) (givesRead file a t y)) (v .0) in
-      beside-read e q out (Refused x) (rw o (record {
+      beside-read e q out (Refused x) (rw (v .0) (record {
         answer = ap (λ (m : ℕ). refusal (numberOf (x .kind)) m (x .line)) (sym (v .1));
         places = rw (le-leb leastPlaces (length p) l) (v .2);
         column = refl;

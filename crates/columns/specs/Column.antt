@@ -5,7 +5,7 @@ use mathlib.Core.Bool.{Bool, true, cond, not}
 use mathlib.Core.List.{List, [], _∷_, _++_, map}
 use lib.Dec.{eqb, leb}
 use lib.ListN.{length, drop}
-use Rattle.refusals.specs.Answer.{Answer, refusal, acceptance, refusalOf}
+use Rattle.refusals.specs.Answer.{Answer, refusal, acceptance, refusalOf, require, followed}
 use Rattle.places.specs.Places.{Pair, valueAt, setPairs, cleared}
 use Rattle.tables.specs.File.{File, entries, firstPair, leastPlaces, ofNumber}
 use Rattle.reading.specs.Reading.{Reading, refused, read}
@@ -51,39 +51,48 @@ firstNotAsNumbered i [] xs = i
 firstNotAsNumbered i (k ∷ ks) [] = i
 firstNotAsNumbered i (k ∷ ks) (x ∷ xs) = cond (asNumbered k x) (firstNotAsNumbered (i + 1) ks xs) i
 
--- ---- the outcome
+-- ---- the answer with the column
 
--- document 01's number, file and line of a refusal; else the axle count, the column, and the pairs of the file's values
-pub data Outcome : Type 0 where
-  refuses : (number file line : ℕ) → Outcome
-  gives : (axles : ℕ) → (numbers : List ℕ) → (pairs : List Pair) → Outcome
+-- what is given of a file: its axle count, a number for each entry, and the pairs of its values
+pub record FileColumn : Type 0 where
+  pub axles : ℕ
+  pub numbers : List ℕ
+  pub pairs : List Pair
 
--- of file f, whose text t was read: c sections, and the pairs of its values
-abbrev pub givesFile : File → List (List ℕ) → List ℕ → ℕ → List Pair → Outcome
-givesFile f a t c ps = gives (axlesOf f c) (columnOf f (axlesOf f c) a (map (valueAt t) ps)) ps
+-- of a file that is not read: no entry is there
+abbrev pub noColumn : FileColumn
+noColumn = record { axles = 0; numbers = []; pairs = [] }
 
--- 01, Writing: "a refusal's file is as in writing": the file as handed in. What is read is a file's, 1 to 5.
-abbrev pub givesRead : ℕ → List (List ℕ) → List ℕ → Reading → Outcome
-givesRead file a t (refused k l) = refuses k file l
-givesRead file a t (read c ps ls) = ofNumber (refuses 16 file 0) (λ f. givesFile f a t c ps) file
+-- of file f, whose text t was read: c sections, and the pairs of its values; a for AC2's values
+abbrev pub columnRead : File → List (List ℕ) → List ℕ → ℕ → List Pair → FileColumn
+columnRead f a t c ps =
+    record { axles = axlesOf f c; numbers = columnOf f (axlesOf f c) a (map (valueAt t) ps); pairs = ps }
 
--- Beside AC2's values: 16, 11, then 3 to 9. 01, Bookings, of ACC: "With category L it is not read": no entry is there
-abbrev pub givesBeside : ℕ → List (List ℕ) → List ℕ → Outcome
-givesBeside file a t = cond (ofNumber true (λ f. isRead f (bookingIn a) true) file) (givesRead file a t (readAlone file t)) (gives 0 [] [])
+-- the count of sections, and the pairs; 01, Writing: "a refusal's file is as in writing": the file as handed in
+abbrev pub readAs : ℕ → Reading → Answer (ℕ × List Pair)
+readAs file (refused k l) = refusal k file l
+readAs file (read c ps ls) = acceptance (c, ps)
 
--- AC2 is read first: 11, then 3 to 9
-abbrev pub givesAfter : ℕ → List ℕ → List ℕ → Reading → Outcome
-givesAfter file s t (refused k l) = refuses k 1 l
-givesAfter file s t (read c ps ls) = givesBeside file (map (valueAt s) ps) t
+-- 16, 11, 3 to 9, then the column; what is read is a file's, 1 to 5
+abbrev pub columnOfText : ℕ → List (List ℕ) → List ℕ → Answer FileColumn
+columnOfText file a t =
+    followed (readAs file (readAlone file t))
+    (λ x. ofNumber (refusal 16 file 0) (λ f. acceptance (columnRead f a t (x .0) (x .1))) file)
+
+-- 01, Bookings, of ACC: "With category L it is not read"
+abbrev pub columnBeside : ℕ → List (List ℕ) → List ℕ → Answer FileColumn
+columnBeside file a t =
+    cond (ofNumber true (λ f. isRead f (bookingIn a) true) file) (columnOfText file a t) (acceptance noColumn)
 
 -- 18, where the column has more numbers than there is room for
-abbrev pub fitting : ℕ → ℕ → Outcome → Outcome
-fitting file room (refuses k f l) = refuses k f l
-fitting file room (gives n ds ps) = cond (leb (length ds) room) (gives n ds ps) (refuses 18 file 0)
+abbrev pub fitting : ℕ → ℕ → Answer FileColumn → Answer FileColumn
+fitting file room r = followed r (λ c. require (leb (length (c .numbers)) room) 18 file 0 (acceptance c))
 
--- s for AC2's text, t for the file's, places p; 1, with file 0, comes first
-unfoldable pub dueColumn : ℕ → List ℕ → List ℕ → List ℕ → ℕ → Outcome
-dueColumn file s t p room = cond (leb leastPlaces (length p)) (fitting file room (givesAfter file s t (readAlone 1 s))) (refuses 1 0 0)
+-- s for AC2's text, t for the file's, places p: 1, with file 0; 11, 3 to 9 of AC2; the file beside its values; 18
+unfoldable pub dueColumn : ℕ → List ℕ → List ℕ → List ℕ → ℕ → Answer FileColumn
+dueColumn file s t p room =
+    require (leb leastPlaces (length p)) 1 0 0
+    (fitting file room (followed (readAs 1 (readAlone 1 s)) (λ x. columnBeside file (map (valueAt s) (x .1)) t)))
 
 -- ---- what a call leaves
 
@@ -93,26 +102,27 @@ answerIs (Refused x) = refusalOf x
 answerIs (Column a) = acceptance a
 
 -- the answer, which has no room for the column
-abbrev pub answerOf : Outcome → Answer ColumnAcceptance
-answerOf (refuses k f l) = refusal k f l
-answerOf (gives n ds ps) = acceptance (record { axles = n; count = length ds })
+abbrev pub answerOf : Answer FileColumn → Answer ColumnAcceptance
+answerOf r = followed r (λ c. acceptance (record { axles = c .axles; count = length (c .numbers) }))
 
 -- 01, Writing: "other files' pairs hold 0, after a refusal but 1 all pairs do", and with 1 the places stay
-abbrev pub placesOf : ℕ → Outcome → List ℕ → List ℕ
-placesOf file (refuses k f l) p = cond (leb leastPlaces (length p)) (cleared leastPlaces p) p
-placesOf file (gives n ds ps) p = setPairs (ofNumber 0 firstPair file) ps (cleared leastPlaces p)
+abbrev pub placesOf : ℕ → Answer FileColumn → List ℕ → List ℕ
+placesOf file (refusal k f l) p = cond (leb leastPlaces (length p)) (cleared leastPlaces p) p
+placesOf file (acceptance c) p = setPairs (ofNumber 0 firstPair file) (c .pairs) (cleared leastPlaces p)
 
 -- later numbers stay; refused, all do
-abbrev pub columnAfter : Outcome → List ℕ → List ℕ
-columnAfter (refuses k f l) out = out
-columnAfter (gives n ds ps) out = ds ++ drop (length ds) out
+abbrev pub columnAfter : Answer FileColumn → List ℕ → List ℕ
+columnAfter (refusal k f l) out = out
+columnAfter (acceptance c) out = c .numbers ++ drop (length (c .numbers)) out
 
--- the answer, the places from p to q and the column from out to after are those of the outcome
-pub record Gives (file : ℕ) (o : Outcome) (p q out after : List ℕ) (r : ColumnAnswer) : Type 0 where
+-- the answer, the places from p to q and the column from out to after are those of o
+pub record Gives (file : ℕ) (o : Answer FileColumn) (p q out after : List ℕ) (r : ColumnAnswer) : Type 0 where
   pub answer : answerIs r ≡ answerOf o
   pub places : q ≡ placesOf file o p
   pub column : after ≡ columnAfter o out
 
 -- the step after AC2 was read, of which b is kept: the file beside any values of AC2 that say b
-abbrev pub GivesBeside : ℕ → Booking → List ℕ → List ℕ → List ℕ → List ℕ → List ℕ → ColumnAnswer → Type 0
-GivesBeside file b t p q out after r = (a : List (List ℕ)) → b ≡ bookingIn a → Gives file (fitting file (length out) (givesBeside file a t)) p q out after r
+abbrev pub GivesForBooking : ℕ → Booking → List ℕ → List ℕ → List ℕ → List ℕ → List ℕ → ColumnAnswer → Type 0
+GivesForBooking file b t p q out after r =
+    (a : List (List ℕ)) → b ≡ bookingIn a
+    → Gives file (fitting file (length out) (columnBeside file a t)) p q out after r

@@ -6,7 +6,7 @@ ghost use Prim.Native.Nat.{_≤_};
 ghost use lib.ListN.{length, drop};
 ghost use Rattle.tables.specs.File.{leastPlaces};
 ghost use Rattle.due.specs.Due.{dueIn};
-ghost use Rattle.columns.specs.Column.{dueNumber, numbersFrom, dueColumn, Gives, GivesBeside};
+ghost use Rattle.columns.specs.Column.{dueNumber, numbersFrom, dueColumn, Gives, GivesForBooking};
 use due::Booking;
 use due::Conditions;
 use due::Due;
@@ -40,7 +40,8 @@ fn due_number(due: Due) -> u32
 // The first `count` entries of a file, in entry order.
 fn write_column(file: u32, conditions: Conditions, count: usize, column: &mut [u32])
     requires { ⌜ count ≤ length (now column) ⌝ }
-    ensures { λ _. ⌜ now (column .exit) ≡ numbersFrom (λ i. dueIn file i conditions) 0 count ++ drop count (now (column .entry)) ⌝ }
+    ensures { λ _. ⌜ now (column .exit)
+        ≡ numbersFrom (λ i. dueIn file i conditions) 0 count ++ drop count (now (column .entry)) ⌝ }
 {
     let mut i = 0;
     while i < count {
@@ -58,7 +59,8 @@ fn column_beside(
     column: &mut [u32],
 ) -> ColumnAnswer
     requires { ⌜ leastPlaces ≤ length (now places) ⌝ }
-    ensures { λ r. ⌜ GivesBeside file booking (now (text .entry)) (now (places .entry)) (now (places .exit)) (now (column .entry)) (now (column .exit)) r ⌝ }
+    ensures { λ r. ⌜ GivesForBooking file booking (now (text .entry))
+        (now (places .entry)) (now (places .exit)) (now (column .entry)) (now (column .exit)) r ⌝ }
 {
     if !rules::is_read(file, booking, true) {
         places::clear(places, tables::least_places());
@@ -98,7 +100,9 @@ pub fn due_column(
     places: &mut [u32],
     column: &mut [u32],
 ) -> ColumnAnswer
-    ensures { λ r. ⌜ Gives file (dueColumn file (now (ac2 .entry)) (now (text .entry)) (now (places .entry)) (length (now (column .entry)))) (now (places .entry)) (now (places .exit)) (now (column .entry)) (now (column .exit)) r ⌝ }
+    ensures { λ r. ⌜ Gives file
+        (dueColumn file (now (ac2 .entry)) (now (text .entry)) (now (places .entry)) (length (now (column .entry))))
+        (now (places .entry)) (now (places .exit)) (now (column .entry)) (now (column .exit)) r ⌝ }
 {
     match files::read_alone(AC2, ac2, places) {
         FileAnswer::Refused(x) => ColumnAnswer::Refused(x),
