@@ -59,12 +59,24 @@ fuelIn v = cond (sameBytes v (bytes "BENZINA")) Petrol (cond (sameBytes v (bytes
 unfoldable pub isLate : List ℕ → Bool
 isLate v = leb 2 (wordIndex (words petrolDirectives) v) && isWord (words petrolDirectives) v
 
+-- the place of a value of CategoriaInternazionale in 01's list
+abbrev pub categoryIn : List ℕ → ℕ
+categoryIn v = wordIndex (words categories) v
+
+-- "6 bytes", of a plate
+abbrev pub isSix : List ℕ → Bool
+isSix v = eqb (length v) 6
+
+-- a motorcycle's directive
+abbrev pub isNessuna : List ℕ → Bool
+isNessuna v = sameBytes v (bytes "NESSUNA")
+
 -- AC2's values, reduced
 unfoldable pub bookingIn : List (List ℕ) → Booking
 bookingIn a = record {
-  category = wordIndex (words categories) (of ac2 a "CategoriaInternazionale");
-  six = eqb (length (of ac2 a "TargaNominale")) 6;
+  category = categoryIn (of ac2 a "CategoriaInternazionale");
+  six = isSix (of ac2 a "TargaNominale");
   fuel = fuelIn (of ac2 a "Alimentazione_1");
   late = isLate (of ac2 a "DirettivaEmissioniGasBenzinaAuto");
-  nessuna = sameBytes (of ac2 a "DirettivaEmissioniGasMotociclo") (bytes "NESSUNA");
+  nessuna = isNessuna (of ac2 a "DirettivaEmissioniGasMotociclo");
 }

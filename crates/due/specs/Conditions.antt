@@ -34,6 +34,10 @@ versionIn v = cond (sameBytes v (bytes "200")) V200 (cond (sameBytes v (bytes "2
 unfoldable pub isSerialLink : List ℕ → Bool
 isSerialLink v = sameBytes v (bytes "RS SENZA ESITO")
 
+-- a value of TipoCollegamentoContagiri
+abbrev pub isExternalLink : List ℕ → Bool
+isExternalLink v = sameBytes v (bytes "ESTERNO")
+
 -- the file has RS SENZA ESITO
 abbrev pub isSerial : File → List (List ℕ) → Bool
 isSerial f own = isSerialLink (of f own "TipoCollegamento")
@@ -42,7 +46,7 @@ isSerial f own = isSerialLink (of f own "TipoCollegamento")
 unfoldable pub linksIn : File → List (List ℕ) → Links
 linksIn f own = record {
   serial = isSerial f own;
-  external = sameBytes (of f own "TipoCollegamentoContagiri") (bytes "ESTERNO");
+  external = isExternalLink (of f own "TipoCollegamentoContagiri");
   analyser = versionIn (of f own "NumVersioneProtocollo");
   counter = versionIn (of f own "NumVersioneProtocolloContagiri");
   speedtest = versionIn (of f own "NumVersioneProtocolloProvaVelocita");
@@ -89,7 +93,7 @@ conditionsOf f a own = withLinks (bookingIn a) (linksOf f own)
 abbrev pub linksAt : LinkPairs → Version → List ℕ → List ℕ → Links
 linksAt k v t p = record {
   serial = isSerialLink (valueOf t p (k .link));
-  external = sameBytes (valueOf t p (k .counterlink)) (bytes "ESTERNO");
+  external = isExternalLink (valueOf t p (k .counterlink));
   analyser = versionIn (valueOf t p (k .version));
   counter = versionIn (valueOf t p (k .counterversion));
   speedtest = v;

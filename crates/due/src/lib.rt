@@ -4,13 +4,11 @@ ghost use mathlib.Core.Bool.{_&&_};
 ghost use Prim.Native.Nat.{_+_, _*_, _<_, _≤_};
 ghost use lib.Dec.{ltb};
 ghost use lib.ListN.{length};
-ghost use Rattle.lines.specs.Bytes.{sameBytes};
-ghost use Rattle.lines.specs.Text.{bytes};
 ghost use Rattle.places.specs.Places.{placeSize, lengthOf, pairsAt};
 ghost use Rattle.tables.specs.File.{ac2, ofNumber};
 ghost use Rattle.due.specs.Values.{newValues, Held, NumberHeld, PairHeld};
-ghost use Rattle.due.specs.Booking.{fuelIn, isLate, isPetrol, isDiesel, isO, isL, bookingIn};
-ghost use Rattle.due.specs.Conditions.{is200, is210, versionIn, isSerialLink, linksAt, linksNumbered, withLinks};
+ghost use Rattle.due.specs.Booking.{fuelIn, isLate, isNessuna, isPetrol, isDiesel, isO, isL, bookingIn};
+ghost use Rattle.due.specs.Conditions.{is200, is210, versionIn, isSerialLink, isExternalLink, linksAt, linksNumbered, withLinks};
 ghost use Rattle.due.specs.Due.{conditionIn, isMoped, isMotorcycle, isMorN, conditionP, when, holdsIn, dueIn, filledPairs, asDue, firstNotAsDueFrom};
 ghost use Rattle.due.specs.Table.{firstCondition, fixedCount};
 use kinds::numbers::CATEGORIES;
@@ -496,7 +494,7 @@ pub fn is_late(value: &[u8]) -> bool
 
 // Whether a motorcycle's directive is NESSUNA.
 pub fn is_nessuna(directive: &[u8]) -> bool
-    ensures { λ r. ⌜ r ≡ sameBytes (now (directive .entry)) (bytes "NESSUNA") ⌝ }
+    ensures { λ r. ⌜ r ≡ isNessuna (now (directive .entry)) ⌝ }
 {
     lines::equal(directive, b"NESSUNA")
 }
@@ -531,7 +529,7 @@ pub fn is_serial(link: &[u8]) -> bool
 
 // Whether the rev counter's link is ESTERNO.
 pub fn is_external(link: &[u8]) -> bool
-    ensures { λ r. ⌜ r ≡ sameBytes (now (link .entry)) (bytes "ESTERNO") ⌝ }
+    ensures { λ r. ⌜ r ≡ isExternalLink (now (link .entry)) ⌝ }
 {
     lines::equal(link, b"ESTERNO")
 }

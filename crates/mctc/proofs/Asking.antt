@@ -11,8 +11,8 @@ use Rattle.serial.specs.declared.IdentificationRead.{IdentificationRead}
 use Rattle.serial.specs.declared.IdentificationRead.the-variants.{Malformed, Fields}
 use Rattle.serial.proofs.Exact.{read-sound}
 use Rattle.mctc.specs.Answers.{answerSize, Filled}
-use Rattle.mctc.specs.Calls.{tooShort}
-use Rattle.mctc.specs.Asked.{EndsFit, AskCall}
+use Rattle.mctc.specs.Calls.{tooShort, AskCall}
+use Rattle.mctc.specs.Asked.{EndsFit}
 
 pub ask-short : (ns a : List ℕ) → length a < answerSize → AskCall ns a a tooShort
 ask-short ns a l = let b = lt-leb answerSize (length a) l in record { number = rw b; answer = rw b }

@@ -1,7 +1,6 @@
 -- What the calls that explain say (01, Due entries, Identification answer and row 11): no call of these judges, they give what
 -- the judge goes by.
 use Prim.Native.Nat.{ℕ}
-use mathlib.Core.Path.{_≡_}
 use mathlib.Core.Bool.{cond}
 use mathlib.Core.List.{List, [], _∷_}
 use lib.Dec.{eqb}
@@ -12,15 +11,16 @@ use Rattle.serial.specs.declared.IdentificationRead.{IdentificationRead}
 use Rattle.serial.specs.declared.IdentificationRead.the-variants.{Malformed, Fields}
 use Rattle.reasons.specs.Tests.{isTest, testOf, passesSome}
 use Rattle.reasons.specs.Asked.{entryAsked, entryReasons, fileAsked, fileReasons, isOfSeven, fieldEntry}
-use Rattle.mctc.specs.Answers.{markNumber}
-use Rattle.mctc.specs.Calls.{returned, answerAfter}
+use Rattle.refusals.specs.Answer.{refusal, acceptance}
+use Rattle.mctc.specs.Answers.{numbersOf, markNumber}
+
+-- these numbers, carried by an acceptance
+abbrev pub accepted : List ℕ → List ℕ
+accepted ns = numbersOf (λ x. x) (acceptance ns)
 
 -- 16, "no such file": with the file as handed in
 abbrev pub noSuch : ℕ → List ℕ
-noSuch file = 16 ∷ file ∷ 0 ∷ []
-
-abbrev pub accepted : List ℕ → List ℕ
-accepted ns = 0 ∷ 0 ∷ 0 ∷ ns
+noSuch file = numbersOf (λ x. x) (refusal 16 file 0)
 
 -- what is asked, and for which reasons; 16 where nothing is
 abbrev pub askedNumbers : ℕ → ℕ → List ℕ → List ℕ
@@ -44,7 +44,7 @@ endNumbers e =
 
 -- 14 where it is not of the form
 abbrev pub fieldNumbers : IdentificationRead → List ℕ
-fieldNumbers Malformed = 14 ∷ identificationNumber ∷ 0 ∷ []
+fieldNumbers Malformed = numbersOf endNumbers (refusal 14 identificationNumber 0)
 fieldNumbers (Fields e) = endNumbers e
 
 -- they are places of at most 512 bytes
@@ -58,8 +58,3 @@ identificationNumbers s = fieldNumbers (readIdentification s)
 -- the entry of gas whose value a field of the seven is
 abbrev pub entryNumbers : ℕ → List ℕ
 entryNumbers field = cond (isOfSeven field) (accepted (fieldEntry field ∷ [])) (noSuch 0)
-
--- a call that lends nothing but the answer array: a before, b after
-pub record AskCall (ns a b : List ℕ) (r : ℕ) : Type 0 where
-  pub number : r ≡ returned ns a
-  pub answer : b ≡ answerAfter ns a

@@ -58,10 +58,14 @@ pub record NameCall (file : ℕ) (x : Option N.Name) (o t a b : List ℕ) (r : �
   pub answer : b ≡ answerAfter (nameNumbers (N.answerOf file x o)) a
   pub output : t ≡ whereFits a (N.outputOf x o) o
 
+-- a call that lends nothing but the answer array and answers these numbers: the array a before, b after
+pub record AskCall (ns a b : List ℕ) (r : ℕ) : Type 0 where
+  pub number : r ≡ returned ns a
+  pub answer : b ≡ answerAfter ns a
+
 -- the kind x of an entry in numbers (01, Kinds of value), `entryKind` (`names` Names) of the file and a number
-pub record KindCall (file : ℕ) (x : Option Kind) (a b : List ℕ) (r : ℕ) : Type 0 where
-  pub number : r ≡ returned (kindNumbers (N.kindAnswerOf file x)) a
-  pub answer : b ≡ answerAfter (kindNumbers (N.kindAnswerOf file x)) a
+abbrev pub KindCall : ℕ → Option Kind → List ℕ → List ℕ → ℕ → Type 0
+KindCall file x a b r = AskCall (kindNumbers (N.kindAnswerOf file x)) a b r
 
 -- a set of these slices judged (01, Judging: "The answer and places equal one definition over the inputs")
 pub record JudgeCall (caller : Caller) (s : Slices) (p q a b : List ℕ) (r : ℕ) : Type 0 where

@@ -1,11 +1,11 @@
 // What the judge goes by, for whoever explains a refusal: what is asked of an entry and of a file, for which reasons,
 // whether a value passes a test, and the fields of the identification answer. Nothing is judged here.
-ghost use mathlib.Core.Path.{_≡_};
 ghost use Prim.Native.Nat.{_≤_};
 ghost use lib.ListN.{length};
 ghost use Rattle.serial.specs.Reading.{Ordered};
 ghost use Rattle.mctc.specs.Answers.{answerSize, Filled};
-ghost use Rattle.mctc.specs.Asked.{noSuch, askedNumbers, conditionNumbers, fileNumbers, testNumbers, endNumbers, fieldNumbers, EndsFit, identificationNumbers, entryNumbers, AskCall};
+ghost use Rattle.mctc.specs.Asked.{noSuch, askedNumbers, conditionNumbers, fileNumbers, testNumbers, endNumbers, fieldNumbers, EndsFit, identificationNumbers, entryNumbers};
+ghost use Rattle.mctc.specs.Calls.{AskCall};
 use refusals::Refusal;
 use refusals::RefusalKind;
 use serial::FieldEnds;

@@ -1,21 +1,20 @@
 -- What is asked, and the reasons, as numbers. Assumes nothing.
-use Prim.Native.Nat.{ℕ, zero, suc, _+_, _≤_, _<_}
+use Prim.Native.Nat.{ℕ, zero, suc}
 use native.Mathlib.Omega.{arith}
 use mathlib.Core.Path.{_≡_, refl, ap, sym, _∙_}
 use mathlib.Core.List.{List, [], _∷_, map}
 use borrow.Author.Tests.{ne-eqb}
-use lib.Dec.{eqb}
-use lib.ListN.{length, getD, List·getD-eq-default}
+use lib.ListN.{getD}
 use Rattle.lines.specs.Bytes.{sameBytes}
 use Rattle.tables.specs.Section.{entriesOf}
-use Rattle.tables.specs.Entries.{newBooking, oldBooking, sixteen, tester, protocol, measurement, analysis, analyser, counter, speedTest, allKeyDates, allKeyBodies, fuelAnalysis}
+use Rattle.tables.specs.Entries.{newBooking, oldBooking, sixteen, tester, protocol, measurement}
 use Rattle.tables.specs.File.{File, ac2, acc, drift, suspension, gas, ofNumber, entries, sections, fixedSections, axleSections, axlesFrom}
 use Rattle.due.specs.Due.{exceptions, conditionOf, fixedConditions, conditionAt, conditionIn}
 use Rattle.due.specs.declared.Condition.{Condition}
 use Rattle.due.specs.declared.Condition.the-variants as Condition
-use Rattle.kinds.proofs.Laws.{NoneAfter, past-after}
-use Rattle.reasons.specs.Reasons.{Reason, reasonsOf, givenReasons, identificationReasons, reasonNumbers}
-use Rattle.reasons.specs.Asked.{entryReasons, givenNumber, fileAsked, fileReasons}
+use Rattle.kinds.proofs.Laws.{NoneAfter}
+use Rattle.reasons.specs.Reasons.{Reason, reasonsOf, givenReasons, reasonNumbers}
+use Rattle.reasons.specs.Asked.{entryReasons, fileAsked, fileReasons}
 
 pub map-at : {A B : Type 0} (g : A → B) (l : List A) (k : ℕ) (d : A) → getD (map g l) k (g d) ≡ g (getD l k d)
 map-at g [] k d = refl

@@ -12,7 +12,7 @@ use lib.ListN.{List·getD-eq-default}
 use Rattle.kinds.proofs.Laws.{NoneAfter, past-after}
 use Rattle.due.proofs.Categories.{same-test}
 use Rattle.reasons.specs.Asked.{isOfSeven}
-use Rattle.reasons.specs.Tests.{ValueTest, numberedTests, testOf, isSome, isTest, passesSome}
+use Rattle.reasons.specs.Tests.{numberedTests, testOf, isTest, passesSome}
 
 no-test : (n : ℕ) → 16 ≤ n → testOf n ≡ none
 unfolding testOf

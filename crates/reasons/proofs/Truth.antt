@@ -2,23 +2,26 @@
 -- where it is right (11). Assumes nothing.
 use Prim.Native.Nat.{ℕ, zero, suc}
 use Prim.Native.String.{String}
-use mathlib.Core.Path.{_≡_, refl, ap, ap₂, sym, _∙_}
-use mathlib.Core.Bool.{Bool, true, false, not, _&&_, _||_, true≢false}
+use mathlib.Core.Path.{_≡_, refl, ap, sym, _∙_}
+use mathlib.Core.Option.{some}
+use mathlib.Core.Bool.{Bool, true, false, cond, not, _&&_, _||_, true≢false}
 use mathlib.Core.List.{List, [], _∷_, map}
+use lib.Dec.{eqb}
 use lib.ListN.{length, getD, replicate}
 use Rattle.lines.specs.Bytes.{sameBytes}
 use Rattle.tables.specs.Section.{entriesOf}
 use Rattle.tables.specs.Entries.{newBooking, oldBooking, sixteen, tester, protocol, measurement}
-use Rattle.tables.specs.File.{File, ac2, acc, drift, suspension, gas, entries, sections, fixedSections, axleSections, axlesFrom}
+use Rattle.tables.specs.File.{File, ac2, acc, drift, suspension, gas, entries, sections, fixedSections, axleSections, axlesFrom, ofNumber}
 use Rattle.due.specs.Booking.{isL, isPetrol, bookingIn}
 use Rattle.due.specs.Conditions.{isSerial, hasLinks, linksIn, conditionsOf}
 use Rattle.due.specs.Due.{exceptions, conditionOf, fixedConditions, conditionAt, conditionP, when, holdsIn, dueOf}
 use Rattle.due.specs.declared.Condition.{Condition}
 use Rattle.due.specs.declared.Condition.the-variants as Condition
 use Rattle.rules.specs.Slices.{statedOf, exactly, oldBookingRight, sliceRight, identificationRight}
-use Rattle.reasons.specs.Tests.{ValueTest, moped, motorcycle, mOrN, notO, notL, sixBytes, petrol, diesel, lateDirective, noDirective, serialLink, externalCounter, version200, version210, nineStem, passes}
-use Rattle.reasons.specs.Reasons.{booked, own, reasonsOf, givenReasons, identificationReasons, oneHolds, eachHolds, reasonHolds, reasonsHold}
-use Rattle.reasons.specs.Asked.{askedNumber, dueBy, givenNumber, rightBy}
+use Rattle.rules.specs.Identification.{sevenOf}
+use Rattle.reasons.specs.Tests.{ValueTest, moped, motorcycle, mOrN, notO, notL, sixBytes, petrol, diesel, lateDirective, noDirective, serialLink, externalCounter, version200, version210, nineStem, passes, testNumber, testOf, passesSome}
+use Rattle.reasons.specs.Reasons.{Source, entryOf, theStem, Reason, booked, own, reasonsOf, givenReasons, identificationReasons, oneHolds, eachHolds, valueFrom, reasonHolds, reasonsHold, sourceFile, sourceEntry}
+use Rattle.reasons.specs.Asked.{askedOf, dueBy, givenAsked, identificationAsked, rightBy, fieldEntry}
 use Rattle.reasons.proofs.Numbers.{map-at}
 
 -- ---- groups of one and of two
@@ -88,8 +91,8 @@ module _ (vs : File → List (List ℕ)) (stem : List ℕ) (f : File) where
 
   -- what a condition asks, where the file has the links that it looks at
   asks : (k : Condition) → (looksAtLinks k ≡ true → hasLinks f ≡ true)
-      → holdsIn k (conditionsOf f (vs ac2) (vs f)) ≡ dueBy (askedNumber k) (reasonsHold vs stem (reasonsOf f k))
-  unfolding holdsIn conditionsOf bookingIn linksIn conditionP askedNumber reasonsOf oneHolds eachHolds passes looksAtLinks
+      → holdsIn k (conditionsOf f (vs ac2) (vs f)) ≡ dueBy (askedOf k) (reasonsHold vs stem (reasonsOf f k))
+  unfolding holdsIn conditionsOf bookingIn linksIn conditionP askedOf reasonsOf oneHolds eachHolds passes looksAtLinks
   asks Condition.Always h = refl
   asks Condition.Free h = refl
   asks Condition.CodiceCIC h = ap when (both (b moped "CategoriaInternazionale") (b sixBytes "TargaNominale"))
@@ -107,18 +110,18 @@ module _ (vs : File → List (List ℕ)) (stem : List ℕ) (f : File) where
   asks Condition.SpeedTestKey h = rw (h refl) (ap when (with-either (o version210 "NumVersioneProtocolloProvaVelocita") (b moped "CategoriaInternazionale") (b noDirective "DirettivaEmissioniGasMotociclo")))
   asks Condition.SpeedTestChecksum h = rw (h refl) (ap when (with-either (o version200 "NumVersioneProtocolloProvaVelocita") (b moped "CategoriaInternazionale") (b noDirective "DirettivaEmissioniGasMotociclo")))
 
--- an entry is due, not due or free as its number and its reasons say
+-- an entry is due, not due or free as what is asked of it and its reasons say
 pub entry-due : (vs : File → List (List ℕ)) (stem : List ℕ) (f : File) (i : ℕ)
-    → dueOf f i (conditionsOf f (vs ac2) (vs f)) ≡ dueBy (askedNumber (conditionAt f i)) (reasonsHold vs stem (reasonsOf f (conditionAt f i)))
+    → dueOf f i (conditionsOf f (vs ac2) (vs f)) ≡ dueBy (askedOf (conditionAt f i)) (reasonsHold vs stem (reasonsOf f (conditionAt f i)))
 unfolding dueOf
 entry-due vs stem f i = asks vs stem f (conditionAt f i) (own-links f (hasLinks f) refl i)
 
 -- ---- slices
 
--- 11: a slice is right exactly as its number and its reasons say
+-- 11: a slice is right exactly as what is asked of it and its reasons say
 pub slice-right : (vs : File → List (List ℕ)) (stem : List ℕ) (f : File) (given : Bool)
-    → sliceRight f (statedOf stem) (bookingIn (vs ac2)) given ≡ rightBy (givenNumber f) (reasonsHold vs stem (givenReasons f)) given
-unfolding sliceRight oldBookingRight bookingIn givenNumber givenReasons oneHolds eachHolds passes
+    → sliceRight f (statedOf stem) (bookingIn (vs ac2)) given ≡ rightBy (givenAsked f) (reasonsHold vs stem (givenReasons f)) given
+unfolding sliceRight oldBookingRight bookingIn givenAsked givenReasons oneHolds eachHolds passes
 slice-right vs stem ac2 given = refl
 slice-right vs stem acc given = ap (λ (b : Bool). not given || b) (either (not (isL (bookingIn (vs ac2) .category))) (statedOf stem .nine))
 slice-right vs stem drift given = refl
@@ -127,6 +130,49 @@ slice-right vs stem gas given = ap (λ (b : Bool). exactly b given) (one (isPetr
 
 -- and so is the identification answer, where gas is given
 pub identification-right : (vs : File → List (List ℕ)) (stem : List ℕ) (gasGiven given : Bool)
-    → identificationRight gasGiven (vs gas) given ≡ exactly (gasGiven && reasonsHold vs stem identificationReasons) given
+    → identificationRight gasGiven (vs gas) given ≡ rightBy identificationAsked (gasGiven && reasonsHold vs stem identificationReasons) given
 unfolding identificationRight oneHolds eachHolds passes
 identification-right vs stem gasGiven given = ap (λ (b : Bool). exactly (gasGiven && b) given) (one (isSerial gas (vs gas)))
+
+-- ---- numbers: what a caller reads from them is what is meant
+
+pub test-numbered : (t : ValueTest) → testOf (testNumber t) ≡ some t
+unfolding testOf
+test-numbered moped = refl
+test-numbered motorcycle = refl
+test-numbered mOrN = refl
+test-numbered notO = refl
+test-numbered notL = refl
+test-numbered sixBytes = refl
+test-numbered petrol = refl
+test-numbered diesel = refl
+test-numbered lateDirective = refl
+test-numbered noDirective = refl
+test-numbered serialLink = refl
+test-numbered externalCounter = refl
+test-numbered version200 = refl
+test-numbered version210 = refl
+test-numbered nineStem = refl
+
+-- the value of entry k of the file of number n; of file 0 the stem
+abbrev valueNumbered : (File → List (List ℕ)) → List ℕ → ℕ → ℕ → List ℕ
+valueNumbered vs stem n k = cond (eqb n 0) stem (ofNumber [] (λ f. getD (vs f) k []) n)
+
+source-numbered : (vs : File → List (List ℕ)) (stem : List ℕ) (s : Source) → valueFrom vs stem s ≡ valueNumbered vs stem (sourceFile s) (sourceEntry s)
+unfolding ofNumber
+source-numbered vs stem (entryOf ac2 n) = refl
+source-numbered vs stem (entryOf acc n) = refl
+source-numbered vs stem (entryOf drift n) = refl
+source-numbered vs stem (entryOf suspension n) = refl
+source-numbered vs stem (entryOf gas n) = refl
+source-numbered vs stem theStem = refl
+
+-- a reason holds where the value at its file and entry passes the test of its number
+pub reason-numbered : (vs : File → List (List ℕ)) (stem : List ℕ) (r : Reason)
+    → reasonHolds vs stem r ≡ passesSome (testOf (testNumber (r .test))) (valueNumbered vs stem (sourceFile (r .source)) (sourceEntry (r .source)))
+reason-numbered vs stem r = rw (test-numbered (r .test), sym (source-numbered vs stem (r .source)))
+
+-- 15: the seven that the identification answer must equal are gas's values at the entries of fields 3 to 9
+pub fields-numbered : (g : List (List ℕ)) → sevenOf g ≡ map (λ k. getD g (fieldEntry k) []) (3 ∷ 4 ∷ 5 ∷ 6 ∷ 7 ∷ 8 ∷ 9 ∷ [])
+unfolding sevenOf fieldEntry
+fields-numbered g = refl

@@ -1,5 +1,4 @@
--- What is asked of an entry and of a file, by numbers: 1 always, 3 free, 4 exactly when its reasons hold, 5 only when they
--- hold; 0 where there is no such entry or file (01, Due entries and row 11).
+-- What is asked of an entry and of a file, and the numbers that say it (01, Due entries and row 11).
 use Prim.Native.Nat.{ℕ, _-_}
 use mathlib.Core.Bool.{Bool, true, cond, not, _&&_, _||_}
 use mathlib.Core.List.{List, [], map}
@@ -9,60 +8,81 @@ use Rattle.tables.specs.File.{File, ac2, acc, drift, suspension, gas, identific
 use Rattle.tables.specs.Value.{placeOf}
 use Rattle.due.specs.Due.{conditionAt, conditionIn, when}
 use Rattle.due.specs.declared.Due.{Due}
-use Rattle.due.specs.declared.Due.the-variants.{IsDue, IsFree}
+use Rattle.due.specs.declared.Due.the-variants.{IsDue, NotDue, IsFree}
 use Rattle.due.specs.declared.Condition.{Condition}
 use Rattle.due.specs.declared.Condition.the-variants as Condition
 use Rattle.rules.specs.Slices.{exactly}
 use Rattle.rules.specs.Identification.{sevenNames}
-use Rattle.reasons.specs.Reasons.{Reason, reasonsOf, givenReasons, identificationReasons, reasonNumbers}
+use Rattle.reasons.specs.Reasons.{reasonsOf, givenReasons, identificationReasons, reasonNumbers}
+
+-- what is asked, whatever the values are: to be filled or given always; nothing; exactly when the reasons hold; only when they hold
+pub data Asked : Type 0 where
+  always free exactlyWhen onlyWhen : Asked
+
+-- as a number; 0 stands for an entry or a file that there is not, 2 is what an entry is in a due column (`columns` Column)
+abbrev pub askedNumber : Asked → ℕ
+askedNumber always = 1
+askedNumber free = 3
+askedNumber exactlyWhen = 4
+askedNumber onlyWhen = 5
 
 -- ---- entries
 
 -- "All else is due (filled) except"; "may be filled or empty"; "filled exactly when"
-unfoldable pub askedNumber : Condition → ℕ
-askedNumber Condition.Always = 1
-askedNumber Condition.Free = 3
-askedNumber Condition.CodiceCIC = 4
-askedNumber Condition.Alimentazione = 4
-askedNumber Condition.DieselEntry = 4
-askedNumber Condition.CarDirective = 4
-askedNumber Condition.MotorcycleDirective = 4
-askedNumber Condition.COMinAcc = 4
-askedNumber Condition.ExternalCounter = 4
-askedNumber Condition.SpeedTest = 4
-askedNumber Condition.AnalyserKey = 4
-askedNumber Condition.AnalyserChecksum = 4
-askedNumber Condition.CounterKey = 4
-askedNumber Condition.CounterChecksum = 4
-askedNumber Condition.SpeedTestKey = 4
-askedNumber Condition.SpeedTestChecksum = 4
+unfoldable pub askedOf : Condition → Asked
+askedOf Condition.Always = always
+askedOf Condition.Free = free
+askedOf Condition.CodiceCIC = exactlyWhen
+askedOf Condition.Alimentazione = exactlyWhen
+askedOf Condition.DieselEntry = exactlyWhen
+askedOf Condition.CarDirective = exactlyWhen
+askedOf Condition.MotorcycleDirective = exactlyWhen
+askedOf Condition.COMinAcc = exactlyWhen
+askedOf Condition.ExternalCounter = exactlyWhen
+askedOf Condition.SpeedTest = exactlyWhen
+askedOf Condition.AnalyserKey = exactlyWhen
+askedOf Condition.AnalyserChecksum = exactlyWhen
+askedOf Condition.CounterKey = exactlyWhen
+askedOf Condition.CounterChecksum = exactlyWhen
+askedOf Condition.SpeedTestKey = exactlyWhen
+askedOf Condition.SpeedTestChecksum = exactlyWhen
 
--- what a number and its reasons ask
-abbrev pub dueBy : ℕ → Bool → Due
-dueBy n b = cond (eqb n 1) IsDue (cond (eqb n 3) IsFree (when b))
+-- what is asked of an entry whose reasons hold, or do not
+abbrev pub dueBy : Asked → Bool → Due
+dueBy always b = IsDue
+dueBy free b = IsFree
+dueBy exactlyWhen b = when b
+dueBy onlyWhen b = cond b IsFree NotDue
 
 -- entry k of a file with all nine axles, by the file's number
 unfoldable pub entryAsked : ℕ → ℕ → ℕ
-entryAsked file k = cond (ltb k (ofNumber 0 room file)) (askedNumber (conditionIn file k)) 0
+entryAsked file k = cond (ltb k (ofNumber 0 room file)) (askedNumber (askedOf (conditionIn file k))) 0
 
 unfoldable pub entryReasons : ℕ → ℕ → List ℕ
 entryReasons file k = reasonNumbers (ofNumber [] (λ f. reasonsOf f (conditionAt f k)) file)
 
 -- ---- files
 
-unfoldable pub givenNumber : File → ℕ
-givenNumber ac2 = 1
-givenNumber acc = 5
-givenNumber drift = 3
-givenNumber suspension = 3
-givenNumber gas = 4
+unfoldable pub givenAsked : File → Asked
+givenAsked ac2 = always
+givenAsked acc = onlyWhen
+givenAsked drift = free
+givenAsked suspension = free
+givenAsked gas = exactlyWhen
 
--- whether a slice is right by its number, where it is given or not
-abbrev pub rightBy : ℕ → Bool → Bool → Bool
-rightBy n b given = cond (eqb n 1) given (cond (eqb n 3) true (cond (eqb n 4) (exactly b given) (not given || b)))
+-- where gas is not given, the reason of the identification answer does not hold
+abbrev pub identificationAsked : Asked
+identificationAsked = exactlyWhen
+
+-- whether a slice is right, where it is given or not, whose reasons hold, or do not
+abbrev pub rightBy : Asked → Bool → Bool → Bool
+rightBy always b given = given
+rightBy free b given = true
+rightBy exactlyWhen b given = exactly b given
+rightBy onlyWhen b given = not given || b
 
 unfoldable pub fileAsked : ℕ → ℕ
-fileAsked n = cond (eqb n identificationNumber) 4 (ofNumber 0 givenNumber n)
+fileAsked n = cond (eqb n identificationNumber) (askedNumber identificationAsked) (ofNumber 0 (λ f. askedNumber (givenAsked f)) n)
 
 unfoldable pub fileReasons : ℕ → List ℕ
 fileReasons n = reasonNumbers (cond (eqb n identificationNumber) identificationReasons (ofNumber [] givenReasons n))

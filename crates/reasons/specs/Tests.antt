@@ -3,14 +3,9 @@ use Prim.Native.Nat.{ℕ}
 use mathlib.Core.Bool.{Bool, true, false, not}
 use mathlib.Core.Option.{Option, none, some}
 use mathlib.Core.List.{List, [], _∷_}
-use lib.Dec.{eqb}
-use lib.ListN.{length, getD}
-use Rattle.lines.specs.Bytes.{sameBytes}
-use Rattle.lines.specs.Text.{bytes}
-use Rattle.kinds.specs.Kind.{words, categories}
-use Rattle.kinds.specs.Value.{wordIndex}
-use Rattle.due.specs.Booking.{isO, isL, isPetrol, isDiesel, fuelIn, isLate}
-use Rattle.due.specs.Conditions.{is200, is210, versionIn, isSerialLink}
+use lib.ListN.{getD}
+use Rattle.due.specs.Booking.{isO, isL, isPetrol, isDiesel, fuelIn, isLate, categoryIn, isSix, isNessuna}
+use Rattle.due.specs.Conditions.{is200, is210, versionIn, isSerialLink, isExternalLink}
 use Rattle.due.specs.Due.{isMoped, isMotorcycle, isMorN}
 use Rattle.rules.specs.Slices.{statedOf}
 
@@ -19,23 +14,19 @@ use Rattle.rules.specs.Slices.{statedOf}
 pub data ValueTest : Type 0 where
   moped motorcycle mOrN notO notL sixBytes petrol diesel lateDirective noDirective serialLink externalCounter version200 version210 nineStem : ValueTest
 
--- the place of a value of CategoriaInternazionale in 01's list
-abbrev pub categoryIn : List ℕ → ℕ
-categoryIn v = wordIndex (words categories) v
-
 unfoldable pub passes : ValueTest → List ℕ → Bool
 passes moped v = isMoped (categoryIn v)
 passes motorcycle v = isMotorcycle (categoryIn v)
 passes mOrN v = isMorN (categoryIn v)
 passes notO v = not (isO (categoryIn v))
 passes notL v = not (isL (categoryIn v))
-passes sixBytes v = eqb (length v) 6
+passes sixBytes v = isSix v
 passes petrol v = isPetrol (fuelIn v)
 passes diesel v = isDiesel (fuelIn v)
 passes lateDirective v = isLate v
-passes noDirective v = sameBytes v (bytes "NESSUNA")
+passes noDirective v = isNessuna v
 passes serialLink v = isSerialLink v
-passes externalCounter v = sameBytes v (bytes "ESTERNO")
+passes externalCounter v = isExternalLink v
 passes version200 v = is200 (versionIn v)
 passes version210 v = is210 (versionIn v)
 passes nineStem v = statedOf v .nine

@@ -1,13 +1,14 @@
 // Why an entry is due or not, and a file given or not (01, Due entries and row 11): what is asked of it, and the values
 // that decide, each with its file, its entry and the test that it must pass. Tests, too, are answered here, of a value alone.
 ghost use mathlib.Core.Path.{_≡_};
-ghost use Prim.Native.Nat.{_≤_};
+ghost use mathlib.Core.Bool.{true};
 ghost use Rattle.tables.specs.File.{gas};
 ghost use Rattle.due.specs.Conditions.{is200, is210};
 ghost use Rattle.rules.specs.Slices.{statedOf};
-ghost use Rattle.reasons.specs.Tests.{categoryIn, isTest, testOf, passesSome};
+ghost use Rattle.due.specs.Booking.{categoryIn};
+ghost use Rattle.reasons.specs.Tests.{isTest, testOf, passesSome};
 ghost use Rattle.reasons.specs.Reasons.{reasonNumbers, reasonsOf};
-ghost use Rattle.reasons.specs.Asked.{askedNumber, entryAsked, entryReasons, fileAsked, fileReasons, isOfSeven, fieldEntry};
+ghost use Rattle.reasons.specs.Asked.{askedNumber, askedOf, entryAsked, entryReasons, fileAsked, fileReasons, isOfSeven, fieldEntry};
 use due::Condition;
 use due::Version;
 use kinds::numbers::CATEGORIES;
@@ -18,6 +19,15 @@ use tables::GAS;
 use tables::IDENTIFICATION;
 use tables::SUSPENSION;
 use tables::pairs;
+
+// What is asked.
+const ALWAYS: u32 = 1;
+
+const FREE: u32 = 3;
+
+const WHEN: u32 = 4;
+
+const ONLY_WHEN: u32 = 5;
 
 // The numbers of the tests.
 const MOPED: u32 = 1;
@@ -153,29 +163,29 @@ pub fn passes(test: u32, value: &[u8]) -> bool
 
 // What a condition asks of its entries, as a number.
 fn asked_number(condition: Condition) -> u32
-    ensures { λ r. ⌜ r ≡ askedNumber condition ⌝ }
+    ensures { λ r. ⌜ r ≡ askedNumber (askedOf condition) ⌝ }
 {
     match condition {
-        Condition::Always => 1,
-        Condition::Free => 3,
-        Condition::CodiceCIC => 4,
-        Condition::Alimentazione => 4,
-        Condition::DieselEntry => 4,
-        Condition::CarDirective => 4,
-        Condition::MotorcycleDirective => 4,
-        Condition::COMinAcc => 4,
-        Condition::ExternalCounter => 4,
-        Condition::SpeedTest => 4,
-        Condition::AnalyserKey => 4,
-        Condition::AnalyserChecksum => 4,
-        Condition::CounterKey => 4,
-        Condition::CounterChecksum => 4,
-        Condition::SpeedTestKey => 4,
-        Condition::SpeedTestChecksum => 4,
+        Condition::Always => ALWAYS,
+        Condition::Free => FREE,
+        Condition::CodiceCIC => WHEN,
+        Condition::Alimentazione => WHEN,
+        Condition::DieselEntry => WHEN,
+        Condition::CarDirective => WHEN,
+        Condition::MotorcycleDirective => WHEN,
+        Condition::COMinAcc => WHEN,
+        Condition::ExternalCounter => WHEN,
+        Condition::SpeedTest => WHEN,
+        Condition::AnalyserKey => WHEN,
+        Condition::AnalyserChecksum => WHEN,
+        Condition::CounterKey => WHEN,
+        Condition::CounterChecksum => WHEN,
+        Condition::SpeedTestKey => WHEN,
+        Condition::SpeedTestChecksum => WHEN,
     }
 }
 
-// What is asked of an entry: 1 due, 3 free, 4 due exactly when its reasons hold, 0 where there is no such entry.
+// What is asked of an entry, 0 where there is no such entry.
 pub fn entry_asked(file: u32, entry: u32) -> u32
     ensures { λ r. ⌜ r ≡ entryAsked file entry ⌝ }
 {
@@ -185,18 +195,17 @@ pub fn entry_asked(file: u32, entry: u32) -> u32
     0
 }
 
-// What is asked of a file: 1 given, 3 free, 4 given exactly when its reasons hold, 5 only when they hold, 0 where there is
-// no such file.
+// What is asked of a file, 0 where there is no such file.
 pub fn file_asked(file: u32) -> u32
     ensures { λ r. ⌜ r ≡ fileAsked file ⌝ }
 {
     match file {
-        AC2 => 1,
-        ACC => 5,
-        DRIFT => 3,
-        SUSPENSION => 3,
-        GAS => 4,
-        IDENTIFICATION => 4,
+        AC2 => ALWAYS,
+        ACC => ONLY_WHEN,
+        DRIFT => FREE,
+        SUSPENSION => FREE,
+        GAS => WHEN,
+        IDENTIFICATION => WHEN,
         _ => 0,
     }
 }
@@ -403,7 +412,7 @@ pub fn is_of_seven(field: u32) -> bool
 
 // The entry of gas whose value that field is.
 pub fn field_entry(field: u32) -> u32
-    requires { ⌜ (3 ≤ field) × (field ≤ 9) ⌝ }
+    requires { ⌜ isOfSeven field ≡ true ⌝ }
     ensures { λ r. ⌜ r ≡ fieldEntry field ⌝ }
 {
     FIELDS[(field - 3) as usize]

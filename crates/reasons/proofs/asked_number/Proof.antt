@@ -1,6 +1,6 @@
 -- `reasons::asked_number` meets its contract: each arm is the clause of its condition. Assumes nothing.
 use borrow.Author.Needs.{needs}
-use Rattle.reasons.specs.Asked.{askedNumber}
+use Rattle.reasons.specs.Asked.{askedOf}
 use Rattle.reasons.proofs.asked_number.Statement.{statement}
 use Rattle.reasons.proofs.asked_number.Tie as tie
 
@@ -53,67 +53,67 @@ enum-told-16 : tie.Need-enum-told-16
 enum-told-16 c = search needs
 
 returns : tie.Need-returns
-unfolding askedNumber
+unfolding askedOf
 returns c = rw (c .enum-told .given .1)
 
 returns-2 : tie.Need-returns-2
-unfolding askedNumber
+unfolding askedOf
 returns-2 c = rw (c .enum-told2 .given .1)
 
 returns-3 : tie.Need-returns-3
-unfolding askedNumber
+unfolding askedOf
 returns-3 c = rw (c .enum-told3 .given .1)
 
 returns-4 : tie.Need-returns-4
-unfolding askedNumber
+unfolding askedOf
 returns-4 c = rw (c .enum-told4 .given .1)
 
 returns-5 : tie.Need-returns-5
-unfolding askedNumber
+unfolding askedOf
 returns-5 c = rw (c .enum-told5 .given .1)
 
 returns-6 : tie.Need-returns-6
-unfolding askedNumber
+unfolding askedOf
 returns-6 c = rw (c .enum-told6 .given .1)
 
 returns-7 : tie.Need-returns-7
-unfolding askedNumber
+unfolding askedOf
 returns-7 c = rw (c .enum-told7 .given .1)
 
 returns-8 : tie.Need-returns-8
-unfolding askedNumber
+unfolding askedOf
 returns-8 c = rw (c .enum-told8 .given .1)
 
 returns-9 : tie.Need-returns-9
-unfolding askedNumber
+unfolding askedOf
 returns-9 c = rw (c .enum-told9 .given .1)
 
 returns-10 : tie.Need-returns-10
-unfolding askedNumber
+unfolding askedOf
 returns-10 c = rw (c .enum-told10 .given .1)
 
 returns-11 : tie.Need-returns-11
-unfolding askedNumber
+unfolding askedOf
 returns-11 c = rw (c .enum-told11 .given .1)
 
 returns-12 : tie.Need-returns-12
-unfolding askedNumber
+unfolding askedOf
 returns-12 c = rw (c .enum-told12 .given .1)
 
 returns-13 : tie.Need-returns-13
-unfolding askedNumber
+unfolding askedOf
 returns-13 c = rw (c .enum-told13 .given .1)
 
 returns-14 : tie.Need-returns-14
-unfolding askedNumber
+unfolding askedOf
 returns-14 c = rw (c .enum-told14 .given .1)
 
 returns-15 : tie.Need-returns-15
-unfolding askedNumber
+unfolding askedOf
 returns-15 c = rw (c .enum-told15 .given .1)
 
 returns-16 : tie.Need-returns-16
-unfolding askedNumber
+unfolding askedOf
 returns-16 c = rw (c .enum-told16 .given .1)
 
 pub asked-number-spec : {M : Type 1} → statement M

@@ -1,6 +1,5 @@
 -- `reasons::entry_asked` meets its contract: an entry that is there is asked for by its condition. Assumes nothing.
 use borrow.Author.Needs.{needs}
-use native.Mathlib.Omega.{arith}
 use borrow.Author.Tests.{lt-ltb, le-ltb}
 use Rattle.reasons.specs.Asked.{entryAsked}
 use Rattle.reasons.proofs.entry_asked.Statement.{statement}

@@ -1,7 +1,5 @@
 -- `reasons::entry_reasons` meets its contract: the reasons of the entry's condition. Assumes nothing.
 use borrow.Author.Needs.{needs}
-use mathlib.Core.Path.{_∙_, ap}
-use Rattle.reasons.specs.Reasons.{reasonNumbers, reasonsOf}
 use Rattle.reasons.proofs.Numbers.{entry-reasons}
 use Rattle.reasons.proofs.entry_reasons.Statement.{statement}
 use Rattle.reasons.proofs.entry_reasons.Tie as tie

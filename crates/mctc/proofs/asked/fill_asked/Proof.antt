@@ -1,11 +1,9 @@
 -- `mctc::asked::fill_asked` meets its contract: 16, or the numbers one by one. Assumes nothing.
 use borrow.Author.Needs.{needs}
 use denote.Ref.{now}
-use mathlib.Core.Path.{_≡_, subst}
-use mathlib.Core.List.{List}
+use mathlib.Core.Path.{_≡_}
 use borrow.Author.Tests.{eq-eqb, ne-eqb}
 use lib.ListN.{length}
-use Rattle.mctc.specs.Answers.{Filled}
 use Rattle.mctc.proofs.Asking.{twelve}
 use Rattle.mctc.proofs.asked.fill_asked.Statement.{statement}
 use Rattle.mctc.proofs.asked.fill_asked.Tie as tie

@@ -1,6 +1,5 @@
 -- `mctc::asked::fill_fields` meets its contract: 14, or the ends. Assumes nothing.
 use borrow.Author.Needs.{needs}
-use native.Mathlib.Omega.{arith}
 use Rattle.mctc.proofs.asked.fill_fields.Statement.{statement}
 use Rattle.mctc.proofs.asked.fill_fields.Tie as tie
 

@@ -4,7 +4,6 @@ use denote.Ref.{now}
 use mathlib.Core.Path.{sym, _∙_}
 use native.Mathlib.Omega.{arith}
 use borrow.Author.Tests.{not-true, not-false}
-use Rattle.reasons.proofs.Tests.{of-seven}
 use Rattle.mctc.proofs.Asking.{ask-short, ask-done}
 use Rattle.mctc.proofs.asked.mctc_field.Statement.{statement}
 use Rattle.mctc.proofs.asked.mctc_field.Tie as tie
@@ -25,7 +24,7 @@ returns-2 : tie.Need-returns-2
 returns-2 c = ask-done _ _ _ _ (omega (arith, c .before .before .before .before .before .before .if1 .left)) (rw (sym (c .before .before .before .before .before .is-of-seven .ensures) ∙ not-true _ (c .before .before .before .before .if2 .taken)) (c .before .before .fill-no-such .ensures))
 
 field-entry-requires : tie.Need-field-entry-requires
-field-entry-requires c κs = of-seven _ (sym (c .before .before .is-of-seven .ensures) ∙ not-false _ (c .before .if2 .left))
+field-entry-requires c κs = sym (c .before .before .is-of-seven .ensures) ∙ not-false _ (c .before .if2 .left)
 
 slice-aggregate-fill : tie.Need-slice-aggregate-fill
 slice-aggregate-fill c = search needs
