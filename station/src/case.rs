@@ -4,17 +4,20 @@ use mctc::{Column, Due, Places, Refusal};
 
 use crate::disk::SetOnDisk;
 use crate::edit::{Action, Edit};
-use crate::file_types::FILE_TYPES;
+use crate::file_types::{by_number, FILE_TYPES};
 use crate::shown;
 use crate::table;
 
 /// The new booking, gas and the identification answer.
 pub const AC2: u32 = 1;
 pub const GAS: u32 = 5;
-const IDENTIFICATION: u32 = 6;
+pub const IDENTIFICATION: u32 = 6;
 
 /// The refusal of a file that is missing but due, or given but not due.
 const NOT_AS_DUE: u32 = 11;
+
+/// The refusal of an entry that is filled but not due, or due but empty.
+const ENTRY_NOT_AS_DUE: u32 = 10;
 
 /// A set, or one file that is read alone.
 #[derive(Clone, Copy)]
@@ -133,6 +136,37 @@ impl<'a> Case<'a> {
         })
     }
 
+    /// The value of an entry and its line, where the library reads the file.
+    pub fn value(&self, file: u32, entry: u32) -> Option<(u32, &'a [u8])> {
+        let mut places = Places::default();
+        let text = self.text(file);
+        mctc::read(file, text, &mut places).ok()?;
+        let place = places.value(file, usize::try_from(entry).ok()?)?;
+        let line = shown::line_at(text, place.start);
+        Some((line, text.get(place)?))
+    }
+
+    /// What the library asks for with this change: something that is due and not there.
+    pub fn then_due(&self, edit: &Edit) -> Option<String> {
+        let text = edit.apply(self.text(edit.file));
+        let case = self.with_text(edit.file, &text);
+        let after = Refused {
+            case,
+            refusal: case.refusal()?,
+        };
+        let ending = by_number(after.refusal.file)?.ending;
+        match (after.refusal.number, after.entry()) {
+            (NOT_AS_DUE, _) if after.text().is_empty() => {
+                Some(format!("{ending} is due, but missing"))
+            }
+            (ENTRY_NOT_AS_DUE, Some((name, []))) => {
+                let (name, line) = (shown::bytes(name), after.refusal.line);
+                Some(format!("{name} ({ending} line {line}) is due, but empty"))
+            }
+            _ => None,
+        }
+    }
+
     /// What is due in a file, where that can be said.
     pub fn due(&self, file: u32) -> Option<Column> {
         let mut places = Places::default();
@@ -179,10 +213,13 @@ impl<'a> Refused<'a> {
         }
         let text = edit.apply(self.case.text(edit.file));
         let case = self.case.with_text(edit.file, &text);
-        let Some(refusal) = case.refusal() else {
-            return true;
-        };
-        let after = Refused { case, refusal };
+        case.refusal()
+            .is_none_or(|refusal| self.is_before(edit, Refused { case, refusal }))
+    }
+
+    /// Whether this refusal stands before the one after a change.
+    fn is_before(&self, edit: &Edit, after: Refused) -> bool {
+        let refusal = after.refusal;
         match edit.action {
             // The count of lines may have changed, so lines are compared from the start.
             Action::LineEnds if refusal.file == self.refusal.file => {

@@ -11,24 +11,24 @@ use crate::finding::Finding;
 use crate::identification;
 use crate::line_form;
 use crate::misnamed;
+use crate::not_as_due;
 use crate::page::{labelled, verbatim};
 use crate::rules;
 use crate::shown::{self, counted, Line};
-use crate::suspect;
 use crate::words;
 use crate::wrong_value;
 
 /// The file that a refusal names.
 pub struct Subject<'a> {
     /// Its name on disk, or the one that it should have.
-    name: String,
-    text: &'a [u8],
-    presence: Presence,
+    pub name: String,
+    pub text: &'a [u8],
+    pub presence: Presence,
 }
 
 /// How the file came to be looked at.
 #[derive(Clone, Copy)]
-enum Presence {
+pub enum Presence {
     /// By itself, apart from any set.
     Alone,
     /// As one of a set, and the folder has it.
@@ -74,6 +74,8 @@ pub struct Explained {
     pub meaning: String,
     /// Why, where more is known than the meaning.
     pub cause: Option<String>,
+    /// What a value must look like here, where that is known.
+    pub expected: Option<String>,
     pub advice: String,
     /// The mending that the advice asks for, where it can be done without knowing more.
     pub mend: Option<Edit>,
@@ -92,6 +94,7 @@ pub fn explain(case: Case, refusal: Refusal, subject: Option<Subject>) -> Explai
         refusal,
         meaning: or(finding.meaning, words::meaning(number)),
         cause: finding.cause,
+        expected: finding.expected,
         advice: or(finding.advice, words::advice(number)),
         mend: finding.mend,
         line: shown::line(text, refusal.line),
@@ -108,8 +111,8 @@ fn finding(refused: &Refused, subject: Option<&Subject>) -> Option<Finding> {
         7 => absent::section(refused),
         8 => absent::entries(refused),
         9 => wrong_value::finding(refused),
-        10 => filled_or_empty(refused),
-        11 => missing_or_not_due(refused, subject?),
+        10 => not_as_due::entry(refused),
+        11 => not_as_due::file(refused, subject?),
         12 => rules::booking(refused),
         13 => rules::difference(refused),
         14 => identification::form(refused),
@@ -143,60 +146,6 @@ fn stem(refused: &Refused) -> Finding {
     finding.mend_or(mend, words::advice(2))
 }
 
-/// Row 10: which of the two. To take the value out comes last: it may be right, and another wrong by which it is not
-/// due.
-fn filled_or_empty(refused: &Refused) -> Option<Finding> {
-    let (name, value) = refused.entry()?;
-    let name = shown::bytes(name);
-    if value.is_empty() {
-        let finding = Finding::default().meaning("due, but empty");
-        return Some(finding.advice(format!("fill in {name}")));
-    }
-    let first = "look first at the values that decide what is due: one of them may be wrong";
-    let last = refused.tried(refused.edit(Action::Empty));
-    let advice = match last {
-        Some(_) => {
-            format!("{first}; only if all of them are right, leave nothing behind `{name}=`")
-        }
-        None => first.to_string(),
-    };
-    let finding = Finding {
-        cause: suspect::suspect(refused),
-        ..Finding::default()
-    };
-    Some(finding.meaning("filled, but not due").advice(advice))
-}
-
-/// Row 11: missing or not due; read alone, empty. To take a file out comes last, as in row 10.
-fn missing_or_not_due(refused: &Refused, subject: &Subject) -> Option<Finding> {
-    let (name, when) = (&subject.name, words::when_given(refused.refusal.file));
-    let (meaning, advice) = match (subject.presence, subject.text) {
-        (Presence::Alone, _) => (
-            "the file is empty",
-            "name a file that has lines".to_string(),
-        ),
-        (Presence::Absent, _) => ("missing, but due", format!("add {name}: {when}")),
-        (Presence::InSet, []) => (
-            "empty, which counts as not given, but due",
-            format!("put {name} there with its content: {when}"),
-        ),
-        (Presence::InSet, _) => {
-            let first = format!("look first whether what decides this is right: {when}");
-            let advice = match refused.tried(refused.edit(Action::Remove)) {
-                Some(_) => format!("{first}; only if it is, take {name} out of the set"),
-                None => first,
-            };
-            ("given, but not due", advice)
-        }
-    };
-    let given = matches!(subject.presence, Presence::InSet) && !subject.text.is_empty();
-    let finding = Finding {
-        cause: given.then(|| suspect::suspect(refused)).flatten(),
-        ..Finding::default()
-    };
-    Some(finding.meaning(meaning).advice(advice))
-}
-
 impl Explained {
     /// The labelled lines of a page.
     pub fn page(&self) -> String {
@@ -209,10 +158,7 @@ impl Explained {
                 page += &labelled("", &format!("({remark})"));
             }
         }
-        if let Some(cause) = &self.cause {
-            page += &labelled("cause", cause);
-        }
-        page + &labelled("to do", &self.advice)
+        page + &self.reasons_and_advice()
     }
 
     /// The labelled lines of a finding beside the verdict.
@@ -222,10 +168,15 @@ impl Explained {
         if let Some(line) = &self.line {
             lines += &verbatim("text", &line.text);
         }
-        if let Some(cause) = &self.cause {
-            lines += &labelled("cause", cause);
-        }
-        lines + &labelled("to do", &self.advice)
+        lines + &self.reasons_and_advice()
+    }
+
+    fn reasons_and_advice(&self) -> String {
+        let said = [("cause", &self.cause), ("expected", &self.expected)];
+        let lines = said
+            .into_iter()
+            .filter_map(|(label, text)| Some(labelled(label, text.as_deref()?)));
+        lines.collect::<String>() + &labelled("to do", &self.advice)
     }
 
     /// In a line behind others: the place and the meaning.

@@ -8,6 +8,8 @@ pub struct Finding {
     pub meaning: Option<String>,
     /// Why the library refuses: what stands there, and what would pass.
     pub cause: Option<String>,
+    /// What a value must look like here.
+    pub expected: Option<String>,
     pub advice: Option<String>,
     /// The mending that the advice asks for, where it can be done without knowing more.
     pub mend: Option<Edit>,
@@ -26,6 +28,10 @@ impl Finding {
             advice: Some(advice.into()),
             ..self
         }
+    }
+
+    pub fn expected(self, expected: Option<String>) -> Finding {
+        Finding { expected, ..self }
     }
 
     pub fn meaning(self, meaning: impl Into<String>) -> Finding {

@@ -10,6 +10,7 @@ use crate::disk::SetOnDisk;
 use crate::edit::Action;
 use crate::explain::{explain, Explained, Subject};
 use crate::file_types::FILE_TYPES;
+use crate::shown;
 
 /// The old booking, which is not read with category L.
 const ACC: u32 = 2;
@@ -107,15 +108,9 @@ fn not_as_due(set: &SetOnDisk, number: u32) -> Vec<Explained> {
     let refusals = disagreeing.map(|start| Refusal {
         number: NOT_AS_DUE,
         file: number,
-        line: line_at(text, start),
+        line: shown::line_at(text, start),
     });
     refusals
         .map(|refusal| explain(Case::set(set), refusal, Subject::of_set(set, number)))
         .collect()
-}
-
-/// The number of the line in which a byte stands.
-fn line_at(text: &[u8], place: usize) -> u32 {
-    let before = text.iter().take(place).filter(|byte| **byte == b'\n');
-    u32::try_from(before.count() + 1).unwrap_or_default()
 }

@@ -45,8 +45,11 @@ the cause where it is known, and what to do.
 
 With STEM: the verdict on that set. With --json one object: stem, accepted,
 number, file, line (0 for none), name, meaning, text, remark, to_do, cause,
-mend, drift_axles, suspension_axles, drift_mark, suspension_mark, gas_mark,
-empty; or stem and error where a file cannot be read.
+expected, mend, drift_axles, suspension_axles, drift_mark, suspension_mark,
+gas_mark, empty, notes; or stem and error where a file cannot be read.
+
+An accepted set may have notes: values that are near a word that counts, as
+`benzina` is near `BENZINA`, and by which something would be due.
 
 mend is what to_do asks for, where that can be done without knowing more, or
 null. It was tried: with it, the judge accepts or refuses at a later place. It
@@ -63,7 +66,7 @@ With --all also what else can be said beside the verdict, which stays as it is:
 each file read alone (3 to 9), and the entries that are not as due (10) of files
 that pass, where the new booking passes. With --json a member further: an array
 of objects with number, file, line, name, meaning, text, remark, to_do, cause,
-mend.
+expected, mend.
 
 Without STEM: a line for each set, then how many were accepted, refused and not
 judged. With --json one object: folder, sets (an array of the objects above),

@@ -13,6 +13,7 @@ use crate::explain::{explain, Explained, Subject};
 use crate::file_types::{FileType, FILE_TYPES};
 use crate::further::further;
 use crate::json::Object;
+use crate::not_as_due::doubts;
 use crate::output::{Output, Status, Trouble};
 use crate::page::labelled;
 use crate::shown::counted;
@@ -61,6 +62,8 @@ pub struct Judged {
     verdict: Result<Acceptance, Explained>,
     /// Beside the verdict, where they are asked for.
     further: Option<Vec<Explained>>,
+    /// Beside an acceptance: values by which nothing is due, but which may be meant otherwise.
+    doubts: Vec<String>,
 }
 
 impl Judged {
@@ -75,11 +78,16 @@ impl Judged {
             Ok(_) => Vec::new(),
             Err(explained) => further(&set, explained.refusal),
         });
+        let doubts = match &verdict {
+            Ok(_) => doubts(&Case::set(&set)),
+            Err(_) => Vec::new(),
+        };
         Judged {
             set,
             places,
             verdict,
             further,
+            doubts,
         }
     }
 
@@ -93,7 +101,11 @@ impl Judged {
     fn page(&self) -> String {
         let stem = self.set.stem_shown();
         match &self.verdict {
-            Ok(acceptance) => format!("{stem}: accepted\n{}", self.accepted_files(acceptance)),
+            Ok(acceptance) => {
+                let files = self.accepted_files(acceptance);
+                let doubts = self.doubts.iter().map(|doubt| labelled("note", doubt));
+                format!("{stem}: accepted\n{files}{}", doubts.collect::<String>())
+            }
             Err(explained) => {
                 let (number, page) = (explained.refusal.number, explained.page());
                 format!(
@@ -153,7 +165,11 @@ impl Judged {
     /// In a few words, behind its stem.
     pub fn in_short(&self) -> String {
         let verdict = match &self.verdict {
-            Ok(acceptance) => format!("accepted{}", marks_in_short(acceptance)),
+            Ok(acceptance) => {
+                let doubts = self.doubts.iter().map(|doubt| format!("  (note: {doubt})"));
+                let doubts: String = doubts.collect();
+                format!("accepted{}{doubts}", marks_in_short(acceptance))
+            }
             Err(explained) => {
                 let number = explained.refusal.number;
                 format!("refused {number:2}  {}", explained.in_short())
@@ -215,7 +231,8 @@ impl Judged {
             .truth("drift_mark", acceptance.drift_mark)
             .truth("suspension_mark", acceptance.suspension_mark)
             .truth("gas_mark", acceptance.gas_mark)
-            .strings("empty", self.set.empty_files());
+            .strings("empty", self.set.empty_files())
+            .strings("notes", self.doubts.iter().map(String::as_str));
         let object = match &self.further {
             None => object,
             Some(findings) => object.objects(
@@ -243,6 +260,7 @@ fn about_refusal(object: Object, refusal: Refusal, explained: Option<&Explained>
         .optional("remark", line.and_then(|line| line.remark.as_deref()))
         .optional("to_do", said(|explained| Some(&explained.advice)))
         .optional("cause", said(|explained| explained.cause.as_deref()))
+        .optional("expected", said(|explained| explained.expected.as_deref()))
         .object(
             "mend",
             explained.and_then(|explained| explained.mend.as_ref().map(Edit::json)),

@@ -4,10 +4,12 @@ use std::collections::BTreeSet;
 
 use crate::candidates;
 use crate::case::{Refused, AC2};
-use crate::edit::Action;
+use crate::edit::{Action, Edit};
 use crate::file_types::by_number;
 use crate::finding::Finding;
 use crate::near::nearest;
+use crate::not_as_due::{correction, Correction};
+use crate::reasons::{doubtful, Looked};
 use crate::shown;
 use crate::table;
 use crate::words;
@@ -15,42 +17,53 @@ use crate::words;
 /// Refusal 12.
 pub fn booking(refused: &Refused) -> Option<Finding> {
     let (name, value) = refused.entry()?;
-    let rule = words::booking_rule(refused.refusal.file, name)?;
-    let passing = passing(refused);
-    let hangs = hangs_on(refused, name);
+    let names = hangs_on(refused.refusal.file, name);
     let found = format!("found {}", shown::value(value));
-    let behind = if hangs.is_empty() {
-        String::new()
-    } else {
-        format!("; this hangs on {}", hangs.join(", "))
+    let doubtful = doubtful(&refused.case);
+    if let Some(doubt) = doubtful.iter().find(|looked| looked.has_name(names)) {
+        return Some(doubted(refused, doubt, &found));
+    }
+    let hangs = names
+        .iter()
+        .filter_map(|name| with_line(refused, AC2, name))
+        .collect::<Vec<_>>();
+    let behind = match hangs.as_slice() {
+        [] => String::new(),
+        hangs => format!("; this hangs on {}", hangs.join(", ")),
     };
+    let passing = passing(refused);
+    if passing.is_empty() {
+        let rule = words::booking_rule(refused.refusal.file, name)?;
+        let finding = Finding::cause(format!("{found}, and no value fits here{behind}"));
+        return Some(finding.advice(format!("correct what it hangs on: {rule}")));
+    }
     let near = match passing.as_slice() {
         [one] => Some(one.as_str()),
         several => nearest(value, several.iter().map(String::as_str)),
     };
     let mend = near.and_then(|near| refused.with_value(near.as_bytes()));
-    let expected = listed(&passing);
-    let finding = match expected.as_str() {
-        "" => Finding::cause(format!("{found}, and no value fits here{behind}"))
-            .advice(format!("correct what it hangs on: {rule}")),
-        expected => {
-            let finding = Finding::cause(format!("{found}, expected {expected}{behind}"));
-            let advice = mend.as_ref().map(|mend| mend.words());
-            let advice = advice.unwrap_or("write the one of these that is right".to_string());
-            finding.advice(format!(
-                "{advice}, or correct what it hangs on if that is wrong"
-            ))
-        }
-    };
-    Some(Finding { mend, ..finding })
+    let advice = mend.as_ref().map(Edit::words);
+    let advice = advice.unwrap_or("write the one of these that is right".to_string());
+    let expected: Vec<String> = passing.iter().map(|value| format!("`{value}`")).collect();
+    let expected = shown::listed(&expected, "or");
+    let finding = Finding::cause(format!("{found}, expected {expected}{behind}"));
+    let advice = format!("{advice}, or correct what it hangs on if that is wrong");
+    Some(Finding {
+        mend,
+        ..finding.advice(advice)
+    })
 }
 
-/// `A`, `B` or `C`.
-fn listed(values: &[String]) -> String {
-    let values: Vec<String> = values.iter().map(|value| format!("`{value}`")).collect();
-    match values.split_last() {
-        Some((last, before)) if !before.is_empty() => format!("{} or {last}", before.join(", ")),
-        _ => values.concat(),
+/// What the rule hangs on is itself written otherwise than a word that counts. That is mended first: to write the same
+/// here would hide a test that the vehicle needs.
+fn doubted(refused: &Refused, doubt: &Looked, found: &str) -> Finding {
+    let finding = Finding::cause(format!("{found}, and {}", doubt.failure()));
+    match correction(refused, doubt) {
+        Some(Correction { edit, advice }) => Finding {
+            mend: Some(edit),
+            ..finding.advice(advice)
+        },
+        None => finding.advice(format!("correct {} first", doubt.place())),
     }
 }
 
@@ -74,9 +87,9 @@ fn passing(refused: &Refused) -> Vec<String> {
     all.into_iter().filter(passes).collect()
 }
 
-/// The filled entries that the rule at an entry of a booking looks at, with their lines.
-fn hangs_on(refused: &Refused, name: &[u8]) -> Vec<String> {
-    let names: &[&str] = match (refused.refusal.file, name) {
+/// The entries of the new booking that the rule at an entry of a booking looks at.
+fn hangs_on(file: u32, name: &[u8]) -> &'static [&'static str] {
+    match (file, name) {
         (1, _) | (2, b"DescrizioneVeicolo") => &["CategoriaInternazionale"],
         (2, b"TipoVeicolo") => &["TipoVeicolo"],
         (2, b"AnnoPrimaImm") => &["DataPrimaImm"],
@@ -90,11 +103,7 @@ fn hangs_on(refused: &Refused, name: &[u8]) -> Vec<String> {
         (2, b"FrenoStazionamento") => &["AzionamentoFrenoStazionamento"],
         (2, b"NumAssiStazionamento") => &["PosAssiStaz"],
         _ => &[],
-    };
-    let names = names
-        .iter()
-        .filter_map(|name| with_line(refused, AC2, name));
-    names.collect()
+    }
 }
 
 /// A filled entry of a file as `AC2 line 8: Alimentazione_1=..`, from any of its sections.

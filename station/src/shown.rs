@@ -118,6 +118,43 @@ pub fn entry_on_line(text: &[u8], number: u32) -> Option<(&[u8], &[u8])> {
     entry(lines_from(text, number)?.next()?)
 }
 
+/// The number of the line in which a byte stands.
+pub fn line_at(text: &[u8], place: usize) -> u32 {
+    let before = text.iter().take(place).filter(|byte| **byte == b'\n');
+    u32::try_from(before.count() + 1).unwrap_or_default()
+}
+
+/// Words in backticks, those that count up as one: `L3e` to `L5e`, `L7e`.
+pub fn word_list(words: &[String]) -> Vec<String> {
+    let follows = |one: &String, other: &String| match (one.as_bytes(), other.as_bytes()) {
+        ([letter, digit, rest @ ..], [next_letter, next, next_rest @ ..]) => {
+            letter.is_ascii_uppercase()
+                && (letter, rest) == (next_letter, next_rest)
+                && digit.is_ascii_digit()
+                && *next == digit + 1
+        }
+        _ => false,
+    };
+    let mut list = Vec::new();
+    for run in words.chunk_by(follows) {
+        match run {
+            [first, _, .., last] => list.push(format!("`{first}` to `{last}`")),
+            few => list.extend(few.iter().map(|word| format!("`{word}`"))),
+        }
+    }
+    list
+}
+
+/// `A`, `A or B`, `A, B or C`, with another word for the last.
+pub fn listed(parts: &[String], last_word: &str) -> String {
+    match parts.split_last() {
+        Some((last, before)) if !before.is_empty() => {
+            format!("{} {last_word} {last}", before.join(", "))
+        }
+        _ => parts.concat(),
+    }
+}
+
 /// `1 axle`, `2 axles`.
 pub fn counted(count: usize, what: &str) -> String {
     let ending = if count == 1 { "" } else { "s" };

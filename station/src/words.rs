@@ -2,6 +2,7 @@
 
 use crate::file_types::by_number;
 use crate::page::labelled;
+use crate::reasons;
 
 /// The last number of a refusal.
 pub const LAST: u32 = 18;
@@ -13,12 +14,11 @@ pub fn page(number: u32) -> String {
     page += &labelled("where", place(number));
     page += &labelled("comes", calls(number));
     page += &labelled("to do", advice(number));
-    let mut rules = match number {
-        11 => (1..=6).map(when_given).map(String::from).collect(),
+    let rules = match number {
+        11 => (1..=6).map(reasons::when_given).collect(),
         12 => booking_rules(),
         _ => Vec::new(),
     };
-    rules.dedup();
     for rule in rules {
         page += &labelled("rule", &rule);
     }
@@ -117,17 +117,6 @@ pub fn advice(number: u32) -> &'static str {
         17 => "lend the places that reading this text gave",
         18 => "lend an output as long as the text that was read",
         _ => "report this to whoever maintains the program",
-    }
-}
-
-/// 01, Due entries and row 11: when a file is given.
-pub fn when_given(file: u32) -> &'static str {
-    match file {
-        1 => "every set has a new booking",
-        2 => "with category L an old booking is given only where the stem's first digit is 9",
-        5 => "gas is given exactly when the new booking has Alimentazione_1=BENZINA",
-        6 => "the identification answer is given exactly when gas has TipoCollegamento=RS SENZA ESITO",
-        _ => "drift and suspension are optional",
     }
 }
 

@@ -7,7 +7,7 @@ use std::os::unix::ffi::OsStrExt;
 use std::path::{Path, PathBuf};
 
 use crate::broken::{broken_sets, files};
-use crate::common::{empty_folder, put, run};
+use crate::common::{empty_folder, put, repository, run};
 use outside::comparison::set_case;
 use outside::judge::Call;
 
@@ -17,7 +17,7 @@ const ENDINGS: [&str; 6] = ["AC2", "ACC", "DER", "SOS", "GAS", "ID"];
 const MOST_STEPS: usize = 20;
 
 /// The broken sets that are accepted once the advice is obeyed, besides those that are accepted as they are.
-const MENDED: [&str; 29] = [
+const MENDED: [&str; 31] = [
     "01-lf-only",
     "02-bom",
     "03-trailing-blank",
@@ -25,6 +25,7 @@ const MENDED: [&str; 29] = [
     "05-decimal-comma",
     "07-dup-line",
     "08-date-yyyymmdd",
+    "09-space-after-word",
     "10-space-after-num",
     "21-small-stem",
     "26-tab-indent",
@@ -47,6 +48,7 @@ const MENDED: [&str; 29] = [
     "50-typo-entry",
     "51-lf-one-line",
     "54-co-3dec",
+    "61-fuel-small-letters",
 ];
 
 /// Generated sets; seeds apart from those of other tests.
@@ -204,6 +206,14 @@ fn obeyed(folder: &Path, mut stem: OsString) -> (bool, usize) {
     panic!("{}: the advice has no end", folder.display());
 }
 
+/// Whether a folder has a gas file that is not empty.
+fn has_gas(folder: &Path) -> bool {
+    files(folder).iter().any(|path| {
+        let is_gas = path.extension().is_some_and(|ending| ending == "GAS");
+        is_gas && fs::metadata(path).is_ok_and(|file| file.len() > 0)
+    })
+}
+
 #[test]
 fn no_test_is_left_out_by_obeying() {
     let mut mended = Vec::new();
@@ -213,15 +223,9 @@ fn no_test_is_left_out_by_obeying() {
             .expect("a name")
             .to_string_lossy()
             .into_owned();
-        let gas = |folder: &Path| {
-            files(folder).iter().any(|path| {
-                let is_gas = path.extension().is_some_and(|ending| ending == "GAS");
-                is_gas && fs::metadata(path).is_ok_and(|file| file.len() > 0)
-            })
-        };
         let (accepted, steps) = obeyed(&folder, stem_of(&folder));
         assert!(
-            !accepted || gas(&folder),
+            !accepted || has_gas(&folder),
             "{name}: accepted without the gas test"
         );
         if accepted && steps > 0 {
@@ -230,6 +234,62 @@ fn no_test_is_left_out_by_obeying() {
     }
     mended.sort();
     assert_eq!(mended, MENDED);
+}
+
+/// A petrol car's files with the fuel in small letters, and what somebody may have taken out already.
+fn small_letters(name: &str, directive: bool, endings: &[&str]) -> PathBuf {
+    let folder = empty_folder(name);
+    for ending in endings {
+        let sample = format!("samples/accepted-car/AA123456.{ending}");
+        let text = fs::read(repository().join(sample)).expect("a sample");
+        put(folder.join(format!("AA123456.{ending}")), text);
+    }
+    let path = folder.join("AA123456.AC2");
+    let text = fs::read_to_string(&path).expect("a text");
+    let text = text.replace("=BENZINA\r", "=benzina\r");
+    put(
+        path,
+        match directive {
+            true => text,
+            false => text.replace("=98/69/CE", "="),
+        },
+    );
+    folder
+}
+
+/// Whatever was taken out before: obeying puts the fuel right, and then what is missing is asked for.
+#[test]
+fn the_cause_is_mended_first() {
+    let cases: [(bool, &[&str], &str); 6] = [
+        (true, &["AC2", "GAS", "ID"], "\"accepted\":true"),
+        (
+            false,
+            &["AC2", "GAS", "ID"],
+            "\"meaning\":\"due, but empty\"",
+        ),
+        (true, &["AC2", "ID"], "\"meaning\":\"missing, but due\""),
+        (true, &["AC2"], "\"meaning\":\"missing, but due\""),
+        (false, &["AC2", "ID"], "\"meaning\":\"due, but empty\""),
+        (false, &["AC2", "ACC"], "\"meaning\":\"due, but empty\""),
+    ];
+    for (at, (directive, endings, last)) in cases.into_iter().enumerate() {
+        let folder = small_letters(&format!("obeyed-fuel-{at}"), directive, endings);
+        let (accepted, steps) = obeyed(&folder, "AA123456".into());
+        assert_eq!((accepted, steps), (accepted && has_gas(&folder), 1), "{at}");
+        let answer = run(&folder, &["judge", ".", "AA123456", "--json"]).stdout;
+        let answer = String::from_utf8(answer).expect("JSON is UTF-8");
+        assert!(answer.contains(last), "{at}: {answer}");
+    }
+}
+
+/// With all of it taken out the judge accepts, and the program says what may be missing.
+#[test]
+fn a_doubtful_fuel_is_noted() {
+    let folder = small_letters("obeyed-note", false, &["AC2"]);
+    let answer = run(&folder, &["judge", ".", "AA123456"]).stdout;
+    let answer = String::from_utf8(answer).expect("a text");
+    assert!(answer.contains("accepted"), "{answer}");
+    assert!(answer.contains("  note     AC2 line 8"), "{answer}");
 }
 
 /// Generated sets, most of them broken in several places: the advice comes to an end, and takes no file out.

@@ -1,0 +1,153 @@
+//! Refusals 10 and 11: which half it is, the values that decide it, and the mending of one that is written wrong.
+//!
+//! To take a value or a file out comes last and is never a mending: it may be right, and the value wrong by which it is
+//! not due.
+
+use crate::case::{Case, Refused};
+use crate::edit::{Action, Edit};
+use crate::explain::{Presence, Subject};
+use crate::finding::Finding;
+use crate::kinds;
+use crate::reasons::{self, Looked, Why};
+use crate::shown;
+use crate::table;
+
+/// Refusal 10.
+pub fn entry(refused: &Refused) -> Option<Finding> {
+    let (file, line) = (refused.refusal.file, refused.refusal.line);
+    let (name, value) = refused.entry()?;
+    let name = shown::bytes(name);
+    let entry = table::entry_at(file, refused.text(), line)?;
+    let entry = u32::try_from(entry).ok()?;
+    let why = Why::entry(&refused.case, file, entry);
+    if value.is_empty() {
+        let advice = or_correct(&format!("fill in {name}"), why.as_ref());
+        let finding = because(why.as_ref()).meaning("due, but empty");
+        return Some(
+            finding
+                .expected(kinds::expected(file, entry))
+                .advice(advice),
+        );
+    }
+    let last = format!("leave nothing behind `{name}=`");
+    let last = refused.tried(refused.edit(Action::Empty)).map(|_| last);
+    let finding = cause_first(refused, why.as_ref(), last);
+    Some(finding.meaning("filled, but not due"))
+}
+
+/// Refusal 11: missing or not due; read alone, empty.
+pub fn file(refused: &Refused, subject: &Subject) -> Option<Finding> {
+    let (name, file) = (&subject.name, refused.refusal.file);
+    let why = Why::file(&refused.case, file);
+    let finding = match (subject.presence, subject.text) {
+        (Presence::Alone, _) => Finding::default()
+            .meaning("the file is empty")
+            .advice("name a file that has content"),
+        (Presence::Absent, _) => because(why.as_ref())
+            .meaning("missing, but due")
+            .advice(or_correct(&format!("add {name}"), why.as_ref())),
+        (Presence::InSet, []) => because(why.as_ref())
+            .meaning("empty, which counts as not given, but due")
+            .advice(or_correct(
+                &format!("put {name} there with its content"),
+                why.as_ref(),
+            )),
+        (Presence::InSet, _) => {
+            let last = format!("take {name} out of the set");
+            let last = refused.tried(refused.edit(Action::Remove)).map(|_| last);
+            cause_first(refused, why.as_ref(), last).meaning("given, but not due")
+        }
+    };
+    Some(finding)
+}
+
+/// What is due and not there: to be put there, unless a value is wrong by which it is due.
+fn or_correct(what: &str, why: Option<&Why>) -> String {
+    let deciding = why.map_or(Vec::new(), Why::deciding);
+    match places(&deciding) {
+        None => what.to_string(),
+        Some((places, _)) => format!("{what}, or correct {places} if that is wrong"),
+    }
+}
+
+fn because(why: Option<&Why>) -> Finding {
+    Finding {
+        cause: why.map(Why::words),
+        ..Finding::default()
+    }
+}
+
+/// What is there and not due: the value that decides is mended where it is near a word that counts; else it is to be
+/// looked at before the last resort.
+fn cause_first(refused: &Refused, why: Option<&Why>, last: Option<String>) -> Finding {
+    let finding = because(why);
+    let deciding = why.map_or(Vec::new(), Why::deciding);
+    let correction = deciding
+        .iter()
+        .find_map(|looked| correction(refused, looked));
+    if let Some(Correction { edit, advice }) = correction {
+        return Finding {
+            mend: Some(edit),
+            ..finding.advice(advice)
+        };
+    }
+    let (places, verb) = places(&deciding).unwrap_or(("what decides this".to_string(), "is"));
+    let first = format!("look first whether {places} {verb} right");
+    finding.advice(match last {
+        Some(last) => format!("{first}; only if so, as a last resort, {last}"),
+        None => first,
+    })
+}
+
+/// `AC2 line 8 and the stem`, with its verb; None where nothing decides.
+fn places(deciding: &[&Looked]) -> Option<(String, &'static str)> {
+    let mut places: Vec<String> = deciding.iter().map(|looked| looked.place()).collect();
+    places.dedup();
+    match places.as_slice() {
+        [] => None,
+        [one] => Some((one.clone(), "is")),
+        several => Some((shown::listed(several, "and"), "are")),
+    }
+}
+
+/// A value that decides, written as the word that counts.
+pub struct Correction {
+    pub edit: Edit,
+    pub advice: String,
+}
+
+impl Correction {
+    /// None where the value is not near such a word.
+    fn of(looked: &Looked) -> Option<Correction> {
+        let corrected = looked.corrected()?;
+        let advice = format!("write {} as {}", looked.place(), shown::value(&corrected));
+        let edit = Edit {
+            file: looked.file(),
+            line: looked.line,
+            action: Action::Replace(corrected),
+        };
+        Some(Correction { edit, advice })
+    }
+}
+
+/// Where the library, asked with that word, refuses later, or asks for what was not asked for before.
+pub fn correction(refused: &Refused, looked: &Looked) -> Option<Correction> {
+    let Correction { edit, advice } = Correction::of(looked)?;
+    if refused.helps(&edit) {
+        return Some(Correction { edit, advice });
+    }
+    let then = refused.case.then_due(&edit)?;
+    let advice = format!("{advice}; then {then}");
+    Some(Correction { edit, advice })
+}
+
+/// What is to be noted of an accepted set: values that are near a word that counts, by which something would be due.
+pub fn doubts(case: &Case) -> Vec<String> {
+    let doubtful = reasons::doubtful(case);
+    let notes = doubtful.iter().filter_map(|looked| {
+        let Correction { edit, .. } = Correction::of(looked)?;
+        let then = case.then_due(&edit)?;
+        Some(format!("{}, {then}", looked.doubt()?))
+    });
+    notes.collect()
+}
