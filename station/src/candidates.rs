@@ -1,39 +1,10 @@
 //! Values that are tried with the library where it refused one: what passes is its answer, not this list's.
 
-/// Words that entries of bookings and result files may have (01, Bookings and Results).
-const WORDS: [&str; 54] = [
-    "LEGGERO",
-    "PESANTE",
-    "MOTOVEICOLO",
-    "M1",
-    "M2",
-    "M3",
-    "N1",
-    "N2",
-    "N3",
-    "O1",
-    "O2",
-    "O3",
-    "O4",
-    "L1e",
-    "L2e",
-    "L3e",
-    "L4e",
-    "L5e",
-    "L6e",
-    "L7e",
-    "S",
-    "N",
-    "NESSUNA",
-    "RT1902",
-    "91/441/CEE",
-    "98/69/CE",
-    "MANO",
-    "PEDALE",
-    "ELETTRICO",
-    "NON PRESENTE",
-    "BENZINA",
-    "DIESEL",
+/// The new booking.
+const AC2: u32 = 1;
+
+/// Words of the old booking, whose kinds list none (01, Bookings).
+const OLD_BOOKING: [&str; 17] = [
     "AUTOVETTURA",
     "PROMISCUO",
     "AUTOCARAVAN",
@@ -51,16 +22,13 @@ const WORDS: [&str; 54] = [
     "DIESEL TURBO COMPRESSO",
     "DIESEL ASPIRATO SENZA CORRETTORE",
     "DIESEL ASPIRATO CON CORRETTORE",
-    "DIR",
-    "RETE",
-    "RS SENZA ESITO",
-    "ESTERNO",
-    "INTEGRATO",
 ];
 
-/// All words.
+/// All words of both bookings: the library's, and those of the old booking.
 pub fn words() -> impl Iterator<Item = String> {
-    WORDS.into_iter().map(String::from)
+    let kinds = (0..).map_while(|entry| mctc::kind(AC2, entry).ok());
+    let words = kinds.flat_map(|kind| kind.words);
+    words.chain(OLD_BOOKING.map(String::from))
 }
 
 /// All years that a day may have, as they are written.

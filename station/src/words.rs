@@ -95,10 +95,7 @@ pub fn advice(number: u32) -> &'static str {
         6 => "correct the name, or move the line to its section; if the entry stands twice, remove one of the two",
         7 => "add the section with all its entries",
         8 => "add the entry to this section",
-        9 => {
-            "correct the value by its kind in document 01: a day is ddmmyyyy, a time hhmmss, Deriva has two digits \
-             behind the point, words stand as listed"
-        }
+        9 => "correct the value: `mctc explain ENTRY` says what an entry of that name must look like",
         10 => {
             "fill in what is due and empty; for what is filled and not due, look first at the values that decide it, \
              and only if all of them are right leave nothing behind the `=`"

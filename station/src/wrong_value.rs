@@ -1,25 +1,35 @@
-//! Refusal 9: what is off about a value, found by trial.
+//! Refusal 9: the kind in words, and what is off about a value, found by trial.
 
-use crate::candidates;
+use mctc::{Form, Kind};
+
 use crate::case::Refused;
 use crate::edit::Edit;
 use crate::finding::Finding;
+use crate::kinds;
 use crate::near::nearest;
 use crate::shown::{self, counted};
+use crate::table;
 
-/// 01: no value that a kind sets a length for is longer.
-const LONGEST: usize = 320;
-
-/// Of no word, number, day or time.
-const NONSENSE: &str = "%";
+/// No longer value is shown again: it stands in the line already.
+const LONGEST_SHOWN: usize = 40;
 
 pub fn finding(refused: &Refused) -> Option<Finding> {
-    let (_, value) = refused.entry()?;
-    slip(refused, value)
-        .or_else(|| other_word(refused, value))
-        .or_else(|| length(refused, value))
-        .or_else(|| sign(refused, value))
-        .or_else(|| no_digit(refused, value))
+    let (file, line) = (refused.refusal.file, refused.refusal.line);
+    let entry = table::entry_at(file, refused.text(), line)?;
+    let entry = u32::try_from(entry).ok()?;
+    let wrong = Wrong {
+        refused,
+        value: refused.entry()?.1,
+        kind: mctc::kind(file, entry).ok()?,
+    };
+    Some(wrong.finding().expected(kinds::expected(file, entry)))
+}
+
+/// A value that is not of its entry's kind.
+struct Wrong<'a> {
+    refused: &'a Refused<'a>,
+    value: &'a [u8],
+    kind: Kind,
 }
 
 /// How a value is often written otherwise: in words, and the value without that. None where it does not apply.
@@ -109,157 +119,194 @@ fn year_last(value: &[u8]) -> Option<Vec<u8>> {
     }
 }
 
-/// The value without one slip, or without two, that passes.
-fn slip(refused: &Refused, value: &[u8]) -> Option<Finding> {
-    let changed = |slip: &Slip, value: &[u8]| {
-        let mended = (slip.mended)(value)?;
-        (mended != value && !mended.is_empty()).then_some(mended)
-    };
-    let once: Vec<(&Slip, Vec<u8>)> = SLIPS
-        .iter()
-        .filter_map(|slip| Some((slip, changed(slip, value)?)))
-        .collect();
-    for (slip, mended) in &once {
-        if let Some(edit) = slipped(refused, value, mended) {
-            return Some(said(value, slip.what.to_string(), edit));
+impl Wrong<'_> {
+    fn finding(&self) -> Finding {
+        let found = self
+            .slip()
+            .or_else(|| self.other_word())
+            .or_else(|| self.no_such_day())
+            .or_else(|| self.no_such_time())
+            .or_else(|| self.length())
+            .or_else(|| self.behind())
+            .or_else(|| self.sign())
+            .or_else(|| self.no_digit());
+        found.unwrap_or_else(|| self.said("it is not of the kind", "correct the value"))
+    }
+
+    /// What is off, and what to do.
+    fn said(&self, what: &str, advice: &str) -> Finding {
+        let cause = match self.value.len() > LONGEST_SHOWN {
+            true => what.to_string(),
+            false => format!("found {}: {what}", shown::value(self.value)),
+        };
+        Finding::cause(cause).advice(advice)
+    }
+
+    fn mended(&self, what: &str, edit: Edit) -> Finding {
+        let words = edit.words();
+        Finding {
+            mend: Some(edit),
+            ..self.said(what, &words)
         }
     }
-    for (first, mended) in &once {
-        for second in &SLIPS {
-            let mended = changed(second, mended);
-            let edit = mended.and_then(|mended| slipped(refused, value, &mended));
-            if let Some(edit) = edit {
-                return Some(said(
-                    value,
-                    format!("{}, and {}", first.what, second.what),
-                    edit,
-                ));
+
+    /// The line with this value, where the library lets it pass.
+    fn passing(&self, value: &[u8]) -> Option<Edit> {
+        self.refused.tried(self.refused.with_value(value)?)
+    }
+
+    fn passes(&self, value: &[u8]) -> bool {
+        self.passing(value).is_some()
+    }
+
+    /// The value without one slip, or without two, that passes.
+    fn slip(&self) -> Option<Finding> {
+        let changed = |slip: &Slip, value: &[u8]| {
+            let mended = (slip.mended)(value)?;
+            (mended != value && !mended.is_empty()).then_some(mended)
+        };
+        let once: Vec<(&Slip, Vec<u8>)> = SLIPS
+            .iter()
+            .filter_map(|slip| Some((slip, changed(slip, self.value)?)))
+            .collect();
+        for (slip, mended) in &once {
+            if let Some(edit) = self.slipped(mended) {
+                return Some(self.mended(slip.what, edit));
             }
         }
+        for (first, mended) in &once {
+            for second in &SLIPS {
+                let mended = changed(second, mended);
+                if let Some(edit) = mended.and_then(|mended| self.slipped(&mended)) {
+                    let what = format!("{}, and {}", first.what, second.what);
+                    return Some(self.mended(&what, edit));
+                }
+            }
+        }
+        None
     }
-    None
-}
 
-/// As `passing`, but of an entry that takes any text of this length only a space may go: a digit more in a key would be
-/// another key.
-fn slipped(refused: &Refused, value: &[u8], mended: &[u8]) -> Option<Edit> {
-    let any = NONSENSE.repeat(mended.len());
-    let is_text = passing(refused, any.as_bytes()).is_some();
-    if is_text && mended != value.trim_ascii() {
-        return None;
+    /// As `passing`, but of a text only a space may go: a digit more in a key would be another key.
+    fn slipped(&self, mended: &[u8]) -> Option<Edit> {
+        let is_text = matches!(self.kind.form, Form::Text | Form::Exact);
+        if is_text && mended != self.value.trim_ascii() {
+            return None;
+        }
+        self.passing(mended)
     }
-    passing(refused, mended)
-}
 
-/// The line with this value, where the library lets it pass.
-fn passing(refused: &Refused, value: &[u8]) -> Option<Edit> {
-    refused.tried(refused.with_value(value)?)
-}
-
-fn said(value: &[u8], what: String, edit: Edit) -> Finding {
-    let words = edit.words();
-    Finding {
-        mend: Some(edit),
-        ..Finding::cause(format!(
-            "{} is not of the kind: {what}",
-            shown::value(value)
-        ))
-        .advice(words)
+    /// An entry of a word list: the nearest word.
+    fn other_word(&self) -> Option<Finding> {
+        let words = &self.kind.words;
+        if words.is_empty() {
+            return None;
+        }
+        let near = nearest(self.value, words.iter().map(String::as_str));
+        let mend = near.and_then(|near| self.passing(near.as_bytes()));
+        let finding = self.said("it is none of the words", "");
+        Some(finding.mend_or(mend, "write the one of these words that is right"))
     }
-}
 
-/// An entry of a word list: the words that pass, and the nearest.
-fn other_word(refused: &Refused, value: &[u8]) -> Option<Finding> {
-    let passes = |value: &str| passing(refused, value.as_bytes()).is_some();
-    // What takes any text of a length is no word list.
-    let is_word = |word: &str| passes(word) && !passes(&NONSENSE.repeat(word.len()));
-    let words: Vec<String> = candidates::words().filter(|word| is_word(word)).collect();
-    if words.is_empty() {
-        return None;
+    /// Eight digits that are no day: which of its parts cannot be, by trial with others.
+    fn no_such_day(&self) -> Option<Finding> {
+        if !matches!(self.kind.form, Form::Day | Form::DataPrimaImm) || !self.has_digits(8) {
+            return None;
+        }
+        let (day, rest) = self.value.split_at_checked(2)?;
+        let (month, year) = rest.split_at_checked(2)?;
+        let what = if self.passes(&[b"01", month, year].concat()) {
+            let [day, month, year] = [day, month, year].map(shown::bytes);
+            format!("month {month} of {year} has no day {day}")
+        } else if self.passes(&[b"0101", year].concat()) {
+            format!("there is no month {}", shown::bytes(month))
+        } else {
+            format!("{} is no year from 1900 to 2099", shown::bytes(year))
+        };
+        Some(self.said(&what, "correct the day"))
     }
-    let listed: Vec<String> = words.iter().map(|word| format!("`{word}`")).collect();
-    let listed = listed.join(", ");
-    let near = nearest(value, words.iter().map(String::as_str));
-    let mend = near.and_then(|near| passing(refused, near.as_bytes()));
-    let cause = format!(
-        "{} is none of the words that pass here: {listed}",
-        shown::value(value)
-    );
-    Some(Finding::cause(cause).mend_or(mend, "write the one of these words that is right"))
-}
 
-/// A value that passes when bytes are taken from its end or put there.
-fn length(refused: &Refused, value: &[u8]) -> Option<Finding> {
-    too_long(refused, value).or_else(|| too_short(refused, value))
-}
+    /// Six digits that are no time, likewise.
+    fn no_such_time(&self) -> Option<Finding> {
+        if self.kind.form != Form::Time || !self.has_digits(6) {
+            return None;
+        }
+        let (hour, rest) = self.value.split_at_checked(2)?;
+        let (minute, second) = rest.split_at_checked(2)?;
+        let (name, part) = if !self.passes(&[hour, b"0000"].concat()) {
+            ("hour", hour)
+        } else if !self.passes(&[b"00", minute, b"00"].concat()) {
+            ("minute", minute)
+        } else {
+            ("second", second)
+        };
+        let what = format!("there is no {name} {}", shown::bytes(part));
+        Some(self.said(&what, "correct the time"))
+    }
 
-fn too_long(refused: &Refused, value: &[u8]) -> Option<Finding> {
-    let passes = |value: &[u8]| passing(refused, value).is_some();
-    let starts = (1..value.len())
-        .rev()
-        .filter_map(|length| value.split_at_checked(length));
-    let (start, rest) = starts.into_iter().find(|(start, _)| passes(start))?;
-    let longer = [start, start.get(start.len() - 1..)?].concat();
-    if passes(&longer) {
-        // Longer values pass, so it is not the length.
+    fn has_digits(&self, count: usize) -> bool {
+        self.value.len() == count && self.value.iter().all(u8::is_ascii_digit)
+    }
+
+    /// A value whose bytes may be right, but not their count.
+    fn length(&self) -> Option<Finding> {
+        let most = usize::try_from(self.kind.most).ok()?;
+        let digits = || self.value.iter().all(u8::is_ascii_digit);
+        let letters = || self.value.iter().all(|byte| matches!(byte, b'S' | b'N'));
+        let (right, is_exact) = match self.kind.form {
+            Form::Text => (true, false),
+            Form::Exact => (true, true),
+            Form::Number => (digits(), false),
+            Form::Day | Form::Time | Form::DataPrimaImm | Form::AnnoPrimaImm => (digits(), true),
+            Form::PosAssiStaz => (letters(), true),
+            Form::Fixed | Form::Deriva | Form::Revs | Form::Word => (false, false),
+        };
+        let length = self.value.len();
+        let over = |count: usize| counted(count, "byte");
+        let what = match length.checked_sub(most) {
+            Some(0) => None,
+            Some(long) => Some(format!("it is too long by {}", over(long))),
+            None => is_exact.then(|| format!("it is too short by {}", over(most - length))),
+        };
+        let what = what.filter(|_| right)?;
+        Some(self.said(&what, "correct the value"))
+    }
+
+    /// A value that passes without some bytes at its end.
+    fn behind(&self) -> Option<Finding> {
+        let starts = (1..self.value.len()).rev();
+        let mut starts = starts.filter_map(|length| self.value.split_at_checked(length));
+        let (start, rest) = starts.find(|(start, _)| self.passes(start))?;
         let (start, rest) = (shown::value(start), shown::value(rest));
-        let cause = format!("{rest} does not belong behind {start}");
-        return Some(Finding::cause(cause).advice("correct the value"));
+        let what = format!("{rest} does not belong behind {start}");
+        Some(self.said(&what, "correct the value"))
     }
-    let over = counted(rest.len(), "byte");
-    let most = counted(start.len(), "byte");
-    Some(
-        Finding::cause(format!("it is too long by {over}"))
-            .advice(format!("correct the value: it may have at most {most}")),
-    )
-}
 
-fn too_short(refused: &Refused, value: &[u8]) -> Option<Finding> {
-    let last = value.last()?;
-    let length = (value.len() + 1..=LONGEST).find(|length| {
-        let mut value = value.to_vec();
-        value.resize(*length, *last);
-        passing(refused, &value).is_some()
-    })?;
-    let short = counted(length - value.len(), "byte");
-    Some(
-        Finding::cause(format!("it is too short by {short}")).advice(format!(
-            "correct the value: it must have {}",
-            counted(length, "byte")
-        )),
-    )
-}
+    /// A minus where none may be. What the number is without it is not for a program to say.
+    fn sign(&self) -> Option<Finding> {
+        self.passing(self.value.strip_prefix(b"-")?)?;
+        let what = "a `-` stands before a number that has no sign";
+        Some(self.said(what, "correct the value: the number itself, without a sign"))
+    }
 
-/// One byte stands where a digit passes.
-fn no_digit(refused: &Refused, value: &[u8]) -> Option<Finding> {
-    let others = (0..).zip(value).filter(|(_, byte)| !byte.is_ascii_digit());
-    let (at, byte) = others.into_iter().find(|(at, _)| {
+    /// One byte stands where a digit passes.
+    fn no_digit(&self) -> Option<Finding> {
+        let mut others = (0..)
+            .zip(self.value)
+            .filter(|(_, byte)| !byte.is_ascii_digit());
+        let (at, byte) = others.find(|(at, _)| self.passes_with_digit(*at))?;
+        let byte = shown::value(&[*byte]);
+        let at = at + 1;
+        let what = format!("{byte} stands where a digit must be, as byte {at} of the value");
+        Some(self.said(&what, "correct the value"))
+    }
+
+    fn passes_with_digit(&self, at: usize) -> bool {
         (b'0'..=b'9').any(|digit| {
-            let mut value = value.to_vec();
-            value
-                .iter_mut()
-                .skip(*at)
-                .take(1)
-                .for_each(|byte| *byte = digit);
-            passing(refused, &value).is_some()
+            let mut value = self.value.to_vec();
+            if let Some(byte) = value.get_mut(at) {
+                *byte = digit;
+            }
+            self.passes(&value)
         })
-    })?;
-    let byte = shown::value(&[*byte]);
-    Some(
-        Finding::cause(format!(
-            "{byte} stands where a digit must be, as byte {} of the value",
-            at + 1
-        ))
-        .advice("correct the value"),
-    )
-}
-
-/// A minus where none may be. What the number is without it is not for a program to say.
-fn sign(refused: &Refused, value: &[u8]) -> Option<Finding> {
-    let without = value.strip_prefix(b"-")?;
-    passing(refused, without)?;
-    Some(
-        Finding::cause("a `-` stands before a number that has no sign")
-            .advice("correct the value: the number itself, without a sign"),
-    )
+    }
 }

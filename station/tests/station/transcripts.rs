@@ -243,6 +243,27 @@ fn odd_files() -> PathBuf {
         put(folder.join(format!("several/AA123456.{ending}")), text);
     }
 
+    let values = [
+        ("day", "=30062027", "=31041999"),
+        ("month", "=30062027", "=01132027"),
+        ("year", "=30062027", "=30062100"),
+        ("hour", "=091500", "=240000"),
+        ("minute", "=091500", "=096000"),
+        ("second", "=091500", "=091560"),
+        ("unit", "=0.40", "=0.40 m"),
+        ("letter", "=0.40", "=O.40"),
+        ("words", "=0.40", "=none"),
+        ("link", "=RETE", "=SERIALE"),
+    ];
+    for (name, old, new) in values {
+        let text = car("DER");
+        assert!(text.contains(old), "{name}");
+        put(
+            folder.join(format!("values/{name}.DER")),
+            text.replace(old, new),
+        );
+    }
+
     put(folder.join("mend/lf.DER"), "[DerivaAsse_1]\nDeriva=0.40\n");
     put(
         folder.join("mend/mixed"),
