@@ -4,6 +4,8 @@ use std::ffi::{OsStr, OsString};
 use std::os::unix::ffi::OsStrExt;
 use std::path::PathBuf;
 
+use crate::case::{AC2, GAS, IDENTIFICATION};
+use crate::entries;
 use crate::help;
 use crate::judge::Wish;
 use crate::output::Trouble;
@@ -30,8 +32,9 @@ pub enum Command {
         stem: OsString,
         only_marked: bool,
     },
-    /// A refusal's number.
-    Explain(u32),
+    /// What is said of a refusal or an entry.
+    Explain(String),
+    Rules,
     Read(Input),
     Format {
         input: Input,
@@ -53,6 +56,7 @@ pub fn parse(words: &[OsString]) -> Result<Command, Trouble> {
         Some("judge") => command(&JUDGE, rest),
         Some("due") => command(&DUE, rest),
         Some("explain") => command(&EXPLAIN, rest),
+        Some("rules") => command(&RULES, rest),
         Some("read") => command(&READ, rest),
         Some("format") => command(&FORMAT, rest),
         _ => {
@@ -100,6 +104,13 @@ const EXPLAIN: Grammar = Grammar {
     flag: None,
     make: explain,
     ..JUDGE
+};
+
+const RULES: Grammar = Grammar {
+    name: "rules",
+    help: help::RULES,
+    make: rules,
+    ..EXPLAIN
 };
 
 const READ: Grammar = Grammar {
@@ -234,20 +245,36 @@ fn due(given: Given) -> Result<Command, Trouble> {
 }
 
 fn explain(given: Given) -> Result<Command, Trouble> {
-    let [word] = exactly(given.words, "a refusal's number")?;
-    let number = word.to_str().and_then(|word| word.parse().ok());
-    let number = number.filter(|number| (1..=words::LAST).contains(number));
-    let number =
-        number.ok_or_else(|| about("refusals have the numbers 1 to 18, and not", &word))?;
-    Ok(Command::Explain(number))
+    let [word] = exactly(given.words, "a refusal's number or an entry")?;
+    let text = word.to_str().unwrap_or_default();
+    let page = match text.parse() {
+        Ok(number) if (1..=words::LAST).contains(&number) => Some(words::page(number)),
+        Ok(_) => return Err(about("refusals have the numbers 1 to 18, and not", &word)),
+        Err(_) => entries::page(text),
+    };
+    let unknown = || {
+        let near = entries::near(word.as_bytes());
+        let near = near.map_or(String::new(), |near| format!(", and `{near}` is near"));
+        Trouble(format!(
+            "no entry has the name {}{near}",
+            shown::name(&word)
+        ))
+    };
+    page.map(Command::Explain).ok_or_else(unknown)
+}
+
+fn rules(given: Given) -> Result<Command, Trouble> {
+    let [] = exactly(given.words, "no word")?;
+    Ok(Command::Rules)
 }
 
 fn read(given: Given) -> Result<Command, Trouble> {
-    input(given.words, given.file.as_deref()).map(Command::Read)
+    let input = input(given.words, given.file.as_deref(), IDENTIFICATION)?;
+    Ok(Command::Read(input))
 }
 
 fn format(given: Given) -> Result<Command, Trouble> {
-    let input = input(given.words, given.file.as_deref())?;
+    let input = input(given.words, given.file.as_deref(), GAS)?;
     let new = given.output.map(PathBuf::from);
     if given.flag {
         // The file is not read by a table, so it has no number.
@@ -269,18 +296,23 @@ fn folder_and_stem(words: Vec<OsString>, what: &str) -> Result<(PathBuf, OsStrin
     Ok((folder.into(), stem))
 }
 
-fn input(words: Vec<OsString>, number: Option<&OsStr>) -> Result<Input, Trouble> {
+/// A path, and a file's number up to the last that the command takes.
+fn input(words: Vec<OsString>, number: Option<&OsStr>, last: u32) -> Result<Input, Trouble> {
     let [path] = exactly(words, "one file")?;
     let path = PathBuf::from(path);
-    let number = number.map(number_of).transpose()?;
+    let number = number.map(|word| number_of(word, last)).transpose()?;
     Ok(Input { path, number })
 }
 
-fn number_of(word: &OsStr) -> Result<u32, Trouble> {
+fn number_of(word: &OsStr, last: u32) -> Result<u32, Trouble> {
     let number = word.to_str().and_then(|word| word.parse().ok());
-    // A file with entries has a first heading.
-    let number = number.filter(|number| mctc::heading_name(*number, 0).is_ok());
-    number.ok_or_else(|| about("--file takes a number from 1 to 5, and not", word))
+    let number = number.filter(|number| (AC2..=last).contains(number));
+    number.ok_or_else(|| {
+        about(
+            &format!("--file takes a number from 1 to {last}, and not"),
+            word,
+        )
+    })
 }
 
 fn exactly<const COUNT: usize>(

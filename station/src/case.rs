@@ -89,6 +89,7 @@ impl<'a> Case<'a> {
     pub fn refusal(&self) -> Option<Refusal> {
         let mut places = Places::default();
         match self.alone {
+            Some(IDENTIFICATION) => mctc::identification(self.text(IDENTIFICATION)).err(),
             Some(number) => mctc::read(number, self.text(number), &mut places).err(),
             None => mctc::judge(&self.lent(), &mut places).err(),
         }

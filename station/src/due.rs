@@ -12,7 +12,9 @@ use crate::explain::{explain, Subject};
 use crate::file_types::{FileType, FILE_TYPES};
 use crate::judge::{counts_as_not_given, Judged};
 use crate::output::{Output, Status, Trouble};
-use crate::table;
+use crate::page::labelled;
+use crate::reasons::Why;
+use crate::table::{self, Entry};
 
 /// The file without entries.
 const SERIAL_ANSWER: u32 = 6;
@@ -67,6 +69,9 @@ fn files(set: &SetOnDisk, only_marked: bool) -> Part {
         if !(only_marked && mark.is_empty()) {
             rows += &row(&format!("{} {}", file.number, file.title), due, found, mark);
         }
+        if !mark.is_empty() {
+            rows += &why(Why::file(&Case::set(set), file.number));
+        }
     }
     if rows.is_empty() {
         return Part::agrees(rows);
@@ -112,7 +117,15 @@ fn column(set: &SetOnDisk, number: u32, name: &str, only_marked: bool) -> Part {
         Ok(column) if column.entries.is_empty() => {
             Part::agrees(format!("{name}, not read with category L\n"))
         }
-        Ok(column) => two_columns(number, name, &column, &places, only_marked),
+        Ok(column) => {
+            let columns = Columns {
+                set,
+                number,
+                column,
+                places,
+            };
+            columns.part(name, only_marked)
+        }
         Err(refusal) if refusal.file != number => {
             Part::refused(format!("{name}\n  no column: the new booking is refused\n"))
         }
@@ -127,37 +140,59 @@ fn column(set: &SetOnDisk, number: u32, name: &str, only_marked: bool) -> Part {
     }
 }
 
-fn two_columns(
+/// What is due in a file, and where its values stand.
+struct Columns<'a> {
+    set: &'a SetOnDisk,
     number: u32,
-    name: &str,
-    column: &Column,
-    places: &Places,
-    only_marked: bool,
-) -> Part {
-    let mut text = format!("{name}\n{}", row("", "due", "found", ""));
-    let mut disagreeing = 0;
-    for section in table::sections(number) {
-        let mut rows = String::new();
-        for entry in &section.entries {
-            let Some(due) = column.entries.get(entry.number) else {
-                continue;
-            };
-            let value = places.value(number, entry.number).unwrap_or_default();
-            let (due, found, mark) = judged(*due, !value.is_empty());
-            if !(only_marked && mark.is_empty()) {
-                rows += &row(&entry.name, due, found, mark);
+    column: Column,
+    places: Places,
+}
+
+impl Columns<'_> {
+    fn part(&self, name: &str, only_marked: bool) -> Part {
+        let mut text = format!("{name}\n{}", row("", "due", "found", ""));
+        let mut disagreeing = 0;
+        for section in table::sections(self.number) {
+            let mut rows = String::new();
+            for entry in &section.entries {
+                let Some((due, found, mark)) = self.judged(entry) else {
+                    continue;
+                };
+                if !(only_marked && mark.is_empty()) {
+                    rows += &row(&entry.name, due, found, mark);
+                }
+                if !mark.is_empty() {
+                    rows += &why(self.why(entry));
+                    disagreeing += 1;
+                }
             }
-            disagreeing += usize::from(!mark.is_empty());
+            if !rows.is_empty() {
+                text += &format!("{}\n{rows}", section.heading);
+            }
         }
-        if !rows.is_empty() {
-            text += &format!("{}\n{rows}", section.heading);
+        if disagreeing == 0 {
+            return Part::agrees(text);
         }
+        text += &format!("  entries that disagree: {disagreeing}\n");
+        Part::refused(text)
     }
-    if disagreeing == 0 {
-        return Part::agrees(text);
+
+    /// None of an axle that is not there.
+    fn judged(&self, entry: &Entry) -> Option<(&'static str, &'static str, &'static str)> {
+        let due = self.column.entries.get(entry.number)?;
+        let value = self.places.value(self.number, entry.number);
+        Some(judged(*due, !value.unwrap_or_default().is_empty()))
     }
-    text += &format!("  entries that disagree: {disagreeing}\n");
-    Part::refused(text)
+
+    fn why(&self, entry: &Entry) -> Option<Why<'_>> {
+        let entry = u32::try_from(entry.number).ok()?;
+        Why::entry(&Case::set(self.set), self.number, entry)
+    }
+}
+
+/// Below a row that is marked.
+fn why(why: Option<Why>) -> String {
+    why.map_or(String::new(), |why| labelled("  why", &why.words()))
 }
 
 /// The words of the two columns, and the mark where they disagree.

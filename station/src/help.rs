@@ -12,6 +12,8 @@ mctc: judges MCTCNet2 test sets with the proved library
   mctc due FOLDER STEM [--only-marked]
                                     entry by entry: what is due, what is found
   mctc explain NUMBER               what a refusal means, and what to do
+  mctc explain ENTRY                what an entry looks like, when it is filled
+  mctc rules                        all rules of a set, as Markdown
   mctc read FILE [--file N]         one file alone, with its values
   mctc format FILE [--file N] [--output NEW]
                                     one file written in table order
@@ -81,10 +83,10 @@ mctc due FOLDER STEM [--only-marked]
 
 Prints the verdict, for each file whether it is due and whether it is given, and
 for every given file, entry by entry in table order, whether the entry is due
-and whether it is filled; marks what disagrees. A file that cannot be read by
-its form (refusals 3 to 9) has no column, and where the new booking cannot, no
-file has one. Whether a file is due is unknown where the new booking, or gas for
-the identification answer, is refused.
+and whether it is filled; marks what disagrees, and says why. A file that cannot
+be read by its form (refusals 3 to 9) has no column, and where the new booking
+cannot, no file has one. Whether a file is due is unknown where the new booking,
+or gas for the identification answer, is refused.
 
   --only-marked  only what disagrees or is refused
 
@@ -94,22 +96,37 @@ refused; 2 bad usage, no file of that stem, or a file cannot be read.
 
 pub const EXPLAIN: &str = "\
 mctc explain NUMBER
+mctc explain ENTRY
 
 Says what refusals with this number (1 to 18) mean, what they carry, in which
-calls they come, and what to do.
+calls they come, and what to do; or for each file that has an entry of this
+name, its section, what its value must look like, when it is filled, and its
+rule.
 
-Exit status: 0 explained; 2 bad usage.
+Exit status: 0 explained; 2 bad usage, or no entry of that name.
+";
+
+pub const RULES: &str = "\
+mctc rules
+
+Prints the rules of a set as Markdown: the files, each entry with its kind and
+when it is filled, the rules between values, the identification answer, and the
+refusals. docs/RULES.md is this text.
+
+Exit status: 0 printed; 2 bad usage.
 ";
 
 pub const READ: &str = "\
 mctc read FILE [--file N]
 
 Reads one file alone and prints its axle count and each entry with its value, in
-table order; or the refusal (3 to 9, 11 for an empty file). What is due and the
-rules between files are left to `mctc judge`.
+table order; of an identification answer its ten fields. Or the refusal (3 to 9,
+11 for an empty file, 14 of an identification answer). What is due and the rules
+between files are left to `mctc judge`.
 
   --file N   the file's number: 1 new booking, 2 old booking, 3 drift,
-             4 suspension, 5 gas; without it the ending of FILE says it
+             4 suspension, 5 gas, 6 identification; without it the ending of
+             FILE says it
 
 Exit status: 0 read; 1 refused; 2 bad usage, or FILE cannot be read.
 ";

@@ -1,28 +1,64 @@
-//! Refusals 14 and 15: what is off about the identification answer, found by trial.
+//! The identification answer: its fields, and what is off about it where it is refused (14, 15), found by trial.
+
+use std::ops::Range;
 
 use crate::case::{Refused, GAS};
 use crate::edit::{Action, Edit};
+use crate::file_types::by_number;
 use crate::finding::Finding;
-use crate::rules::with_line;
 use crate::shown::{self, counted};
-use crate::table;
 
 /// The first byte, the last byte, and the one between fields.
 const START: u8 = 0x02;
 const END: u8 = 0x03;
 const BETWEEN: u8 = 0x17;
 
-/// 01, Identification answer: the entries of gas that its last seven fields repeat, and what stands before them.
-const ENTRIES: [&str; 7] = [
-    "MarcaAnalizzatore",
-    "TipoAnalizzatore",
-    "NumOmologaAnalizzatore",
-    "NumSerieAnalizzatore",
-    "DataScadenzaAnalizzatore",
-    "NumVersSoftwareAnalizzatore",
-    "NumVersioneProtocollo",
+/// A field of the answer.
+pub struct Field {
+    pub name: String,
+    /// What stands there, of a field that gas does not have.
+    pub content: &'static str,
+    /// The entry of gas that it must equal.
+    pub entry: Option<u32>,
+}
+
+/// The fields that gas does not have, with what stands there.
+const OWN: [(&str, &str); 3] = [
+    ("GAS", "`GAS`"),
+    ("address", "the analyser's address, 1 to 3 digits"),
+    ("ID", "`ID`"),
 ];
-const BEFORE: usize = 3;
+
+/// All fields in their order.
+pub fn fields() -> Vec<Field> {
+    let own = OWN.into_iter().map(|(name, content)| Field {
+        name: name.to_string(),
+        content,
+        entry: None,
+    });
+    let first = OWN.len() as u32;
+    let entries = (first..).map_while(|field| mctc::field_entry(field).ok());
+    let shared = entries.filter_map(|entry| {
+        Some(Field {
+            name: mctc::entry_name(GAS, entry).ok()?.name,
+            content: "",
+            entry: Some(entry),
+        })
+    });
+    own.chain(shared).collect()
+}
+
+/// The fields of an answer that has the form, with their names.
+pub fn page(text: &[u8], places: &[Range<usize>]) -> String {
+    let fields = fields();
+    let width = fields.iter().map(|field| field.name.len()).max();
+    let width = width.unwrap_or_default();
+    let rows = fields.iter().zip(places).map(|(field, place)| {
+        let value = text.get(place.clone()).unwrap_or_default();
+        format!("  {:width$} = {}\n", field.name, shown::bytes(value))
+    });
+    rows.collect()
+}
 
 const AGAIN: &str = "have the analyser's answer recorded again";
 
@@ -105,6 +141,7 @@ fn checksum(refused: &Refused) -> Option<Finding> {
 fn ends(refused: &Refused) -> Option<Finding> {
     let text = refused.text();
     let missing = match (text.first(), text.last()) {
+        (None, _) => "the file is empty",
         (Some(&START), Some(&END)) => return None,
         (Some(&START), _) => "it does not end in 03 hex",
         (_, Some(&END)) => "it does not begin with 02 hex",
@@ -115,7 +152,7 @@ fn ends(refused: &Refused) -> Option<Finding> {
 
 fn field_count(refused: &Refused) -> Option<Finding> {
     let count = refused.text().split(|byte| *byte == BETWEEN).count();
-    let right = BEFORE + ENTRIES.len();
+    let right = fields().len();
     (count != right).then(|| {
         Finding::cause(format!(
             "it has {}, and not {right}",
@@ -127,13 +164,13 @@ fn field_count(refused: &Refused) -> Option<Finding> {
 
 /// Refusal 15. Which of the two is wrong is not known here, so no mending is given.
 pub fn difference(refused: &Refused) -> Option<Finding> {
-    let answer = refused.text();
-    let inner = answer.get(..answer.len().checked_sub(3)?)?;
-    let fields = inner.split(|byte| *byte == BETWEEN).skip(BEFORE);
-    let differing: Vec<String> = ENTRIES
+    let text = refused.text();
+    let places = mctc::identification(text).ok()?;
+    let fields = fields();
+    let differing: Vec<String> = fields
         .iter()
-        .zip(fields)
-        .filter_map(|(name, field)| differing(refused, name, field))
+        .zip(places)
+        .filter_map(|(field, place)| differing(refused, field, text.get(place)?))
         .collect();
     if differing.is_empty() {
         return None;
@@ -144,13 +181,15 @@ pub fn difference(refused: &Refused) -> Option<Finding> {
     ))
 }
 
-fn differing(refused: &Refused, name: &str, field: &[u8]) -> Option<String> {
-    let gas = refused.case.text(GAS);
-    let sections = table::sections(GAS);
-    let mut found = sections
-        .iter()
-        .filter_map(|section| table::line_of(gas, &section.heading, name));
-    let (_, value) = found.next()?;
-    let stands = with_line(refused, GAS, name)?;
-    (value != field).then(|| format!("{stands}, and the answer has {}", shown::value(field)))
+fn differing(refused: &Refused, field: &Field, found: &[u8]) -> Option<String> {
+    let (line, value) = refused.case.value(GAS, field.entry?)?;
+    let ending = by_number(GAS)?.ending;
+    (value != found).then(|| {
+        format!(
+            "{ending} line {line}: {}={}, and the answer has {}",
+            field.name,
+            shown::value(value),
+            shown::value(found)
+        )
+    })
 }

@@ -12,6 +12,7 @@ mod case;
 mod disk;
 mod due;
 mod edit;
+mod entries;
 mod explain;
 mod file_types;
 mod finding;
@@ -33,6 +34,7 @@ mod page;
 mod progress;
 mod read;
 mod reasons;
+mod rulebook;
 mod rules;
 mod shown;
 mod table;
@@ -65,7 +67,8 @@ fn run(command: Command) -> Result<Status, Trouble> {
             stem,
             only_marked,
         } => due::run(folder, stem, *only_marked, &mut out),
-        Command::Explain(number) => out.text(&words::page(*number)).map(|()| Status::Accepted),
+        Command::Explain(page) => out.text(page).map(|()| Status::Accepted),
+        Command::Rules => out.text(&rulebook::text()).map(|()| Status::Accepted),
         Command::Read(input) => read::run(input, &mut out),
         Command::Format { input, new } => format::run(input, new.as_deref(), &mut out),
         Command::Mend { path, new } => format::mend(path, new.as_deref(), &mut out),

@@ -5,10 +5,11 @@ use std::path::{Path, PathBuf};
 
 use mctc::{Places, Refusal};
 
-use crate::case::Case;
+use crate::case::{Case, IDENTIFICATION};
 use crate::disk::{read_file, FileOnDisk};
 use crate::explain::{explain, Subject};
 use crate::file_types::{by_number, split_name};
+use crate::identification;
 use crate::output::{Output, Status, Trouble};
 use crate::shown::{self, counted};
 use crate::table::{self, Section};
@@ -31,6 +32,9 @@ pub struct FileRead {
 
 pub fn run(input: &Input, out: &mut Output) -> Result<Status, Trouble> {
     let read = input.read()?;
+    if read.number == IDENTIFICATION {
+        return read.identification(out);
+    }
     match read.verdict {
         Ok(axles) => {
             out.text(&read.page(axles))?;
@@ -67,17 +71,36 @@ fn number_of(path: &Path) -> Result<u32, Trouble> {
     match split_name(name.as_bytes()) {
         Some((_, file)) => Ok(file.number),
         None => Err(Trouble(format!(
-            "{}: the ending is none of .AC2, .ACC, .DER, .SOS, .GAS; add --file and the file's number (1 new booking, \
-             2 old booking, 3 drift, 4 suspension, 5 gas)",
+            "{}: the ending is none of .AC2, .ACC, .DER, .SOS, .GAS, .ID; add --file and the file's number (1 new \
+             booking, 2 old booking, 3 drift, 4 suspension, 5 gas, 6 identification)",
             shown::name(path)
         ))),
     }
 }
 
 impl FileRead {
-    fn page(&self, axles: u32) -> String {
+    /// The fields of an identification answer, or the refusal.
+    fn identification(&self, out: &mut Output) -> Result<Status, Trouble> {
+        match mctc::identification(&self.file.text) {
+            Ok(places) => {
+                let fields = identification::page(&self.file.text, &places);
+                out.text(&(self.title() + "\n" + &fields))?;
+                Ok(Status::Accepted)
+            }
+            Err(refusal) => {
+                out.text(&self.refused(refusal))?;
+                Ok(Status::Refused)
+            }
+        }
+    }
+
+    fn title(&self) -> String {
         let title = by_number(self.number).map_or("", |file| file.title);
-        let mut page = format!("{}: {title} (file {})", self.file.name, self.number);
+        format!("{}: {title} (file {})", self.file.name, self.number)
+    }
+
+    fn page(&self, axles: u32) -> String {
+        let mut page = self.title();
         if axles > 0 {
             page += &format!(", {}", counted(axles as usize, "axle"));
         }

@@ -46,7 +46,7 @@ impl Counts {
     fn asked(&self) -> String {
         match self {
             Counts::These(words) => format!("is {}", listed(&word_list(words), "or")),
-            Counts::AllBut(words) => format!("is not {}", listed(&word_list(words), "or")),
+            Counts::AllBut(words) => format!("is none of {}", word_list(words).join(", ")),
             Counts::Plate => "has six bytes".to_string(),
             Counts::Stem => "has 9 as its first digit".to_string(),
         }
@@ -111,7 +111,7 @@ pub fn when_filled(condition: &Condition) -> String {
 
 /// When a file is given, whatever a set's values are.
 pub fn when_given(file: u32) -> String {
-    let Some((condition, title)) = mctc::file_condition(file).ok().zip(title(file)) else {
+    let Ok(condition) = mctc::file_condition(file) else {
         return String::new();
     };
     let groups = groups_in_words(&condition.groups);
@@ -121,24 +121,23 @@ pub fn when_given(file: u32) -> String {
         _ => "",
     };
     match condition.asked {
-        Asked::Always => format!("{title}: given in every set"),
-        Asked::Free => format!("{title}: may be given or not"),
-        Asked::When => format!("{title}: given exactly when {gas}{groups}"),
-        Asked::OnlyWhen => format!("{title}: given only when {gas}{groups}"),
+        Asked::Always => "in every set".to_string(),
+        Asked::Free => "may be given or not".to_string(),
+        Asked::When => format!("exactly when {gas}{groups}"),
+        Asked::OnlyWhen => format!("only when {gas}{groups}"),
     }
-}
-
-fn title(file: u32) -> Option<&'static str> {
-    by_number(file).map(|file| file.title)
 }
 
 fn groups_in_words(groups: &[Vec<Reason>]) -> String {
     let groups = groups.iter().map(|group| {
-        let reasons = group.iter().map(|reason| {
-            let asked = Counts::of(reason).asked();
-            format!("{} {asked}", place(reason))
-        });
-        listed(&reasons.collect::<Vec<_>>(), "or")
+        let reasons: Vec<String> = group
+            .iter()
+            .map(|reason| format!("{} {}", place(reason), Counts::of(reason).asked()))
+            .collect();
+        match reasons.as_slice() {
+            [_, _, ..] => format!("either {}", reasons.join(", or ")),
+            _ => reasons.concat(),
+        }
     });
     groups.collect::<Vec<_>>().join(", and ")
 }

@@ -1,6 +1,6 @@
 //! What each refusal means and what to do, in plain words.
 
-use crate::file_types::by_number;
+use crate::file_types::{by_number, FILE_TYPES};
 use crate::page::labelled;
 use crate::reasons;
 
@@ -15,7 +15,10 @@ pub fn page(number: u32) -> String {
     page += &labelled("comes", calls(number));
     page += &labelled("to do", advice(number));
     let rules = match number {
-        11 => (1..=6).map(reasons::when_given).collect(),
+        11 => FILE_TYPES
+            .iter()
+            .map(|file| format!("{}: {}", file.title, reasons::when_given(file.number)))
+            .collect(),
         12 => booking_rules(),
         _ => Vec::new(),
     };
@@ -26,7 +29,7 @@ pub fn page(number: u32) -> String {
 }
 
 /// 01's table: what a refusal carries.
-fn place(number: u32) -> &'static str {
+pub fn place(number: u32) -> &'static str {
     match number {
         1 | 2 => "no file and no line",
         3 | 7 | 11 | 14 | 15 | 16 | 18 => "a file, and no line",
@@ -41,7 +44,8 @@ fn place(number: u32) -> &'static str {
 fn calls(number: u32) -> &'static str {
     match number {
         1 => "in every call with places; never from this program, which lends enough",
-        2 | 12..=15 => "in judging a set (`mctc judge`)",
+        14 => "in judging a set, and in reading an identification answer alone (`mctc judge`, `mctc read`)",
+        2 | 12 | 13 | 15 => "in judging a set (`mctc judge`)",
         3..=8 => "in judging a set and in reading a file alone (`mctc judge`, `mctc due`, `mctc read`, `mctc format`)",
         9 => {
             "in judging a set, in reading a file alone and in writing one (`mctc judge`, `mctc due`, `mctc read`, \
@@ -51,7 +55,7 @@ fn calls(number: u32) -> &'static str {
         11 => "in judging a set, and in reading a file alone that is empty (`mctc judge`, `mctc due`, `mctc read`)",
         16 => {
             "in every call with a file's number but judging; from this program where an identification answer, which \
-             has no entries, is read alone (`mctc read`)"
+             has no entries, is to be written in table order (`mctc format`)"
         }
         17 => "in writing; never from this program, which writes what it has read",
         _ => "in writing, names and due columns; never from this program, which lends enough",
@@ -133,6 +137,22 @@ fn booking_rules() -> Vec<String> {
         .collect()
 }
 
+/// The rule at an entry, which its line is refused by.
+pub fn rule(file: u32, entry: &[u8]) -> Option<&'static str> {
+    match (file, entry) {
+        (4, b"Differenza%") => Some("the larger of Aderenza%Sx and Aderenza%Dx less the smaller"),
+        _ => booking_rule(file, entry),
+    }
+}
+
+/// The refusal of a file whose rules are broken.
+pub fn rule_refusal(file: u32) -> u32 {
+    match file {
+        1 | 2 => 12,
+        _ => 13,
+    }
+}
+
 /// 01, Bookings: the rule at an entry of a booking.
 pub fn booking_rule(file: u32, entry: &[u8]) -> Option<&'static str> {
     let rule = match (file, entry) {
@@ -148,9 +168,11 @@ pub fn booking_rule(file: u32, entry: &[u8]) -> Option<&'static str> {
         }
         (2, b"AnnoPrimaImm") => "the year of the new booking's DataPrimaImm",
         (2, b"Alimentazione_1") => {
-            "for BENZINA by directive and date: BENZINA CAT, BENZINA<86 or BENZINA NO CAT; for DIESEL by Turbo and \
-             CorrettorePressione: DIESEL TURBO COMPRESSO, DIESEL ASPIRATO SENZA CORRETTORE or DIESEL ASPIRATO CON \
-             CORRETTORE; else the same as in the new booking"
+            "where the new booking has BENZINA: BENZINA CAT with directive 91/441/CEE or 98/69/CE; BENZINA<86 with \
+             RT1902 or NESSUNA and a DataPrimaImm before 01/10/1986; BENZINA NO CAT with RT1902 and one from then and \
+             before 01/07/2002; else no value fits. Where it has DIESEL: DIESEL TURBO COMPRESSO with Turbo S; else \
+             DIESEL ASPIRATO SENZA CORRETTORE with CorrettorePressione N and DIESEL ASPIRATO CON CORRETTORE with S. \
+             Else the same as in the new booking"
         }
         (2, b"FrenoStazionamento") => {
             "MANO or PEDALE where the new booking has ELETTRICO, else the same as there"

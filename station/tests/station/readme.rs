@@ -1,4 +1,5 @@
-//! What README.md shows is what happens: the tour's commands with their output, and the program in C.
+//! What README.md shows is what happens: the tour's commands with their output, and the program in C. docs/RULES.md is
+//! what the program prints.
 //!
 //! A command stands behind `    $ mctc `, its output in the indented lines below. `..` at the end of a line stands for
 //! the rest of that line, and alone for the rest of the output.
@@ -73,6 +74,22 @@ fn the_tour_shows_real_output() {
             "mctc {words:?} prints {found:#?}, and README.md has {shown:#?}"
         );
     }
+}
+
+/// docs/RULES.md is what the program prints.
+#[test]
+fn the_rules_are_current() {
+    let stored = fs::read_to_string(repository().join("docs/RULES.md")).expect("docs/RULES.md");
+    let printed = run(&repository(), &["rules"]).stdout;
+    let printed = String::from_utf8(printed).expect("a text");
+    let differs = stored
+        .lines()
+        .zip(printed.lines())
+        .find(|(one, other)| one != other);
+    assert!(
+        stored == printed,
+        "`mctc rules` prints another text than docs/RULES.md has; first {differs:?}"
+    );
 }
 
 #[test]
