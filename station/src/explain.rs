@@ -121,6 +121,9 @@ fn finding(refused: &Refused, subject: Option<&Subject>) -> Option<Finding> {
     }
 }
 
+/// How many bytes a stem has.
+const STEM: usize = 8;
+
 /// Row 2.
 fn stem(refused: &Refused) -> Finding {
     let stem = refused.case.stem();
@@ -134,7 +137,8 @@ fn stem(refused: &Refused) -> Finding {
     });
     let cause = match mend {
         Some(_) => format!("the stem `{found}` has small letters"),
-        None => format!("the stem `{found}` has {length}"),
+        None if stem.len() != STEM => format!("the stem `{found}` has {length}, and not {STEM}"),
+        None => format!("the stem `{found}` has {length}, but not two capitals and six digits"),
     };
     let finding = Finding::cause(cause);
     if refused.case.has_twin() {

@@ -43,7 +43,7 @@ mctc judge FOLDER [--all] [--json]
 
 Judges one set, or every set of the folder. A refusal has its number, what it
 means, the file, the line and its text (bytes that cannot be printed as \\xHH),
-the cause where it is known, and what to do.
+the cause where it is known, what is expected there, and what to do.
 
 With STEM: the verdict on that set. With --json one object: stem, accepted,
 number, file, line (0 for none), name, meaning, text, remark, to_do, cause,
@@ -54,8 +54,9 @@ An accepted set may have notes: values that are near a word that counts, as
 `benzina` is near `BENZINA`, and by which something would be due.
 
 mend is what to_do asks for, where that can be done without knowing more, or
-null. It was tried: with it, the judge accepts or refuses at a later place. It
-has file, line, action and text:
+null. It was tried: with it, the judge accepts, refuses at a later place, or
+asks for something that is due. It takes out no value and no file. It has file,
+line, action and text:
 
   replace    the line has this text, ended by CR LF
   delete     the line goes

@@ -7,6 +7,7 @@
 
 mod absent;
 mod arguments;
+mod booking_tables;
 mod candidates;
 mod case;
 mod disk;

@@ -309,7 +309,7 @@ impl<'a> Why<'a> {
         }
         let all = |looked: Vec<String>| looked.join(" and ");
         match (self.asked, self.failing().as_slice()) {
-            (Asked::Always, _) => format!("due in every {}", self.within),
+            (Asked::Always, _) => format!("it is due in every {}", self.within),
             (Asked::Free, _) => "free: it may be there or not".to_string(),
             (_, []) => {
                 let holding = self.holding();

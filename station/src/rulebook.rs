@@ -1,5 +1,8 @@
 //! `mctc rules`: the rules of a set in Markdown, from the library. docs/RULES.md is what it prints.
 
+use std::iter;
+
+use crate::booking_tables;
 use crate::case::GAS;
 use crate::entries::{self, Described};
 use crate::file_types::{by_number, FileType, FILE_TYPES};
@@ -59,7 +62,7 @@ pub fn text() -> String {
     for file in &FILE_TYPES {
         text += &entries_of(file);
     }
-    text + &rules() + ANSWER + &fields() + ORDER + REFUSALS + &refusals()
+    text + &rules() + &bookings() + ANSWER + &fields() + ORDER + REFUSALS + &refusals()
 }
 
 /// A row of a table. A bar within would end its cell.
@@ -120,6 +123,52 @@ fn rules() -> String {
         }
     }
     text
+}
+
+/// What the library lets pass in bookings that were made up for this.
+fn bookings() -> String {
+    let mut text = "\nWhat passes, by trial with the library:\n".to_string();
+    text += &table(
+        &[
+            "CategoriaInternazionale",
+            "TipoVeicolo",
+            "ACC's DescrizioneVeicolo",
+        ],
+        &booking_tables::categories(),
+    );
+    let (days, rows) = booking_tables::petrol();
+    let days = days
+        .iter()
+        .map(|day| format!("ACC's fuel, DataPrimaImm {day}"));
+    let head: Vec<String> = iter::once("BENZINA, directive".to_string())
+        .chain(days)
+        .collect();
+    let head: Vec<&str> = head.iter().map(String::as_str).collect();
+    text += &table(&head, &rows);
+    text += &table(
+        &[
+            "DIESEL, Turbo",
+            "CorrettorePressione",
+            "ACC's Alimentazione_1",
+        ],
+        &booking_tables::diesel(),
+    );
+    text + &table(
+        &[
+            "AzionamentoFrenoStazionamento of an M1",
+            "ACC's FrenoStazionamento",
+        ],
+        &booking_tables::brakes(),
+    )
+}
+
+fn table(head: &[&str], rows: &[impl AsRef<[String]>]) -> String {
+    let rows = rows.iter().map(|cells| {
+        let cells: Vec<&str> = cells.as_ref().iter().map(String::as_str).collect();
+        row(&cells)
+    });
+    let rule = "|---".repeat(head.len());
+    format!("\n{}{rule}|\n{}", row(head), rows.collect::<String>())
 }
 
 fn fields() -> String {

@@ -1,0 +1,171 @@
+//! The rules of the bookings as tables, for `mctc rules`: bookings are made up and judged, and what passes is listed.
+
+use mctc::{Places, Set, Test};
+
+use crate::candidates;
+use crate::case::AC2;
+use crate::shown::word_list;
+use crate::table;
+
+const ACC: u32 = 2;
+
+/// Days on both sides of those by which the fuel of the old booking changes.
+const DAYS: [&str; 4] = ["30091986", "01101986", "30062002", "01072002"];
+
+/// Values by the names of their entries. What stands first counts.
+type Values<'a> = [(&'a str, &'a str)];
+
+/// What both bookings have where nothing else is said: a car without any rule to break but the one that is tried.
+const PLAIN: [(&str, &str); 11] = [
+    ("TargaNominale", "AB123CD"),
+    ("TipoVeicolo", "LEGGERO"),
+    ("CategoriaInternazionale", "M1"),
+    ("DataPrimaImm", "01012000"),
+    ("Alimentazione_1", "GPL"),
+    ("AzionamentoFrenoStazionamento", "MANO"),
+    ("PosAssiStaz", "NNNNNNNNN"),
+    ("DescrizioneVeicolo", "AUTOVETTURA"),
+    ("AnnoPrimaImm", "2000"),
+    ("FrenoStazionamento", "MANO"),
+    ("NumAssiStazionamento", "0"),
+];
+
+/// A booking with these values, the plain ones where there is none, and nothing at all other entries.
+fn booking(file: u32, values: &Values) -> Vec<u8> {
+    let mut text = String::new();
+    for section in table::sections(file) {
+        text += &format!("{}\r\n", section.heading);
+        for entry in section.entries {
+            let mut known = values.iter().chain(&PLAIN);
+            let value = known.find(|(name, _)| *name == entry.name);
+            let value = value.map_or("", |(_, value)| value);
+            text += &format!("{}={value}\r\n", entry.name);
+        }
+    }
+    text.into_bytes()
+}
+
+/// Whether the library lets bookings pass: it accepts, or refuses a file behind them.
+fn passes(ac2: &Values, acc: Option<&Values>) -> bool {
+    let set = Set {
+        stem: b"AB123456",
+        ac2: &booking(AC2, ac2),
+        acc: &acc.map_or(Vec::new(), |acc| booking(ACC, acc)),
+        ..Set::default()
+    };
+    let verdict = mctc::judge(&set, &mut Places::default());
+    verdict.err().is_none_or(|refusal| refusal.file > ACC)
+}
+
+/// The words of an entry of the new booking.
+fn words_of(name: &str) -> Vec<String> {
+    let mut entries = (0..).map_while(|entry| {
+        let found = mctc::entry_name(AC2, entry).ok()?;
+        Some((found.name, entry))
+    });
+    let entry = entries.find(|(other, _)| other == name);
+    let kind = entry.and_then(|(_, entry)| mctc::kind(AC2, entry).ok());
+    kind.map_or(Vec::new(), |kind| kind.words)
+}
+
+/// The words that pass at an entry of the old booking.
+fn fitting(ac2: &Values, name: &str, acc: &Values) -> String {
+    let fits = |word: &String| {
+        let acc = [&[(name, word.as_str())], acc].concat();
+        passes(ac2, Some(&acc))
+    };
+    or_none(candidates::words().filter(fits).collect())
+}
+
+fn or_none(mut words: Vec<String>) -> String {
+    let mut seen = Vec::new();
+    words.retain(|word| {
+        let is_new = !seen.contains(word);
+        seen.push(word.clone());
+        is_new
+    });
+    match words.as_slice() {
+        [] => "none".to_string(),
+        words => word_list(words).join(", "),
+    }
+}
+
+/// A category, its TipoVeicolo and its DescrizioneVeicolo.
+pub fn categories() -> Vec<[String; 3]> {
+    let rows = words_of("CategoriaInternazionale")
+        .into_iter()
+        .map(|category| {
+            // A trailer has no fuel.
+            let fuel = match Test::NotO.passes(category.as_bytes()) {
+                true => "GPL",
+                false => "",
+            };
+            let values = [
+                ("CategoriaInternazionale", category.as_str()),
+                ("Alimentazione_1", fuel),
+            ];
+            let is_type = |word: &String| {
+                let values = [&[("TipoVeicolo", word.as_str())], &values[..]].concat();
+                passes(&values, None)
+            };
+            let types: Vec<String> = words_of("TipoVeicolo")
+                .into_iter()
+                .filter(is_type)
+                .collect();
+            let first = types.first().map_or("", String::as_str);
+            let values = [&[("TipoVeicolo", first)], &values[..]].concat();
+            let descriptions = match Test::NotL.passes(category.as_bytes()) {
+                true => fitting(&values, "DescrizioneVeicolo", &values),
+                false => "not read".to_string(),
+            };
+            [format!("`{category}`"), or_none(types), descriptions]
+        });
+    rows.collect()
+}
+
+/// A car's directive, and the old booking's fuel for each of the days.
+pub fn petrol() -> (Vec<&'static str>, Vec<Vec<String>>) {
+    let rows = words_of("DirettivaEmissioniGasBenzinaAuto").into_iter();
+    let rows = rows.map(|directive| {
+        let days = DAYS.iter().map(|day| {
+            let values = [
+                ("Alimentazione_1", "BENZINA"),
+                ("DirettivaEmissioniGasBenzinaAuto", directive.as_str()),
+                ("DataPrimaImm", day),
+                ("AnnoPrimaImm", day.get(4..).unwrap_or_default()),
+            ];
+            fitting(&values, "Alimentazione_1", &values)
+        });
+        let cells = std::iter::once(format!("`{directive}`")).chain(days);
+        cells.collect()
+    });
+    (DAYS.to_vec(), rows.collect())
+}
+
+/// Turbo, CorrettorePressione, and the old booking's fuel.
+pub fn diesel() -> Vec<[String; 3]> {
+    let mut rows = Vec::new();
+    for turbo in words_of("Turbo") {
+        for corrector in words_of("CorrettorePressione") {
+            let values = [
+                ("Alimentazione_1", "DIESEL"),
+                ("Turbo", turbo.as_str()),
+                ("CorrettorePressione", corrector.as_str()),
+            ];
+            let fuel = fitting(&values, "Alimentazione_1", &values);
+            rows.push([format!("`{turbo}`"), format!("`{corrector}`"), fuel]);
+        }
+    }
+    rows
+}
+
+/// The parking brake of the new booking, and of the old one.
+pub fn brakes() -> Vec<[String; 2]> {
+    let rows = words_of("AzionamentoFrenoStazionamento").into_iter();
+    let rows = rows.map(|brake| {
+        let values = [("AzionamentoFrenoStazionamento", brake.as_str())];
+        let fitting = fitting(&values, "FrenoStazionamento", &[]);
+        [format!("`{brake}`"), fitting]
+    });
+    rows.collect()
+}
