@@ -2,9 +2,10 @@
 
 use mctc::Due;
 
-use crate::case::Refused;
+use crate::case::{Case, Refused};
 use crate::edit::{Action, Edit};
 use crate::finding::Finding;
+use crate::reasons::Why;
 use crate::table::{self, Entry};
 use crate::words;
 
@@ -57,16 +58,31 @@ fn below(refused: &Refused, entry: &Entry) -> Edit {
     refused.edit(Action::Insert(format!("{}=", entry.name).into_bytes()))
 }
 
-/// Whether the first of these may be empty: with all of them there, the library says what is due.
+/// Whether the first of these may be empty: with all of them there, the library says what is due. Not where a value
+/// that decides it is doubtful: to leave out what is due with another value would hide that.
 fn may_be_empty(refused: &Refused, missing: &[Entry]) -> bool {
     let file = refused.refusal.file;
     let text = missing.iter().fold(refused.text().to_vec(), |text, entry| {
         below(refused, entry).apply(&text)
     });
-    let column = refused.case.with_text(file, &text).due(file);
-    let due = column
-        .as_ref()
-        .zip(missing.first())
-        .and_then(|(column, first)| column.entries.get(first.number));
-    matches!(due, Some(Due::NotDue | Due::Free))
+    let case = refused.case.with_text(file, &text);
+    let due = case.due(file).zip(missing.first());
+    let due = due.and_then(|(column, first)| column.entries.get(first.number).copied());
+    match due {
+        Some(Due::Free) => true,
+        Some(Due::NotDue) => !missing
+            .first()
+            .is_some_and(|first| is_doubtful(&case, file, first)),
+        _ => false,
+    }
+}
+
+fn is_doubtful(case: &Case, file: u32, entry: &Entry) -> bool {
+    let entry = u32::try_from(entry.number).ok();
+    let why = entry.and_then(|entry| Why::entry(case, file, entry));
+    why.is_some_and(|why| {
+        why.deciding()
+            .iter()
+            .any(|looked| looked.corrected().is_some())
+    })
 }

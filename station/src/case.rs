@@ -213,6 +213,10 @@ impl<'a> Refused<'a> {
             return after.is_none_or(|after| after.number != self.refusal.number);
         }
         let text = edit.apply(self.case.text(edit.file));
+        // An empty file is not given: only the last resort takes one out.
+        if text.is_empty() && edit.action != Action::Remove {
+            return false;
+        }
         let case = self.case.with_text(edit.file, &text);
         case.refusal()
             .is_none_or(|refusal| self.is_before(edit, Refused { case, refusal }))

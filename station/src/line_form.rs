@@ -6,6 +6,7 @@ use crate::finding::Finding;
 use crate::line_ends::{self, Ends, NoText, BYTE_ORDER_MARK};
 use crate::shown::{self, counted};
 use crate::table;
+use crate::words;
 
 /// 01, Lines: the most bytes before CR LF.
 const LONGEST: usize = 512;
@@ -112,8 +113,9 @@ impl<'a> Line<'a> {
     fn length(&self) -> Option<Finding> {
         let length = self.content().len();
         if length == 0 {
+            // Without it nothing may be left, and an empty file is not given.
             let mend = self.tried(Action::Delete);
-            return Some(Finding::cause("the line is empty").mend_or(mend, "delete the line"));
+            return Some(Finding::cause("the line is empty").mend_or(mend, words::advice(3)));
         }
         (length > LONGEST).then(|| {
             let over = counted(length - LONGEST, "byte");

@@ -9,7 +9,9 @@ use std::path::{Path, PathBuf};
 use crate::broken::{broken_sets, files};
 use crate::common::{empty_folder, put, repository, run};
 use outside::comparison::set_case;
-use outside::judge::Call;
+use outside::generator::record;
+use outside::judge::{Call, Set};
+use outside::random::Random;
 
 const ENDINGS: [&str; 6] = ["AC2", "ACC", "DER", "SOS", "GAS", "ID"];
 
@@ -54,6 +56,7 @@ const MENDED: [&str; 31] = [
 /// Generated sets; seeds apart from those of other tests.
 const GENERATED: u64 = 300;
 const FIRST_SEED: u64 = 10 << 40;
+const FIRST_RECORD: u64 = 11 << 40;
 
 /// The member `mend` of an answer.
 struct Mend {
@@ -290,6 +293,75 @@ fn a_doubtful_fuel_is_noted() {
     let answer = String::from_utf8(answer).expect("a text");
     assert!(answer.contains("accepted"), "{answer}");
     assert!(answer.contains("  note     AC2 line 8"), "{answer}");
+}
+
+/// What may have been taken out of a petrol vehicle's set, to make it pass with its fuel written wrong.
+fn taken_out(set: &mut Set, which: usize) {
+    const DIRECTIVE: &str = "DirettivaEmissioniGas";
+    let ac2 = String::from_utf8(set.slices[0].clone()).expect("a text");
+    let without = |instead: fn(&str) -> Option<String>| -> Vec<u8> {
+        let lines =
+            ac2.split_inclusive('\n')
+                .filter_map(|line| match line.starts_with(DIRECTIVE) {
+                    true => instead(line),
+                    false => Some(line.to_string()),
+                });
+        lines.collect::<String>().into_bytes()
+    };
+    let emptied = |line: &str| Some(format!("{}=\r\n", line.split('=').next()?));
+    match which % 4 {
+        1 => set.slices[0] = without(emptied),
+        2 => set.slices[0] = without(|_| None),
+        _ => (),
+    }
+    let gone: &[usize] = match which / 4 % 4 {
+        1 => &[4],
+        2 => &[4, 5],
+        3 => &[1, 4, 5],
+        _ => &[],
+    };
+    gone.iter().for_each(|at| set.slices[*at].clear());
+}
+
+/// Generated petrol vehicles with their fuel written wrong, and more taken out: advice never leads to acceptance without
+/// gas. What the judge accepts as it stands has a note.
+#[test]
+fn no_petrol_vehicle_goes_without_gas() {
+    let root = empty_folder("obeyed-petrol");
+    let (mut tried, mut mended) = (0, 0);
+    for at in 0..GENERATED {
+        let mut set = record(&mut Random::new(FIRST_RECORD + at)).set;
+        let ac2 = String::from_utf8(set.slices[0].clone()).expect("a text");
+        let wrong = ["benzina", "BENZINA ", "Benzina", "BENZNA"][at as usize % 4];
+        let written = ac2.replace(
+            "Alimentazione_1=BENZINA\r",
+            &format!("Alimentazione_1={wrong}\r"),
+        );
+        if written == ac2 {
+            continue;
+        }
+        set.slices[0] = written.into_bytes();
+        taken_out(&mut set, at as usize / 4);
+        let folder = root.join(at.to_string());
+        let stem = String::from_utf8(set.stem.clone()).expect("a stem");
+        for (ending, slice) in ENDINGS.iter().zip(&set.slices) {
+            if !slice.is_empty() {
+                put(folder.join(format!("{stem}.{ending}")), slice);
+            }
+        }
+        let (accepted, steps) = obeyed(&folder, stem.clone().into());
+        let answer = run(&folder, &["judge", ".", &stem, "--json"]).stdout;
+        let answer = String::from_utf8(answer).expect("JSON is UTF-8");
+        let noted = !answer.contains("\"notes\":[]");
+        assert!(
+            !accepted || has_gas(&folder) || (steps == 0 && noted),
+            "{}: accepted without gas: {answer}",
+            folder.display()
+        );
+        tried += 1;
+        mended += usize::from(accepted && steps > 0);
+    }
+    assert!(tried > 50 && mended > 5, "{tried} tried, {mended} mended");
 }
 
 /// Generated sets, most of them broken in several places: the advice comes to an end, and takes no file out.
