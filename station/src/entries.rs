@@ -7,7 +7,7 @@ use crate::kinds;
 use crate::near::nearest;
 use crate::page::labelled;
 use crate::reasons;
-use crate::table::{self, Section};
+use crate::table::{self, Entry, Section};
 use crate::words;
 
 /// An entry of a file, and the headings that it stands under: one, or those of all axles.
@@ -23,15 +23,10 @@ impl Described {
     fn new(
         file: &'static FileType,
         sections: &[Section],
-        entry: &table::Entry,
+        section: &Section,
+        entry: &Entry,
     ) -> Option<Described> {
         let number = u32::try_from(entry.number).ok()?;
-        let section = sections.iter().find(|section| {
-            section
-                .entries
-                .iter()
-                .any(|other| other.number == entry.number)
-        })?;
         let headings = match table::axles_like(sections, section.heading.as_bytes()).as_slice() {
             [first, .., last] => format!("`{first}` to `{last}`"),
             _ => format!("`{}`", section.heading),
@@ -43,6 +38,10 @@ impl Described {
             condition: mctc::condition(file.number, number).ok()?,
             file,
         })
+    }
+
+    fn is_as(&self, other: &Described) -> bool {
+        (&self.headings, &self.name) == (&other.headings, &other.name)
     }
 
     pub fn kind(&self) -> String {
@@ -73,17 +72,15 @@ impl Described {
 /// The entries of a file in table order; those of the axles, which are the same, once.
 pub fn of_file(file: &'static FileType) -> Vec<Described> {
     let sections = table::sections(file.number);
-    let entries = sections.iter().flat_map(|section| &section.entries);
-    let described = entries.filter_map(|entry| Described::new(file, &sections, entry));
-    let mut described: Vec<Described> = described.collect();
-    let key = |one: &Described| (one.headings.clone(), one.name.clone());
-    let mut seen = Vec::new();
-    described.retain(|one| {
-        let is_new = !seen.contains(&key(one));
-        seen.push(key(one));
-        is_new
-    });
-    described
+    let mut all: Vec<Described> = Vec::new();
+    for section in &sections {
+        for entry in &section.entries {
+            let described = Described::new(file, &sections, section, entry);
+            let is_new = |one: &Described| !all.iter().any(|other| one.is_as(other));
+            all.extend(described.filter(is_new));
+        }
+    }
+    all
 }
 
 /// All that is said of entries of this name; None where there is none.

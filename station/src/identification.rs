@@ -16,24 +16,29 @@ const BETWEEN: u8 = 0x17;
 /// A field of the answer.
 pub struct Field {
     pub name: String,
-    /// What stands there, of a field that gas does not have.
+    /// What stands there, in words, and one such content.
     pub content: &'static str,
+    example: &'static str,
     /// The entry of gas that it must equal.
     pub entry: Option<u32>,
 }
 
 /// The fields that gas does not have, with what stands there.
-const OWN: [(&str, &str); 3] = [
-    ("GAS", "`GAS`"),
-    ("address", "the analyser's address, 1 to 3 digits"),
-    ("ID", "`ID`"),
+const OWN: [(&str, &str, &str); 3] = [
+    ("GAS", "`GAS`", "GAS"),
+    ("address", "the analyser's address, 1 to 3 digits", "1"),
+    ("ID", "`ID`", "ID"),
 ];
+
+/// What stands in a field that gas has too.
+const SHARED: &str = "1 to 64 plain letters, digits, signs or spaces";
 
 /// All fields in their order.
 pub fn fields() -> Vec<Field> {
-    let own = OWN.into_iter().map(|(name, content)| Field {
+    let own = OWN.into_iter().map(|(name, content, example)| Field {
         name: name.to_string(),
         content,
+        example,
         entry: None,
     });
     let first = OWN.len() as u32;
@@ -41,7 +46,8 @@ pub fn fields() -> Vec<Field> {
     let shared = entries.filter_map(|entry| {
         Some(Field {
             name: mctc::entry_name(GAS, entry).ok()?.name,
-            content: "",
+            content: SHARED,
+            example: "A",
             entry: Some(entry),
         })
     });
@@ -68,6 +74,7 @@ pub fn form(refused: &Refused) -> Option<Finding> {
         .or_else(|| checksum(refused))
         .or_else(|| ends(refused))
         .or_else(|| field_count(refused))
+        .or_else(|| wrong_field(refused))
 }
 
 fn content(refused: &Refused, content: Vec<u8>) -> Option<Edit> {
@@ -159,6 +166,44 @@ fn field_count(refused: &Refused) -> Option<Finding> {
             counted(count, "field")
         ))
         .advice(AGAIN)
+    })
+}
+
+/// The field that is off: with a right one in its place, and some checksum, the answer passes.
+fn wrong_field(refused: &Refused) -> Option<Finding> {
+    let text = refused.text();
+    let inner = text.get(1..text.len().checked_sub(3)?)?;
+    let parts: Vec<&[u8]> = inner.split(|byte| *byte == BETWEEN).collect();
+    let fields = fields();
+    let (number, field, found) =
+        (1..)
+            .zip(&fields)
+            .zip(&parts)
+            .find_map(|((number, field), found)| {
+                let others = (1..).zip(&parts);
+                let tried = others.map(|(at, part)| match at == number {
+                    true => field.example.as_bytes(),
+                    false => part,
+                });
+                let tried: Vec<&[u8]> = tried.collect();
+                let tried = tried.join(&BETWEEN);
+                passes(refused, &tried).then_some((number, field, found))
+            })?;
+    let cause = format!(
+        "field {number} ({}) has {}, and must have {}",
+        field.name,
+        shown::value(found),
+        field.content
+    );
+    Some(Finding::cause(cause).advice(AGAIN))
+}
+
+/// Whether an answer with these fields and some checksum passes.
+fn passes(refused: &Refused, fields: &[u8]) -> bool {
+    (0..=u8::MAX).any(|sum| {
+        let end = format!("{sum:02X}");
+        let answer = [&[START], fields, end.as_bytes(), &[END]].concat();
+        content(refused, answer).is_some()
     })
 }
 

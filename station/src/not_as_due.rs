@@ -64,9 +64,13 @@ pub fn file(refused: &Refused, subject: &Subject) -> Option<Finding> {
 /// What is due and not there: to be put there, unless a value is wrong by which it is due.
 fn or_correct(what: &str, why: Option<&Why>) -> String {
     let deciding = why.map_or(Vec::new(), Why::deciding);
-    match places(&deciding) {
-        None => what.to_string(),
-        Some((places, _)) => format!("{what}, or correct {places} if that is wrong"),
+    match places(&deciding).as_slice() {
+        [] => what.to_string(),
+        [one] => format!("{what}, or correct {one} if that is wrong"),
+        several => {
+            let places = shown::listed(several, "or");
+            format!("{what}, or correct {places} if one of them is wrong")
+        }
     }
 }
 
@@ -91,23 +95,25 @@ fn cause_first(refused: &Refused, why: Option<&Why>, last: Option<String>) -> Fi
             ..finding.advice(advice)
         };
     }
-    let (places, verb) = places(&deciding).unwrap_or(("what decides this".to_string(), "is"));
-    let first = format!("look first whether {places} {verb} right");
+    let first = match places(&deciding).as_slice() {
+        [] => "look first whether what decides this is right".to_string(),
+        [one] => format!("look first whether {one} is right"),
+        several => {
+            let places = shown::listed(several, "and");
+            format!("look first whether {places} are right")
+        }
+    };
     finding.advice(match last {
         Some(last) => format!("{first}; only if so, as a last resort, {last}"),
         None => first,
     })
 }
 
-/// `AC2 line 8 and the stem`, with its verb; None where nothing decides.
-fn places(deciding: &[&Looked]) -> Option<(String, &'static str)> {
+/// The lines of values that decide, and the stem, each once.
+fn places(deciding: &[&Looked]) -> Vec<String> {
     let mut places: Vec<String> = deciding.iter().map(|looked| looked.place()).collect();
     places.dedup();
-    match places.as_slice() {
-        [] => None,
-        [one] => Some((one.clone(), "is")),
-        several => Some((shown::listed(several, "and"), "are")),
-    }
+    places
 }
 
 /// A value that decides, written as the word that counts.

@@ -108,7 +108,7 @@ fn formless(count: usize) -> Vec<u8> {
 }
 
 /// An identification answer with these bytes between 02 hex and the checksum.
-fn identification(inner: &[u8]) -> Vec<u8> {
+pub fn identification(inner: &[u8]) -> Vec<u8> {
     let sum = inner.iter().fold(0_u8, |sum, byte| sum.wrapping_add(*byte));
     let end = format!("{sum:02X}\x03");
     [b"\x02", inner, end.as_bytes()].concat()

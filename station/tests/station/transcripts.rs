@@ -11,6 +11,7 @@ use std::os::unix::fs::symlink;
 use std::path::{Path, PathBuf};
 use std::process::Command;
 
+use crate::broken::identification;
 use crate::common::{empty_folder, put, repository, run};
 
 fn transcripts() -> PathBuf {
@@ -263,6 +264,27 @@ fn odd_files() -> PathBuf {
             text.replace(old, new),
         );
     }
+
+    let answers: [(&str, &[&str]); 4] = [
+        (
+            "address",
+            &["GAS", "0001", "ID", "a", "b", "c", "d", "e", "f", "g"],
+        ),
+        (
+            "empty",
+            &["GAS", "1", "ID", "a", "", "c", "d", "e", "f", "g"],
+        ),
+        (
+            "word",
+            &["GAS", "1", "Id", "a", "b", "c", "d", "e", "f", "g"],
+        ),
+        ("fields", &["GAS", "1", "ID", "a", "b", "c", "d", "e", "f"]),
+    ];
+    for (name, fields) in answers {
+        let answer = identification(fields.join("\x17").as_bytes());
+        put(folder.join(format!("answers/{name}.ID")), answer);
+    }
+    put(folder.join("answers/none.ID"), "");
 
     put(folder.join("mend/lf.DER"), "[DerivaAsse_1]\nDeriva=0.40\n");
     put(
