@@ -1,6 +1,7 @@
 //! The program `mctc` run as a user would run it.
 
 mod broken;
+mod causes;
 mod common;
 mod obeyed;
 mod readme;

@@ -1,0 +1,103 @@
+//! Refusals 10 and 11, and those of 12 that come from the same values: each names the values that decide.
+
+use std::fs;
+use std::path::Path;
+
+use crate::broken::files;
+use crate::common::{empty_folder, put, repository};
+use crate::transcripts::check;
+
+/// A set made from a sample: what stands in one of its files instead of something else, and which files go.
+struct Made {
+    name: &'static str,
+    sample: &'static str,
+    changes: &'static [(&'static str, &'static str, &'static str)],
+    gone: &'static [&'static str],
+}
+
+const fn moped(name: &'static str, changes: &'static [(&str, &str, &str)]) -> Made {
+    Made {
+        name,
+        sample: "accepted-moped",
+        changes,
+        gone: &[],
+    }
+}
+
+const fn car(
+    name: &'static str,
+    changes: &'static [(&str, &str, &str)],
+    gone: &'static [&str],
+) -> Made {
+    Made {
+        name,
+        sample: "accepted-car",
+        changes,
+        gone,
+    }
+}
+
+const FUEL: (&str, &str, &str) = ("AC2", "=BENZINA\r", "=benzina\r");
+const DIRECTIVE: (&str, &str, &str) = ("AC2", "=98/69/CE", "=");
+
+const SETS: [Made; 16] = [
+    moped("category", &[("AC2", "=L1e", "=L3e")]),
+    moped("plate", &[("AC2", "=X2ABCD", "=X2ABCDE")]),
+    moped(
+        "motorcycle",
+        &[("AC2", "=L1e", "=L3e"), ("AC2", "=CIC0012345", "=")],
+    ),
+    moped(
+        "motorcycle-directive",
+        &[
+            ("AC2", "=L1e", "=L3e"),
+            ("AC2", "=CIC0012345", "="),
+            ("AC2", "Motociclo=", "Motociclo=nessuna"),
+        ],
+    ),
+    moped("fuel-typing", &[("AC2", "=BENZINA", "=BENZNA")]),
+    moped("bench-version", &[("GAS", "=201", "=210")]),
+    moped(
+        "bench-checksum",
+        &[(
+            "GAS",
+            "ChecksumProvaVelocitaRS=",
+            "ChecksumProvaVelocitaRS=x",
+        )],
+    ),
+    moped("acceleration", &[("GAS", "COMinAcc=", "COMinAcc=0.100")]),
+    moped("key", &[("GAS", "IDChiaveRS=", "IDChiaveRS=abcde")]),
+    moped("counter", &[("GAS", "=INTEGRATO", "=ESTERNO")]),
+    car("link", &[("GAS", "=RS SENZA ESITO", "=RETE")], &[]),
+    car("gas-not-due", &[FUEL, DIRECTIVE], &["ACC"]),
+    car("answer-not-due", &[FUEL, DIRECTIVE], &["ACC", "GAS"]),
+    car("old-booking", &[FUEL, DIRECTIVE], &["GAS", "ID"]),
+    car("noted", &[FUEL, DIRECTIVE], &["ACC", "GAS", "ID"]),
+    car("other-fuel", &[("AC2", "=BENZINA\r", "=GPL\r")], &[]),
+];
+
+impl Made {
+    fn put(&self, root: &Path) {
+        let folder = root.join(self.name);
+        for path in files(&repository().join("samples").join(self.sample)) {
+            let ending = path.extension().expect("an ending");
+            if self.gone.iter().any(|gone| ending == *gone) {
+                continue;
+            }
+            let mut text = fs::read(&path).expect("a sample");
+            for (_, old, new) in self.changes.iter().filter(|(file, ..)| ending == *file) {
+                let before = String::from_utf8(text).expect("a text");
+                assert!(before.contains(old), "{}: {old}", self.name);
+                text = before.replace(old, new).into_bytes();
+            }
+            put(folder.join(path.file_name().expect("a name")), text);
+        }
+    }
+}
+
+#[test]
+fn causes_are_named() {
+    let folder = empty_folder("causes");
+    SETS.iter().for_each(|made| made.put(&folder));
+    check("causes.txt", &folder);
+}
