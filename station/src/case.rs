@@ -4,7 +4,7 @@ use mctc::{Column, Due, Places, Refusal};
 
 use crate::disk::SetOnDisk;
 use crate::edit::{Action, Edit};
-use crate::file_types::{by_number, FILE_TYPES};
+use crate::file_types::{by_number, FileType, FILE_TYPES};
 use crate::shown;
 use crate::table;
 
@@ -147,22 +147,21 @@ impl<'a> Case<'a> {
         Some((line, text.get(place)?))
     }
 
-    /// What the library asks for with this change: something that is due and not there.
-    pub fn then_due(&self, edit: &Edit) -> Option<String> {
-        let text = edit.apply(self.text(edit.file));
-        let case = self.with_text(edit.file, &text);
-        let after = Refused {
-            case,
-            refusal: case.refusal()?,
+    /// What the library refuses this for, where that is due and not there.
+    pub fn lacking(&self) -> Option<String> {
+        let refused = Refused {
+            case: *self,
+            refusal: self.refusal()?,
         };
-        let ending = by_number(after.refusal.file)?.ending;
-        match (after.refusal.number, after.entry()) {
-            (NOT_AS_DUE, _) if after.text().is_empty() => {
-                Some(format!("{ending} is due, but missing"))
-            }
+        let file = by_number(refused.refusal.file)?;
+        match (refused.refusal.number, refused.entry()) {
+            (NOT_AS_DUE, _) if refused.text().is_empty() => Some(missing(file)),
             (ENTRY_NOT_AS_DUE, Some((name, []))) => {
-                let (name, line) = (shown::bytes(name), after.refusal.line);
-                Some(format!("{name} ({ending} line {line}) is due, but empty"))
+                let (name, line) = (shown::bytes(name), refused.refusal.line);
+                Some(format!(
+                    "{name} ({} line {line}) is due, but empty",
+                    file.ending
+                ))
             }
             _ => None,
         }
@@ -173,6 +172,11 @@ impl<'a> Case<'a> {
         let mut places = Places::default();
         mctc::due(file, self.text(AC2), self.text(file), &mut places).ok()
     }
+}
+
+/// Of a file that is due.
+pub fn missing(file: &FileType) -> String {
+    format!("{} is due, but missing", file.ending)
 }
 
 /// A case that the library refused.

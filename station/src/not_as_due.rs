@@ -3,9 +3,10 @@
 //! To take a value or a file out comes last and is never a mending: it may be right, and the value wrong by which it is
 //! not due.
 
-use crate::case::{Case, Refused};
+use crate::case::{missing, Case, Refused};
 use crate::edit::{Action, Edit};
 use crate::explain::{Presence, Subject};
+use crate::file_types::FILE_TYPES;
 use crate::finding::Finding;
 use crate::kinds;
 use crate::reasons::{self, Looked, Why};
@@ -142,9 +143,24 @@ pub fn correction(refused: &Refused, looked: &Looked) -> Option<Correction> {
     if refused.helps(&edit) {
         return Some(Correction { edit, advice });
     }
-    let then = refused.case.then_due(&edit)?;
+    let then = then_due(&refused.case, &edit)?;
     let advice = format!("{advice}; then {then}");
     Some(Correction { edit, advice })
+}
+
+/// What is due with this change and not there: what the library refuses it for, and files that it would come to.
+fn then_due(case: &Case, edit: &Edit) -> Option<String> {
+    let text = edit.apply(case.text(edit.file));
+    let case = case.with_text(edit.file, &text);
+    let mut lacking = vec![case.lacking()?];
+    for file in &FILE_TYPES {
+        let is_due = Why::file(&case, file.number).is_some_and(|why| why.is_due());
+        let missing = missing(file);
+        if is_due && case.text(file.number).is_empty() && !lacking.contains(&missing) {
+            lacking.push(missing);
+        }
+    }
+    Some(lacking.join("; "))
 }
 
 /// What is to be noted of an accepted set: values that are near a word that counts, by which something would be due.
@@ -152,7 +168,7 @@ pub fn doubts(case: &Case) -> Vec<String> {
     let doubtful = reasons::doubtful(case);
     let notes = doubtful.iter().filter_map(|looked| {
         let Correction { edit, .. } = Correction::of(looked)?;
-        let then = case.then_due(&edit)?;
+        let then = then_due(case, &edit)?;
         Some(format!("{}, {then}", looked.doubt()?))
     });
     notes.collect()

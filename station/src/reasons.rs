@@ -275,6 +275,10 @@ impl<'a> Why<'a> {
         self.behind.is_none() && self.failing().is_empty()
     }
 
+    pub fn is_due(&self) -> bool {
+        matches!(self.asked, Asked::Always | Asked::When) && self.holds()
+    }
+
     /// By which the reasons do not hold.
     fn failing(&self) -> Vec<&Looked<'a>> {
         let groups = self.groups.iter();
