@@ -130,7 +130,7 @@ impl Wrong<'_> {
             .or_else(|| self.behind())
             .or_else(|| self.sign())
             .or_else(|| self.no_digit());
-        found.unwrap_or_else(|| self.said("it is not of the kind", "correct the value"))
+        found.unwrap_or_else(|| self.said("it is not of the kind", &self.correct()))
     }
 
     /// What is off, and what to do.
@@ -140,6 +140,10 @@ impl Wrong<'_> {
             false => format!("found {}: {what}", shown::value(self.value)),
         };
         Finding::cause(cause).advice(advice)
+    }
+
+    fn correct(&self) -> String {
+        format!("correct the value in line {}", self.refused.refusal.line)
     }
 
     fn mended(&self, what: &str, edit: Edit) -> Finding {
@@ -222,7 +226,7 @@ impl Wrong<'_> {
         } else {
             format!("{} is no year from 1900 to 2099", shown::bytes(year))
         };
-        Some(self.said(&what, "correct the day"))
+        Some(self.said(&what, &self.correct()))
     }
 
     /// Six digits that are no time, likewise.
@@ -240,7 +244,7 @@ impl Wrong<'_> {
             ("second", second)
         };
         let what = format!("there is no {name} {}", shown::bytes(part));
-        Some(self.said(&what, "correct the time"))
+        Some(self.said(&what, &self.correct()))
     }
 
     fn has_digits(&self, count: usize) -> bool {
@@ -251,6 +255,10 @@ impl Wrong<'_> {
     fn length(&self) -> Option<Finding> {
         let most = usize::try_from(self.kind.most).ok()?;
         let digits = || self.value.iter().all(u8::is_ascii_digit);
+        let number = || {
+            let is_part = |byte: &u8| byte.is_ascii_digit() || *byte == b'.';
+            self.value.iter().all(is_part)
+        };
         let letters = || self.value.iter().all(|byte| matches!(byte, b'S' | b'N'));
         let (right, is_exact) = match self.kind.form {
             Form::Text => (true, false),
@@ -258,7 +266,8 @@ impl Wrong<'_> {
             Form::Number => (digits(), false),
             Form::Day | Form::Time | Form::DataPrimaImm | Form::AnnoPrimaImm => (digits(), true),
             Form::PosAssiStaz => (letters(), true),
-            Form::Fixed | Form::Deriva | Form::Revs | Form::Word => (false, false),
+            Form::Fixed => (number(), false),
+            Form::Deriva | Form::Revs | Form::Word => (false, false),
         };
         let length = self.value.len();
         let over = |count: usize| counted(count, "byte");
@@ -268,7 +277,11 @@ impl Wrong<'_> {
             None => is_exact.then(|| format!("it is too short by {}", over(most - length))),
         };
         let what = what.filter(|_| right)?;
-        Some(self.said(&what, "correct the value"))
+        let advice = match self.kind.form {
+            Form::Text => format!("shorten the value in line {}", self.refused.refusal.line),
+            _ => self.correct(),
+        };
+        Some(self.said(&what, &advice))
     }
 
     /// A value that passes without some bytes at its end.
@@ -278,14 +291,14 @@ impl Wrong<'_> {
         let (start, rest) = starts.find(|(start, _)| self.passes(start))?;
         let (start, rest) = (shown::value(start), shown::value(rest));
         let what = format!("{rest} does not belong behind {start}");
-        Some(self.said(&what, "correct the value"))
+        Some(self.said(&what, &self.correct()))
     }
 
     /// A minus where none may be. What the number is without it is not for a program to say.
     fn sign(&self) -> Option<Finding> {
         self.passing(self.value.strip_prefix(b"-")?)?;
         let what = "a `-` stands before a number that has no sign";
-        Some(self.said(what, "correct the value: the number itself, without a sign"))
+        Some(self.said(what, &format!("{}: the number has no sign", self.correct())))
     }
 
     /// One byte stands where a digit passes.
@@ -297,7 +310,7 @@ impl Wrong<'_> {
         let byte = shown::value(&[*byte]);
         let at = at + 1;
         let what = format!("{byte} stands where a digit must be, as byte {at} of the value");
-        Some(self.said(&what, "correct the value"))
+        Some(self.said(&what, &self.correct()))
     }
 
     fn passes_with_digit(&self, at: usize) -> bool {

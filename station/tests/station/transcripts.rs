@@ -265,6 +265,21 @@ fn odd_files() -> PathBuf {
         );
     }
 
+    let values = [
+        ("gas-long", "=14.50", "=1400.50"),
+        ("gas-revs", "=#850", "=123456"),
+        ("gas-sign", "=118", "=-118"),
+        ("gas-key", "=K0117", "=K011"),
+    ];
+    for (name, old, new) in values {
+        let text = car("GAS");
+        assert!(text.contains(old), "{name}");
+        put(
+            folder.join(format!("values/{name}.GAS")),
+            text.replace(old, new),
+        );
+    }
+
     let answers: [(&str, &[&str]); 4] = [
         (
             "address",
