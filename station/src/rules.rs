@@ -46,7 +46,7 @@ pub fn booking(refused: &Refused) -> Option<Finding> {
     let advice = advice.unwrap_or("write the one of these that is right".to_string());
     let expected: Vec<String> = passing.iter().map(|value| format!("`{value}`")).collect();
     let expected = shown::listed(&expected, "or");
-    let finding = Finding::cause(format!("{found}, expected {expected}{behind}"));
+    let finding = Finding::cause(format!("{found}{behind}")).expected(Some(expected));
     let advice = format!("{advice}, or correct what it hangs on if that is wrong");
     Some(Finding {
         mend,
@@ -145,15 +145,15 @@ pub fn difference(refused: &Refused) -> Option<Finding> {
         _ => None,
     }?;
     let cause = format!(
-        "{}: found {}, expected {expected}; this hangs on {}",
+        "{}: found {}; this hangs on {}",
         shown::value(heading),
         shown::value(value),
         others.join(", ")
     );
     let advice = format!("{}, if both grips are right", mend.words());
-    let finding = Finding::cause(cause).advice(advice);
+    let finding = Finding::cause(cause).expected(Some(expected));
     Some(Finding {
         mend: Some(mend),
-        ..finding
+        ..finding.advice(advice)
     })
 }
