@@ -42,21 +42,23 @@
  *     2        0                                  line from 1, 0 for none
  *     3        judge: axles of drift              0
  *              read, due: axles; write: length
- *              names, word: length; kind: form
- *              conditions: what is asked
- *              test: 1 passes; field: entry
- *              identification: end of a field
+ *              names, word: length
  *     4        judge: axles of suspension         0
  *              names, word: heading; due: entries
- *              kind: most bytes
  *     5        judge: mark of drift, 0 or 1       0
- *              kind: digits behind the point
  *     6        judge: mark of suspension          0
- *              kind: words
  *     7        judge: mark of gas                 0
- *     4 ..15   conditions: reasons                0
- *     3 ..12   identification: ends of fields     0
  *     others   0                                  0
+ *
+ * The calls that say what the judge goes by:
+ *
+ *     call                      number    acceptance
+ *     kind                      3 .. 6    form, most bytes, digits behind the point, words
+ *     condition,                3         what is asked
+ *     file_condition            4 .. 15   three reasons of four numbers: test, file, entry, group
+ *     test                      3         1 where the value passes, else 0
+ *     identification            3 .. 12   the ends of the ten fields
+ *     field                     3         entry of gas
  *
  * Numbers past the first 16 stay. Each function returns number 0 of the answer. Where the answer has fewer than 16
  * numbers it returns MCTC_ANSWER_TOO_SHORT and writes to no array.
@@ -118,8 +120,8 @@ extern "C" {
 #define MCTC_ANSWER_FORM 14
 /* The identification answer differs from gas: file 6, line 0. */
 #define MCTC_ANSWER_DIFFERS 15
-/* The file is not 1 to 5, or the axles are not 1 to 9 for 3 and 4, not 0 for 1, 2 and 5, or the file has no entry or
- * heading of that number, or the entry no word of that number: line 0. */
+/* The file number is not 1 to 5 (mctc_file_condition: 1 to 6), the axle count is not one that the file can have, or there
+ * is no entry, heading, word, test or field of that number: line 0. */
 #define MCTC_FILE_OR_AXLES 16
 /* Start plus length of a pair is above the text's length: the line that the entry would have. */
 #define MCTC_PAIR_OUTSIDE 17
@@ -258,7 +260,8 @@ uint32_t mctc_due(uint32_t file,
 #define MCTC_ONLY_WHEN 5
 
 /* A reason is a test that one value passes or not. Reasons stand in groups: all hold where each group has one that
- * holds. The tests: a category that is L1e, L2e or L6e; L3e, L4e, L5e or L7e; M or N; not O; not L. */
+ * holds. The tests: a category that is L1e, L2e or L6e; L3e, L4e, L5e or L7e; M or N; not O; not L. A value that is no
+ * category passes the last two and none of the others. */
 #define MCTC_TEST_MOPED 1
 #define MCTC_TEST_MOTORCYCLE 2
 #define MCTC_TEST_M_OR_N 3
@@ -276,7 +279,7 @@ uint32_t mctc_due(uint32_t file,
 #define MCTC_TEST_EXTERNAL_COUNTER 12
 #define MCTC_TEST_VERSION_200 13
 #define MCTC_TEST_VERSION_210 14
-/* A stem whose first digit is 9. */
+/* A stem, handed in as the value, whose first digit is 9. */
 #define MCTC_TEST_NINE_STEM 15
 
 /* Says what is asked of a file's entry, by its number, and why. Refuses with 16 where there is no such file or entry;
@@ -285,15 +288,16 @@ uint32_t mctc_due(uint32_t file,
  * Accepted: answer 3 is MCTC_ALWAYS, MCTC_FREE or MCTC_WHEN. From answer 4 on stand at most three reasons of four numbers
  * each: the test, the file and the entry of the value that it looks at, and the number of the group, from 1; 0 for each
  * number of a reason that there is not. An entry that MCTC_WHEN asks for is due where its reasons hold, and else not
- * due; that is what mctc_judge holds it to (refusal 10). */
+ * due; that is what mctc_judge holds it to (refusal 10) in a file that it reads. */
 uint32_t mctc_condition(uint32_t file, uint32_t entry,
                         uint32_t *answer, size_t answer_length);
 
 /* Says what is asked of a file, 1 to 6, and why. Refuses with 16 where there is no such file; the refusal carries it as
  * handed in.
  *
- * Accepted: as mctc_condition, with MCTC_ONLY_WHEN besides. A reason of file 0 looks at the stem. The identification answer
- * is given exactly when gas is given and its reasons hold (refusal 11). */
+ * Accepted: as mctc_condition, with MCTC_ONLY_WHEN besides. A reason of file 0, entry 0, looks at the stem. For file 6,
+ * the identification answer: where gas is not given, its reason does not hold. What is asked of a file is what mctc_judge
+ * holds it to (refusal 11). */
 uint32_t mctc_file_condition(uint32_t file,
                              uint32_t *answer, size_t answer_length);
 
@@ -305,8 +309,9 @@ uint32_t mctc_test(uint32_t test,
 /* Finds the ten fields of an identification answer: GAS, the address, ID, and the seven that gas has too. Refuses with 14,
  * file 6, where it is not of the form.
  *
- * Accepted: answers 3 to 12 are the places at which the fields end. The first starts at place 1, each other one place
- * after the end of the one before. */
+ * Accepted: answers 3 to 12 are the ends of the fields: places counted from 0, each that of the byte after the field's last,
+ * which is the 17 hex behind it, and for the tenth the first checksum byte. The first field starts at place 1, each other at
+ * the place after the end of the one before. */
 uint32_t mctc_identification(const uint8_t *text, size_t text_length,
                              uint32_t *answer, size_t answer_length);
 

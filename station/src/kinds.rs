@@ -33,5 +33,6 @@ pub fn words(kind: &Kind) -> String {
         Form::AnnoPrimaImm => "a year of four digits".to_string(),
         Form::PosAssiStaz => "nine letters `S` or `N`".to_string(),
         Form::Word => format!("one of {}", word_list(&kind.words).join(", ")),
+        Form::Other(_) => format!("at most {most} bytes"),
     }
 }

@@ -16,6 +16,9 @@ const STEM: u32 = 0;
 /// Words that count in entries whose kind lists none. Which of them pass a test, the library says.
 const WORDS: [&str; 5] = ["BENZINA", "DIESEL", "NESSUNA", "200", "210"];
 
+/// Of a newer library.
+const UNKNOWN: &str = "as the library asks, in a way that this program does not know";
+
 /// What passes a test.
 enum Counts {
     These(Vec<String>),
@@ -106,6 +109,7 @@ pub fn when_filled(condition: &Condition) -> String {
         Asked::Free => "may be filled or empty".to_string(),
         Asked::When => format!("exactly when {}", groups_in_words(&condition.groups)),
         Asked::OnlyWhen => format!("only when {}", groups_in_words(&condition.groups)),
+        Asked::Other(_) => UNKNOWN.to_string(),
     }
 }
 
@@ -125,6 +129,7 @@ pub fn when_given(file: u32) -> String {
         Asked::Free => "may be given or not".to_string(),
         Asked::When => format!("exactly when {gas}{groups}"),
         Asked::OnlyWhen => format!("only when {gas}{groups}"),
+        Asked::Other(_) => UNKNOWN.to_string(),
     }
 }
 

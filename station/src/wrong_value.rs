@@ -267,7 +267,7 @@ impl Wrong<'_> {
             Form::Day | Form::Time | Form::DataPrimaImm | Form::AnnoPrimaImm => (digits(), true),
             Form::PosAssiStaz => (letters(), true),
             Form::Fixed => (number(), false),
-            Form::Deriva | Form::Revs | Form::Word => (false, false),
+            Form::Deriva | Form::Revs | Form::Word | Form::Other(_) => (false, false),
         };
         let length = self.value.len();
         let over = |count: usize| counted(count, "byte");

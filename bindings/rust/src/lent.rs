@@ -285,14 +285,7 @@ pub fn test(test: u32, value: &[u8], answer: &mut [u32]) -> u32 {
 
 /// Where the fields of an identification answer end.
 pub fn identification(text: &[u8], answer: &mut [u32]) -> u32 {
-    unsafe {
-        mctc_identification(
-            text.as_ptr(),
-            text.len(),
-            answer.as_mut_ptr(),
-            answer.len(),
-        )
-    }
+    unsafe { mctc_identification(text.as_ptr(), text.len(), answer.as_mut_ptr(), answer.len()) }
 }
 
 /// The entry of gas that a field of the identification answer must equal.

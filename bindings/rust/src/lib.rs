@@ -190,6 +190,8 @@ pub enum Form {
     PosAssiStaz,
     /// One of `words`.
     Word,
+    /// A form that this version of the binding does not know.
+    Other(u32),
 }
 
 impl Form {
@@ -206,7 +208,8 @@ impl Form {
             9 => Form::DataPrimaImm,
             10 => Form::AnnoPrimaImm,
             11 => Form::PosAssiStaz,
-            _ => Form::Word,
+            12 => Form::Word,
+            _ => Form::Other(number),
         }
     }
 }
@@ -234,15 +237,18 @@ pub enum Asked {
     When,
     /// Given only when the reasons hold.
     OnlyWhen,
+    /// What this version of the binding does not know.
+    Other(u32),
 }
 
 impl Asked {
     fn from_number(number: u32) -> Asked {
         match number {
             1 => Asked::Always,
+            3 => Asked::Free,
             4 => Asked::When,
             5 => Asked::OnlyWhen,
-            _ => Asked::Free,
+            _ => Asked::Other(number),
         }
     }
 }
@@ -280,6 +286,8 @@ pub enum Test {
     Version210,
     /// A stem whose first digit is 9.
     NineStem,
+    /// A test that this version of the binding does not know by name; the library still answers it.
+    Other(u32),
 }
 
 /// The tests, in the order of their numbers, from 1.
@@ -302,15 +310,20 @@ pub const TESTS: [Test; 15] = [
 ];
 
 impl Test {
-    /// None for a number that no test has.
+    /// None for 0, which stands for a reason that there is not.
     fn from_number(number: u32) -> Option<Test> {
-        let place = usize::try_from(number).ok()?.checked_sub(1)?;
-        TESTS.get(place).copied()
+        let place = number.checked_sub(1)? as usize;
+        Some(TESTS.get(place).copied().unwrap_or(Test::Other(number)))
     }
 
     fn number(self) -> u32 {
-        let place = TESTS.iter().position(|test| *test == self);
-        place.map_or(0, |place| place as u32 + 1)
+        match self {
+            Test::Other(number) => number,
+            known => {
+                let place = TESTS.iter().position(|test| *test == known);
+                place.map_or(0, |place| place as u32 + 1)
+            }
+        }
     }
 
     /// Whether a value passes, by the library.
@@ -342,15 +355,10 @@ impl Condition {
         let (asked, reasons) = numbers.split_first().unwrap_or((&0, &[]));
         let mut groups: Vec<Vec<Reason>> = Vec::new();
         for reason in reasons.chunks_exact(4) {
-            let &[test, file, entry, group] = reason else {
-                continue;
-            };
-            let Some(test) = Test::from_number(test) else {
-                continue;
-            };
-            groups.resize(groups.len().max(group as usize), Vec::new());
-            if let Some(group) = groups.last_mut() {
-                group.push(Reason { test, file, entry });
+            if let &[test, file, entry, group] = reason {
+                if let Some(test) = Test::from_number(test) {
+                    group_at(&mut groups, group as usize).push(Reason { test, file, entry });
+                }
             }
         }
         Condition {
@@ -358,6 +366,15 @@ impl Condition {
             groups,
         }
     }
+}
+
+/// A group by its number, from 1, made where it is not there yet.
+fn group_at(groups: &mut Vec<Vec<Reason>>, number: usize) -> &mut Vec<Reason> {
+    let place = number.max(1) - 1;
+    if groups.len() <= place {
+        groups.resize(place + 1, Vec::new());
+    }
+    &mut groups[place]
 }
 
 /// Judges a whole set; the places have the pairs of all files that were read.

@@ -158,12 +158,30 @@ fn entries_and_files_have_reasons() {
 fn the_identification_answer_has_fields() {
     let text = b"\x02GAS\x171\x17ID\x17a\x17b\x17c\x17d\x17e\x17f\x17g83\x03";
     let mut text = text.to_vec();
-    let sum = text[1..text.len() - 3].iter().map(|byte| u32::from(*byte)).sum::<u32>() % 256;
+    let sum = text[1..text.len() - 3]
+        .iter()
+        .map(|byte| u32::from(*byte))
+        .sum::<u32>()
+        % 256;
     let at = text.len() - 3;
     text.splice(at..at + 2, format!("{sum:02X}").into_bytes());
     let fields = mctc::identification(&text).expect("a well-formed answer");
     let fields: Vec<&[u8]> = fields.into_iter().map(|field| &text[field]).collect();
-    assert_eq!(fields, [&b"GAS"[..], b"1", b"ID", b"a", b"b", b"c", b"d", b"e", b"f", b"g"]);
+    assert_eq!(
+        fields,
+        [
+            &b"GAS"[..],
+            b"1",
+            b"ID",
+            b"a",
+            b"b",
+            b"c",
+            b"d",
+            b"e",
+            b"f",
+            b"g"
+        ]
+    );
     assert_eq!(mctc::identification(b"GAS"), Err(refusal(14, 6, 0)));
     assert_eq!(mctc::field_entry(3), Ok(0));
     assert_eq!(mctc::field_entry(7), Ok(5));

@@ -14,7 +14,7 @@ use outside::reference::PLACES;
 const COLUMNS: u64 = 20_000;
 const SETS: u64 = 20_000;
 
-/// The values of a file by the implementation's places; None for an entry that was not read.
+/// The values of a file by the implementation's places.
 struct Values<'a> {
     text: &'a [u8],
     places: Vec<u32>,
@@ -157,6 +157,7 @@ fn is_right(set: &Set, file: u32, met: &mut BTreeSet<(u32, bool)>) -> bool {
         Asked::Free => true,
         Asked::When => given == (gas && holds),
         Asked::OnlyWhen => !given || holds,
+        Asked::Other(number) => panic!("asked {number}"),
     }
 }
 
@@ -222,26 +223,61 @@ fn fields_are_gas_values() {
     assert_eq!(different, BTreeSet::from_iter(3..10));
 }
 
-#[test]
-fn numbers_out_of_range_are_refused() {
+/// Calls that lend nothing but the answer array, by numbers in and out of range.
+fn calls() -> Vec<(bool, u32, Box<dyn Fn(&mut [u32]) -> u32>)> {
+    let mut calls: Vec<(bool, u32, Box<dyn Fn(&mut [u32]) -> u32>)> = Vec::new();
     for (file, count) in [(0, 0), (1, 12), (2, 6), (3, 25), (4, 43), (5, 53), (6, 0)] {
-        for entry in 0..70 {
-            let there = mctc::condition(file, entry).is_ok();
-            assert_eq!(there, entry < count, "file {file}, entry {entry}");
+        for entry in (0..70).chain([u32::MAX]) {
+            let call = move |answer: &mut [u32]| mctc::lent::condition(file, entry, answer);
+            calls.push((entry < count, file, Box::new(call)));
         }
     }
-    for file in 0..10 {
-        assert_eq!(mctc::file_condition(file).is_ok(), (1..=6).contains(&file));
+    for file in (0..10).chain([u32::MAX]) {
+        let call = move |answer: &mut [u32]| mctc::lent::file_condition(file, answer);
+        calls.push(((1..=6).contains(&file), file, Box::new(call)));
+    }
+    for number in (0..20).chain([u32::MAX]) {
+        let test = move |answer: &mut [u32]| mctc::lent::test(number, b"", answer);
+        calls.push(((1..=15).contains(&number), 0, Box::new(test)));
+        let field = move |answer: &mut [u32]| mctc::lent::field(number, answer);
+        calls.push(((3..=9).contains(&number), 0, Box::new(field)));
+    }
+    calls
+}
+
+#[test]
+fn numbers_out_of_range_are_refused() {
+    for (there, file, call) in calls() {
+        let mut answer = [9; 16];
+        let number = call(&mut answer);
+        assert_eq!(number, answer[0]);
+        if there {
+            assert_eq!(answer[..3], [0, 0, 0]);
+        } else {
+            let refused: Vec<u32> = [16, file].into_iter().chain([0; 14]).collect();
+            assert_eq!(answer, *refused);
+        }
     }
     let mut answer = [9; 16];
-    for test in 0..20 {
-        let there = mctc::lent::test(test, b"", &mut answer) == 0;
-        assert_eq!(there, (1..=15).contains(&test));
+    assert_eq!(mctc::lent::identification(b"", &mut answer), 14);
+    assert_eq!(answer[..4], [14, 6, 0, 0]);
+}
+
+#[test]
+fn answer_arrays_of_other_lengths() {
+    for (_, _, call) in calls() {
+        let mut right = [9; 16];
+        call(&mut right);
+        for length in [0, 1, 15] {
+            let mut short = vec![9; length];
+            assert_eq!(call(&mut short), u32::MAX);
+            assert_eq!(short, vec![9; length]);
+        }
+        for length in [17, 40] {
+            let mut long = vec![9; length];
+            assert_eq!(call(&mut long), right[0]);
+            assert_eq!(long[..16], right);
+            assert_eq!(long[16..], vec![9; length - 16]);
+        }
     }
-    for field in 0..20 {
-        assert_eq!(mctc::field_entry(field).is_ok(), (3..=9).contains(&field));
-    }
-    let mut short = [9; 15];
-    assert_eq!(mctc::lent::condition(1, 0, &mut short), u32::MAX);
-    assert_eq!(short, [9; 15]);
 }
