@@ -4,7 +4,7 @@ use native.Mathlib.Omega.{arith}
 use mathlib.Core.Path.{_≡_, refl, ap, ap₂, sym, subst, _∙_}
 use mathlib.Core.Bool.{Bool, true, false, cond}
 use mathlib.Core.Option.{some}
-use mathlib.Core.List.{List, map}
+use mathlib.Core.List.{List}
 use lib.Dec.{eqb, leb}
 use lib.ListN.{length}
 use borrow.Author.Tests.{leb-true, le-leb, lt-leb, ne-eqb}
@@ -12,7 +12,7 @@ use Rattle.lines.proofs.Bools.{clash}
 use Rattle.refusals.specs.Refusals.{numberOf}
 use Rattle.refusals.specs.Answer.{Answer, refusal, acceptance, refusalOf}
 use Rattle.refusals.specs.declared.Refusal.{Refusal}
-use Rattle.places.specs.Places.{Pair, setPairs, pairsAt, valueAt, valuesAt, cleared, Within, placeSize}
+use Rattle.places.specs.Places.{Pair, setPairs, pairsAt, valuesAt, cleared, Within, placeSize}
 use Rattle.places.proofs.Laws.{set-length, pairs-set, drop-pairs, cleared-length, cleared-drop}
 use Rattle.tables.specs.Section.{Section}
 use Rattle.tables.specs.File.{File, ac2, acc, drift, suspension, gas, fileNumber, fileOf, isFile, ofNumber, hasAxles, fixedSections, sections, allSections, leastSections, entries, room, firstPair, leastPlaces, tableOf, mostAxles}

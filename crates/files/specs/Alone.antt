@@ -1,5 +1,5 @@
 -- One file read alone, by its number (01, Writing): "1, 16 for the file, 11 where it is empty, then 3 to 9 as above".
-use Prim.Native.Nat.{ℕ, _-_}
+use Prim.Native.Nat.{ℕ}
 use mathlib.Core.Path.{_≡_}
 use mathlib.Core.Bool.{cond}
 use mathlib.Core.List.{List}

@@ -1,5 +1,5 @@
 -- The slices one after another: what is known after each, and one law that carries it over the next. Assumes nothing.
-use Prim.Native.Nat.{ℕ, _+_, _*_, _≤_, _<_}
+use Prim.Native.Nat.{ℕ, _+_, _*_, _≤_}
 use native.Mathlib.Omega.{arith}
 use mathlib.Core.Path.{_≡_, refl, ap, sym, subst, _∙_}
 use mathlib.Core.Bool.{Bool, true, false, cond, not}
@@ -7,11 +7,11 @@ use mathlib.Core.List.{List, [], _∷_, map}
 use lib.ListN.{length, drop}
 use borrow.Author.Tests.{lt-ltb}
 use Rattle.kinds.proofs.Laws.{by-test}
-use Rattle.refusals.specs.Answer.{Answer, refusal, acceptance, refusalOf, require, followed, givenBy}
+use Rattle.refusals.specs.Answer.{Answer, acceptance, refusalOf, require, followed, givenBy}
 use Rattle.refusals.specs.declared.Refusal.{Refusal}
 use Rattle.places.specs.Places.{placeSize, setPairs, pairsAt, valueAt, Within}
 use Rattle.places.proofs.Laws.{set-length, drop-pairs}
-use Rattle.tables.specs.File.{File, ac2, acc, drift, suspension, gas, files, hasAxles, fileNumber, entries, room, firstPair, leastPlaces, identificationNumber}
+use Rattle.tables.specs.File.{File, ac2, acc, drift, suspension, gas, files, hasAxles, fileNumber, room, firstPair, leastPlaces, identificationNumber}
 use Rattle.tables.proofs.Axles.{entries-most}
 use Rattle.files.proofs.Pairs.{few-axles, rooms-fit, own-pairs}
 use Rattle.due.specs.Booking.{bookingIn}
@@ -28,7 +28,7 @@ use Rattle.sets.specs.declared.SetAnswer.{SetAnswer}
 use Rattle.sets.specs.declared.SetAnswer.the-variants.{Accepted, Refused}
 use Rattle.sets.proofs.File.{FilePassed, Passed, file-sound, booking-file}
 use Rattle.sets.proofs.Set.{each-sound}
-use Rattle.judge.specs.Steps.{fileNumbered, IsNumber, figuresOf, figuresIn, IsBooking, FileReady, JudgesFile, JudgesBooking, Asked, Next, identificationJudged, JudgesIdentification, IdentificationReady, laterFiles, acceptanceIn, JudgesSlices, JudgesLater}
+use Rattle.judge.specs.Steps.{IsNumber, figuresOf, figuresIn, IsBooking, FileReady, JudgesFile, JudgesBooking, Asked, Next, identificationJudged, JudgesIdentification, IdentificationReady, laterFiles, JudgesSlices, JudgesLater}
 use Rattle.sets.specs.declared.Figures.{Figures}
 use Rattle.judge.specs.declared.Booked.{Booked}
 use Rattle.judge.specs.declared.Step.{Step}

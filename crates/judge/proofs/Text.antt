@@ -1,7 +1,7 @@
 -- The text of a file: what its judges ask of the values, and a law for each way out. Assumes nothing.
 use Prim.Native.Nat.{ℕ, _+_, _*_, _≤_}
 use native.Mathlib.Omega.{arith}
-use mathlib.Core.Path.{_≡_, refl, ap, ap₂, sym, subst, _∙_}
+use mathlib.Core.Path.{_≡_, ap, ap₂, sym, subst, _∙_}
 use mathlib.Core.List.{List, map}
 use lib.ListN.{length, take, drop}
 use Rattle.refusals.specs.Refusals.{numberOf, refusalWith}
@@ -10,7 +10,7 @@ use Rattle.refusals.specs.declared.Refusal.{Refusal}
 use Rattle.places.specs.Places.{Pair, placeSize, setPairs, pairsAt, valueAt, Within}
 use Rattle.places.proofs.Laws.{set-length, pairs-before, drop-pairs}
 use Rattle.tables.specs.Section.{Section}
-use Rattle.tables.specs.File.{File, ac2, acc, drift, suspension, gas, fileNumber, hasAxles, fixedSections, allSections, leastSections, entries, room, firstPair, leastPlaces}
+use Rattle.tables.specs.File.{File, ac2, acc, drift, suspension, gas, fileNumber, hasAxles, fixedSections, allSections, leastSections, entries, firstPair, leastPlaces}
 use Rattle.tables.specs.Row.{mostRows}
 use Rattle.tables.proofs.Numbers.{first-pairs}
 use Rattle.reading.specs.Reading.{read}

@@ -1,15 +1,14 @@
 -- What the steps of judging a set promise. Each is said by cases of the code's answer: the pairs, which it has no room for, are in the places.
 use Prim.Native.Nat.{ℕ, _≤_, _<_}
 use mathlib.Core.Path.{_≡_}
-use mathlib.Core.Bool.{true, false}
+use mathlib.Core.Bool.{false}
 use mathlib.Core.List.{List, [], _∷_}
-use lib.ListN.{length, getD, take, drop}
+use lib.ListN.{length, take, drop}
 use Rattle.refusals.specs.Answer.{Answer, acceptance, refusalOf}
 use Rattle.refusals.specs.Refusals.{refusalWith}
-use Rattle.refusals.specs.declared.Refusal.{Refusal}
 use Rattle.refusals.specs.declared.RefusalKind.{RefusalKind}
 use Rattle.places.specs.Places.{setPairs}
-use Rattle.tables.specs.File.{File, ac2, acc, drift, suspension, gas, files, fileNumber, mostAxles, sections, allSections, fixedSections, entries, firstPair, leastPlaces, ofNumber, identificationNumber}
+use Rattle.tables.specs.File.{File, ac2, acc, drift, suspension, gas, fileNumber, mostAxles, sections, allSections, fixedSections, entries, firstPair, leastPlaces, ofNumber, identificationNumber}
 use Rattle.tables.specs.Row.{mostRows}
 use Rattle.files.specs.Files.{axlesOf}
 use Rattle.due.specs.Booking.{bookingIn}
@@ -18,7 +17,7 @@ use Rattle.tables.specs.Value.{pairsOf, valuesOf}
 use Rattle.due.specs.Values.{newValues, Held}
 use Rattle.rules.specs.declared.Stated.{Stated}
 use Rattle.sets.specs.Records.{Slices, isGiven}
-use Rattle.sets.specs.Judge.{figuresFrom, acceptanceOf, FileRead, SetRead, fileRead, checkedFile, firstFailed, fileChecks, judgeText, judgeFile, judgeIdentification, setRead, laterSlices, eachAccepted, setFiles, answerIs}
+use Rattle.sets.specs.Judge.{figuresFrom, acceptanceOf, FileRead, SetRead, fileRead, checkedFile, firstFailed, fileChecks, judgeText, judgeFile, judgeIdentification, setRead, laterSlices, eachAccepted, setFiles}
 use Rattle.sets.specs.declared.Acceptance.{Acceptance}
 use Rattle.sets.specs.declared.SetAnswer.{SetAnswer}
 use Rattle.sets.specs.declared.SetAnswer.the-variants.{Accepted, Refused}

@@ -3,7 +3,7 @@ use Prim.Native.Nat.{ℕ, _+_, _*_}
 use mathlib.Core.Bool.{Bool, true, false, cond}
 use mathlib.Core.List.{List}
 use lib.IntN.{ℤ, pos, negℤ}
-use lib.ListN.{length, take, drop}
+use lib.ListN.{take, drop}
 use Rattle.kinds.specs.Digits.{number}
 use Rattle.kinds.specs.Value.{isNumber, isFixed, isDrift, isRevs, isFirstDay, pointPlace, startsWith, dayOf, monthOf, yearOf}
 use Rattle.kinds.specs.declared.NumberRead.{NumberRead}

@@ -1,8 +1,8 @@
 -- What a filled value of a kind must look like, in numbers, and the words of a kind (01, Kinds of value).
 use Prim.Native.Nat.{ℕ, _-_}
-use mathlib.Core.List.{List, [], _∷_, _++_}
+use mathlib.Core.List.{List, [], _++_}
 use lib.ListN.{length, replicate}
-use Rattle.kinds.specs.Kind.{WordList, words, vehicleTypes, categories, yesNo, petrolDirectives, brakeControls, links, gasLinks, counterLinks, Kind, S, C, N, Fixed, D, H, Deriva, Revs, DataPrimaImm, AnnoPrimaImm, PosAssiStaz, NoKind, Word}
+use Rattle.kinds.specs.Kind.{words, vehicleTypes, categories, yesNo, petrolDirectives, brakeControls, links, gasLinks, counterLinks, Kind, S, C, N, Fixed, D, H, Deriva, Revs, DataPrimaImm, AnnoPrimaImm, PosAssiStaz, NoKind, Word}
 use Rattle.kinds.specs.Value.{width}
 use Rattle.kinds.specs.declared.shapes.Shape.{Shape}
 

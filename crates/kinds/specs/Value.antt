@@ -5,7 +5,7 @@ use mathlib.Core.List.{List, [], _∷_}
 use lib.Dec.{eqb, leb, ltb}
 use lib.ListN.{length, getD, take, drop}
 use Rattle.lines.specs.Bytes.{allPrintable, sameBytes}
-use Rattle.kinds.specs.Kind.{WordList, words, vehicleTypes, categories, yesNo, petrolDirectives, brakeControls, links, gasLinks, counterLinks, Kind, S, C, N, Fixed, D, H, Deriva, Revs, DataPrimaImm, AnnoPrimaImm, PosAssiStaz, NoKind, Word}
+use Rattle.kinds.specs.Kind.{words, vehicleTypes, categories, yesNo, petrolDirectives, brakeControls, links, gasLinks, counterLinks, Kind, S, C, N, Fixed, D, H, Deriva, Revs, DataPrimaImm, AnnoPrimaImm, PosAssiStaz, NoKind, Word}
 use Rattle.kinds.specs.Digits.{allDigits, number}
 
 -- 01, Kinds of value: "S w: 1 to w bytes, each 20 to 7E hex"

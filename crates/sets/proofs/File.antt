@@ -1,7 +1,7 @@
 -- One file of a set: what the judge lets through is what is lawful and fits, for any of the five. Assumes nothing.
 use Prim.Native.Nat.{ℕ, _<_}
 use native.Mathlib.Omega.{arith}
-use mathlib.Core.Path.{_≡_, refl, sym, _∙_, subst}
+use mathlib.Core.Path.{_≡_, refl, sym, subst}
 use mathlib.Core.Bool.{Bool, true, false, cond}
 use mathlib.Core.List.{List, [], map}
 use lib.Dec.{ltb}
@@ -9,9 +9,9 @@ use lib.ListN.{length, getD}
 use borrow.Author.Tests.{ltb-false, le-ltb}
 use Rattle.lines.proofs.Bools.{clash}
 use Rattle.kinds.proofs.Laws.{by-test}
-use Rattle.refusals.specs.Answer.{Answer, refusal, acceptance}
+use Rattle.refusals.specs.Answer.{refusal, acceptance}
 use Rattle.places.specs.Places.{Pair, valueAt, Within}
-use Rattle.tables.specs.File.{File, ac2, acc, drift, suspension, gas, fileNumber, sections, entries}
+use Rattle.tables.specs.File.{File, ac2, acc, fileNumber, sections, entries}
 use Rattle.reading.specs.Fitting.{StartOf}
 use Rattle.reading.specs.Reading.{Reading, refused, read}
 use Rattle.files.specs.Files.{readFile, axlesOf, IsFile}

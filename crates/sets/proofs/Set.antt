@@ -4,7 +4,7 @@ use mathlib.Core.Path.{_≡_, refl, ap, sym, _∙_, subst}
 use mathlib.Core.Bool.{Bool, true, false, true≢false, _&&_}
 use mathlib.Core.List.{List, [], _∷_}
 use Rattle.kinds.proofs.Laws.{and-true, by-test}
-use Rattle.refusals.specs.Answer.{Answer, refusal, acceptance, givenBy}
+use Rattle.refusals.specs.Answer.{acceptance, givenBy}
 use Rattle.tables.specs.File.{File, ac2, acc, drift, suspension, gas, hasAxles}
 use Rattle.files.specs.Files.{AxleCount, IsFile}
 use Rattle.due.specs.Booking.{bookingIn}
@@ -14,7 +14,7 @@ use Rattle.rules.specs.Identification.{sevenOf}
 use Rattle.rules.specs.declared.Stated.{Stated}
 use Rattle.serial.specs.Identification.{identificationOf, sevenOk}
 use Rattle.sets.specs.Records.{Slices, isGiven, Record, Read, NotRead, Address, Lawful, Fits}
-use Rattle.sets.specs.Judge.{FileRead, notRead, judgeBooking, judgeFile, judgeIdentification, SetRead, fileStep, fileGiven, identificationStep, setRead, Slice, fileSlice, identificationSlice, laterSlices, eachAccepted, judgeSlices}
+use Rattle.sets.specs.Judge.{FileRead, notRead, judgeBooking, SetRead, fileStep, fileGiven, identificationStep, setRead, Slice, fileSlice, identificationSlice, laterSlices, eachAccepted, judgeSlices}
 use Rattle.sets.proofs.Steps.{followed-inv, given-is}
 use Rattle.sets.proofs.File.{FilePassed, RulesKept, file-sound, booking-file, booking-complete, file-complete}
 use Rattle.sets.proofs.Identification.{seven-fields, identification-sound, identification-complete}

@@ -7,7 +7,6 @@ use mathlib.Core.List.{List, []}
 use lib.Dec.{leb}
 use lib.ListN.{length, getD, drop, length-map, List·getD-map}
 use borrow.Author.Tests.{le-leb, lt-leb, leb-true}
-use Rattle.lines.proofs.Bools.{clash}
 use Rattle.refusals.specs.Answer.{Answer, refusal, acceptance, require}
 use Rattle.places.specs.Places.{Pair, startOf, lengthOf, valueAt, cleared}
 use Rattle.places.proofs.Laws.{cleared-length, cleared-drop, cleared-zero}
@@ -21,7 +20,7 @@ use Rattle.places.proofs.Values.{value-length}
 use Rattle.rules.specs.Slices.{goodStem, isRead}
 use Rattle.rules.specs.Marks.{isMarked}
 use Rattle.rules.specs.declared.Stated.{Stated}
-use Rattle.sets.specs.Records.{Caller, statedIn, Slices, isGiven, Record, Read, NotRead, Lawful, Fits}
+use Rattle.sets.specs.Records.{Caller, statedIn, Slices, isGiven, Record, Read, NotRead, Lawful}
 use Rattle.sets.specs.Judge.{acceptanceOf, FileRead, SetRead, judgeSlices, setFiles, settled, judge}
 use Rattle.sets.specs.declared.Acceptance.{Acceptance}
 use Rattle.sets.specs.Demand3.{IsAccepted, Placed, Returned, Exactly, Unique, IsReturned, Demands}

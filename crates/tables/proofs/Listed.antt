@@ -10,7 +10,7 @@ use Rattle.lines.specs.Bytes.{sameBytes}
 use Rattle.tables.specs.File.{tableOf}
 use Rattle.tables.specs.Row.{names, nameIn, entriesIn, indexOf}
 use Rattle.tables.specs.Groups.{groupOf, tagOf, rowName, InRow, PassesTo, SectionLent}
-use Rattle.tables.proofs.Find.{find-start, find-here, find-next, find-end, find-passed, differs}
+use Rattle.tables.proofs.Find.{find-here, find-next, find-end, find-passed, differs}
 use Rattle.tables.proofs.NameRows.{tags-many, tag-is, in-row, row-name, listed-at}
 
 module _ {n c s e : ℕ} {rows : List (List ℕ)} {lengths tags : List ℕ} (h : SectionLent n c s e rows lengths tags) where

@@ -11,7 +11,7 @@ use lib.ListN.{length, getD, take, drop, drop-of-length-le}
 use lib.Seq.{drop-cons, getD-take, length-take-le}
 use borrow.Author.Tests.{lt-ltb, le-ltb, ltb-false, not-false}
 use Rattle.lines.proofs.Bools.{clash}
-use Rattle.kinds.specs.Kind.{Kind, kindOf, numbered}
+use Rattle.kinds.specs.Kind.{Kind, kindOf}
 use Rattle.kinds.specs.Value.{kindKept}
 use Rattle.places.specs.Places.{Pair, startOf, lengthOf, pairsAt, valueAt, Within, placeSize}
 use Rattle.tables.specs.Section.{Entry, Section, entriesOf}

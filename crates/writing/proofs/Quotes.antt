@@ -17,7 +17,7 @@ use Rattle.tables.specs.Row.{rowsBefore, rowCount, rowKinds, mostRows}
 use Rattle.tables.specs.File.{File, ac2, acc, drift, suspension, gas, fileNumber, ofNumber, hasAxles, leastAxles, mostAxles, fixedSections, sections, allSections, leastSections, entries, firstPair, leastPlaces, tableOf}
 use Rattle.tables.proofs.Files.{of-file, of-none, of-any, table-of, NoFile}
 use Rattle.tables.proofs.Axles.{sections-fixed, sections-length, sections-prefix, entries-most}
-use Rattle.tables.proofs.Numbers.{room-in, first-pairs}
+use Rattle.tables.proofs.Numbers.{room-in}
 use Rattle.tables.proofs.Rows.{rows-le, rows-few, rows-entries, kinds-count}
 use Rattle.reading.specs.Tables.{tableLength, valuesLength, mostBytes}
 use Rattle.reading.specs.Reading.{passes, fails}

@@ -1,13 +1,11 @@
 -- `judge::judge_booking` meets its contract: 11, then the text. Assumes nothing.
 use borrow.Author.Needs.{needs}
 use native.Mathlib.Omega.{arith}
-use mathlib.Core.Path.{refl, subst, sym}
+use mathlib.Core.Path.{refl}
 use borrow.Author.Tests.{lt-ltb, le-ltb}
 use lib.ListN.{length}
 use denote.Ref.{now}
-use Rattle.refusals.specs.Answer.{Answer}
-use Rattle.sets.specs.Judge.{FileRead, judgeBooking}
-use Rattle.judge.specs.Steps.{JudgesBooking}
+use Rattle.sets.specs.Judge.{judgeBooking}
 use Rattle.judge.proofs.judge_booking.Statement.{statement}
 use Rattle.judge.proofs.judge_booking.Tie as tie
 

@@ -1,6 +1,5 @@
 -- `judge::judge_values` meets its contract: 10 over all entries, then 12 or 13, then what is kept. Assumes nothing.
 use borrow.Author.Needs.{needs}
-use native.Mathlib.Omega.{arith}
 use mathlib.Core.Path.{sym}
 use lib.Seq.{length-take-le}
 use denote.Ref.{now}

@@ -8,9 +8,6 @@ use Rattle.kinds.specs.Digits.{allDigits}
 use Rattle.kinds.proofs.Laws.{all-step}
 use Rattle.kinds.proofs.all_digits.Statement.{statement}
 use Rattle.kinds.proofs.all_digits.Tie as tie
-use Rattle.kinds.proofs.all_digits.Reads as reads
-use Rattle.kinds.proofs.all_digits.Lts as lts
-use Rattle.kinds.proofs.is_digit.Reads as is-digit-reads
 
 abbrev Inv-loop : tie.InvT-loop
 Inv-loop s i₀ i = (i ≤ length s) × (allDigits s ≡ allDigits (drop i s))

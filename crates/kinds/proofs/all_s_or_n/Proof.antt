@@ -8,9 +8,6 @@ use Rattle.kinds.specs.Value.{allSorN}
 use Rattle.kinds.proofs.Laws.{letters-step}
 use Rattle.kinds.proofs.all_s_or_n.Statement.{statement}
 use Rattle.kinds.proofs.all_s_or_n.Tie as tie
-use Rattle.kinds.proofs.all_s_or_n.Reads as reads
-use Rattle.kinds.proofs.all_s_or_n.Lts as lts
-use Rattle.kinds.proofs.is_s_or_n.Reads as is-s-or-n-reads
 
 abbrev Inv-loop : tie.InvT-loop
 Inv-loop s i₀ i = (i ≤ length s) × (allSorN s ≡ allSorN (drop i s))

@@ -3,9 +3,6 @@ use borrow.Author.Needs.{needs}
 use borrow.Author.Tests.{eq-eqb, ne-eqb}
 use Rattle.kinds.proofs.are_digits.Statement.{statement}
 use Rattle.kinds.proofs.are_digits.Tie as tie
-use Rattle.kinds.proofs.are_digits.Reads as reads
-use Rattle.kinds.proofs.are_digits.Lts as lts
-use Rattle.kinds.proofs.all_digits.Reads as all-digits-reads
 use Rattle.kinds.specs.Value.{areDigits}
 
 returns : tie.Need-returns

@@ -2,9 +2,6 @@
 use borrow.Author.Needs.{needs}
 use Rattle.kinds.proofs.day_number.Statement.{statement}
 use Rattle.kinds.proofs.day_number.Tie as tie
-use Rattle.kinds.proofs.day_number.Reads as reads
-use Rattle.kinds.proofs.day_number.Lts as lts
-use Rattle.kinds.proofs.number_at.Reads as number-at-reads
 use lib.Dec.{lit≤}
 use Rattle.kinds.specs.Meaning.{dayNumber}
 use Rattle.kinds.proofs.Laws.{part-inside}

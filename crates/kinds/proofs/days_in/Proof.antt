@@ -5,9 +5,6 @@ use borrow.Author.Tests.{ne-eqb}
 use Rattle.lines.proofs.Bools.{tests}
 use Rattle.kinds.proofs.days_in.Statement.{statement}
 use Rattle.kinds.proofs.days_in.Tie as tie
-use Rattle.kinds.proofs.days_in.Reads as reads
-use Rattle.kinds.proofs.days_in.Lts as lts
-use Rattle.kinds.proofs.is_leap.Reads as is-leap-reads
 use mathlib.Core.Logic.{inl, inr, ⊎-elim}
 use Rattle.kinds.specs.Value.{daysIn}
 

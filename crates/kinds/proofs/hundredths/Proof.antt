@@ -6,9 +6,6 @@ use borrow.Author.Needs.{needs}
 use lib.ListN.{take, drop, length-take, length-drop}
 use Rattle.kinds.proofs.hundredths.Statement.{statement}
 use Rattle.kinds.proofs.hundredths.Tie as tie
-use Rattle.kinds.proofs.hundredths.Reads as reads
-use Rattle.kinds.proofs.hundredths.Lts as lts
-use Rattle.kinds.proofs.number.Reads as number-reads
 use Rattle.kinds.specs.Value.{pointPlace}
 use Rattle.kinds.specs.Meaning.{hundredths}
 use Rattle.kinds.proofs.Laws.{FixedPoint, fixed-point, tail-all, below}

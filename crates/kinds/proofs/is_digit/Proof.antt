@@ -2,8 +2,6 @@
 use Rattle.lines.proofs.Bools.{tests}
 use Rattle.kinds.proofs.is_digit.Statement.{statement}
 use Rattle.kinds.proofs.is_digit.Tie as tie
-use Rattle.kinds.proofs.is_digit.Reads as reads
-use Rattle.kinds.proofs.is_digit.Lts as lts
 
 returns : tie.Need-returns
 returns c = search tests

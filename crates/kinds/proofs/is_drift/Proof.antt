@@ -6,10 +6,6 @@ use borrow.Author.Needs.{needs}
 use lib.ListN.{length}
 use Rattle.kinds.proofs.is_drift.Statement.{statement}
 use Rattle.kinds.proofs.is_drift.Tie as tie
-use Rattle.kinds.proofs.is_drift.Reads as reads
-use Rattle.kinds.proofs.is_drift.Lts as lts
-use Rattle.kinds.proofs.is_fixed.Reads as is-fixed-reads
-use Rattle.kinds.proofs.starts_with.Reads as starts-with-reads
 use Rattle.kinds.specs.Value.{isDrift, isFixed}
 use Rattle.kinds.proofs.Laws.{tail-all, starts-long}
 

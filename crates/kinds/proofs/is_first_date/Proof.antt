@@ -6,10 +6,6 @@ use borrow.Author.Tests.{not-true, not-false}
 use Rattle.lines.proofs.Bools.{tests}
 use Rattle.kinds.proofs.is_first_date.Statement.{statement}
 use Rattle.kinds.proofs.is_first_date.Tie as tie
-use Rattle.kinds.proofs.is_first_date.Reads as reads
-use Rattle.kinds.proofs.is_first_date.Lts as lts
-use Rattle.kinds.proofs.is_gregorian.Reads as is-gregorian-reads
-use Rattle.kinds.proofs.is_year.Reads as is-year-reads
 use Rattle.kinds.specs.Value.{isFirstDate, isYear}
 
 in-years : (c : tie.Else2) → isYear (c .before .before .before .args .year) ≡ true

@@ -8,9 +8,6 @@ use lib.ListN.{length-take}
 use Rattle.lines.proofs.Bools.{tests}
 use Rattle.kinds.proofs.is_fixed.Statement.{statement}
 use Rattle.kinds.proofs.is_fixed.Tie as tie
-use Rattle.kinds.proofs.is_fixed.Reads as reads
-use Rattle.kinds.proofs.is_fixed.Lts as lts
-use Rattle.kinds.proofs.all_digits.Reads as all-digits-reads
 use Rattle.kinds.specs.Value.{isFixed, pointPlace}
 use Rattle.kinds.specs.Digits.{allDigits}
 use Rattle.kinds.proofs.Laws.{tail-all}

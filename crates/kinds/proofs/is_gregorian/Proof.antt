@@ -6,10 +6,6 @@ use borrow.Author.Tests.{not-true, not-false}
 use Rattle.lines.proofs.Bools.{tests}
 use Rattle.kinds.proofs.is_gregorian.Statement.{statement}
 use Rattle.kinds.proofs.is_gregorian.Tie as tie
-use Rattle.kinds.proofs.is_gregorian.Reads as reads
-use Rattle.kinds.proofs.is_gregorian.Lts as lts
-use Rattle.kinds.proofs.days_in.Reads as days-in-reads
-use Rattle.kinds.proofs.is_year.Reads as is-year-reads
 use Rattle.kinds.specs.Value.{isGregorian, isYear}
 
 in-years : (c : tie.Else1) → isYear (c .before .before .args .year) ≡ true

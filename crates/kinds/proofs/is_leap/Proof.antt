@@ -2,8 +2,6 @@
 use Rattle.lines.proofs.Bools.{tests}
 use Rattle.kinds.proofs.is_leap.Statement.{statement}
 use Rattle.kinds.proofs.is_leap.Tie as tie
-use Rattle.kinds.proofs.is_leap.Reads as reads
-use Rattle.kinds.proofs.is_leap.Lts as lts
 use Rattle.kinds.specs.Value.{isLeap}
 
 returns : tie.Need-returns

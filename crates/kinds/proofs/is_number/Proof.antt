@@ -3,9 +3,6 @@ use borrow.Author.Needs.{needs}
 use Rattle.lines.proofs.Bools.{tests}
 use Rattle.kinds.proofs.is_number.Statement.{statement}
 use Rattle.kinds.proofs.is_number.Tie as tie
-use Rattle.kinds.proofs.is_number.Reads as reads
-use Rattle.kinds.proofs.is_number.Lts as lts
-use Rattle.kinds.proofs.all_digits.Reads as all-digits-reads
 use Rattle.kinds.specs.Value.{isNumber}
 
 returns : tie.Need-returns

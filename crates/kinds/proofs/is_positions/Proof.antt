@@ -3,9 +3,6 @@ use borrow.Author.Needs.{needs}
 use borrow.Author.Tests.{eq-eqb, ne-eqb}
 use Rattle.kinds.proofs.is_positions.Statement.{statement}
 use Rattle.kinds.proofs.is_positions.Tie as tie
-use Rattle.kinds.proofs.is_positions.Reads as reads
-use Rattle.kinds.proofs.is_positions.Lts as lts
-use Rattle.kinds.proofs.all_s_or_n.Reads as all-s-or-n-reads
 use Rattle.kinds.specs.Value.{isPositions}
 
 returns : tie.Need-returns

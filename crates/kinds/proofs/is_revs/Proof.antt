@@ -6,10 +6,6 @@ use borrow.Author.Needs.{needs}
 use lib.ListN.{length}
 use Rattle.kinds.proofs.is_revs.Statement.{statement}
 use Rattle.kinds.proofs.is_revs.Tie as tie
-use Rattle.kinds.proofs.is_revs.Reads as reads
-use Rattle.kinds.proofs.is_revs.Lts as lts
-use Rattle.kinds.proofs.is_number.Reads as is-number-reads
-use Rattle.kinds.proofs.starts_with.Reads as starts-with-reads
 use Rattle.kinds.specs.Value.{isRevs, isNumber}
 use Rattle.kinds.proofs.Laws.{tail-all, starts-long}
 

@@ -3,8 +3,6 @@ use borrow.Author.Tests.{ne-eqb}
 use Rattle.lines.proofs.Bools.{tests}
 use Rattle.kinds.proofs.is_s_or_n.Statement.{statement}
 use Rattle.kinds.proofs.is_s_or_n.Tie as tie
-use Rattle.kinds.proofs.is_s_or_n.Reads as reads
-use Rattle.kinds.proofs.is_s_or_n.Lts as lts
 use mathlib.Core.Logic.{inl, inr, ⊎-elim}
 
 returns : tie.Need-returns

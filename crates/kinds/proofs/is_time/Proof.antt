@@ -6,10 +6,6 @@ use borrow.Author.Tests.{not-true, not-false}
 use Rattle.lines.proofs.Bools.{tests}
 use Rattle.kinds.proofs.is_time.Statement.{statement}
 use Rattle.kinds.proofs.is_time.Tie as tie
-use Rattle.kinds.proofs.is_time.Reads as reads
-use Rattle.kinds.proofs.is_time.Lts as lts
-use Rattle.kinds.proofs.are_digits.Reads as are-digits-reads
-use Rattle.kinds.proofs.number_at.Reads as number-at-reads
 use lib.Dec.{lit≤}
 use Rattle.kinds.specs.Value.{isTime, areDigits}
 use Rattle.kinds.proofs.Laws.{part-inside}

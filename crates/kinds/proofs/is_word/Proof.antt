@@ -2,10 +2,6 @@
 use borrow.Author.Needs.{needs}
 use Rattle.kinds.proofs.is_word.Statement.{statement}
 use Rattle.kinds.proofs.is_word.Tie as tie
-use Rattle.kinds.proofs.is_word.Reads as reads
-use Rattle.kinds.proofs.is_word.Lts as lts
-use Rattle.kinds.proofs.word_count.Reads as word-count-reads
-use Rattle.kinds.proofs.word_index.Reads as word-index-reads
 use Rattle.kinds.specs.Value.{isWord}
 
 word-index-requires : tie.Need-word-index-requires

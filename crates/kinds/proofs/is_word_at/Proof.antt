@@ -2,16 +2,6 @@
 use borrow.Author.Needs.{needs}
 use Rattle.kinds.proofs.is_word_at.Statement.{statement}
 use Rattle.kinds.proofs.is_word_at.Tie as tie
-use Rattle.kinds.proofs.is_word_at.Reads as reads
-use Rattle.kinds.proofs.is_word_at.Lts as lts
-use Rattle.kinds.proofs.is_brake_control_at.Reads as is-brake-control-at-reads
-use Rattle.kinds.proofs.is_category_at.Reads as is-category-at-reads
-use Rattle.kinds.proofs.is_counter_link_at.Reads as is-counter-link-at-reads
-use Rattle.kinds.proofs.is_gas_link_at.Reads as is-gas-link-at-reads
-use Rattle.kinds.proofs.is_link_at.Reads as is-link-at-reads
-use Rattle.kinds.proofs.is_petrol_directive_at.Reads as is-petrol-directive-at-reads
-use Rattle.kinds.proofs.is_vehicle_type_at.Reads as is-vehicle-type-at-reads
-use Rattle.kinds.proofs.is_yes_no_at.Reads as is-yes-no-at-reads
 use Rattle.kinds.specs.Value.{wordsOf, numberedLists, isWordAt}
 use Rattle.kinds.proofs.Laws.{list-at, no-list, past}
 

@@ -2,8 +2,6 @@
 use Rattle.lines.proofs.Bools.{tests}
 use Rattle.kinds.proofs.is_year.Statement.{statement}
 use Rattle.kinds.proofs.is_year.Tie as tie
-use Rattle.kinds.proofs.is_year.Reads as reads
-use Rattle.kinds.proofs.is_year.Lts as lts
 use Rattle.kinds.specs.Value.{isYear}
 
 returns : tie.Need-returns

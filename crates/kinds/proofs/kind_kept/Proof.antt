@@ -3,9 +3,6 @@ use borrow.Author.Needs.{needs}
 use borrow.Author.Tests.{eq-eqb, ne-eqb}
 use Rattle.kinds.proofs.kind_kept.Statement.{statement}
 use Rattle.kinds.proofs.kind_kept.Tie as tie
-use Rattle.kinds.proofs.kind_kept.Reads as reads
-use Rattle.kinds.proofs.kind_kept.Lts as lts
-use Rattle.kinds.proofs.kind_ok.Reads as kind-ok-reads
 use Rattle.kinds.specs.Value.{kindKept}
 
 returns : tie.Need-returns

@@ -9,8 +9,6 @@ use Rattle.kinds.specs.Digits.{allDigits, numberFrom}
 use Rattle.kinds.proofs.Laws.{number-step, digit-at, rest-at, grows, small}
 use Rattle.kinds.proofs.number.Statement.{statement}
 use Rattle.kinds.proofs.number.Tie as tie
-use Rattle.kinds.proofs.number.Reads as reads
-use Rattle.kinds.proofs.number.Lts as lts
 
 abbrev Inv-loop : tie.InvT-loop
 Inv-loop s n₀ i₀ n i = (i ≤ length s) × (n < 10 ^ i) × (allDigits (drop i s) ≡ true) × (numberFrom 0 s ≡ numberFrom n (drop i s))

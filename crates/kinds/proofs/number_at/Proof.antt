@@ -4,9 +4,6 @@ use borrow.Author.Needs.{needs}
 use lib.ListN.{take, drop, length-take}
 use Rattle.kinds.proofs.number_at.Statement.{statement}
 use Rattle.kinds.proofs.number_at.Tie as tie
-use Rattle.kinds.proofs.number_at.Reads as reads
-use Rattle.kinds.proofs.number_at.Lts as lts
-use Rattle.kinds.proofs.number.Reads as number-reads
 use native.Mathlib.Nat.{add-sub-cancel-left}
 use Rattle.kinds.proofs.Laws.{part-digits, below}
 

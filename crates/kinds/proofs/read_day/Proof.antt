@@ -6,10 +6,6 @@ use borrow.Author.Tests.{not-true, not-false}
 use Rattle.lines.proofs.Bools.{and-left}
 use Rattle.kinds.proofs.read_day.Statement.{statement}
 use Rattle.kinds.proofs.read_day.Tie as tie
-use Rattle.kinds.proofs.read_day.Reads as reads
-use Rattle.kinds.proofs.read_day.Lts as lts
-use Rattle.kinds.proofs.day_number.Reads as day-number-reads
-use Rattle.kinds.proofs.is_first_day.Reads as is-first-day-reads
 use Rattle.kinds.specs.Value.{isFirstDay}
 use Rattle.kinds.specs.Meaning.{dayRead}
 use Rattle.kinds.specs.declared.NumberRead.the-variants as NumberRead

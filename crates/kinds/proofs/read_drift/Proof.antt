@@ -7,10 +7,6 @@ use borrow.Author.Needs.{needs}
 use lib.ListN.{length}
 use Rattle.kinds.proofs.read_drift.Statement.{statement}
 use Rattle.kinds.proofs.read_drift.Tie as tie
-use Rattle.kinds.proofs.read_drift.Reads as reads
-use Rattle.kinds.proofs.read_drift.Lts as lts
-use Rattle.kinds.proofs.read_signed.Reads as read-signed-reads
-use Rattle.kinds.proofs.starts_with.Reads as starts-with-reads
 use Rattle.kinds.specs.Value.{isDrift}
 use Rattle.kinds.specs.Meaning.{driftRead, drift, signedRead}
 use Rattle.kinds.proofs.Laws.{tail-all, starts-long}

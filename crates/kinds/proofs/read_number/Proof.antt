@@ -4,10 +4,6 @@ use mathlib.Core.Bool.{true}
 use borrow.Author.Needs.{needs}
 use Rattle.kinds.proofs.read_number.Statement.{statement}
 use Rattle.kinds.proofs.read_number.Tie as tie
-use Rattle.kinds.proofs.read_number.Reads as reads
-use Rattle.kinds.proofs.read_number.Lts as lts
-use Rattle.kinds.proofs.is_number.Reads as is-number-reads
-use Rattle.kinds.proofs.number.Reads as number-reads
 use Rattle.kinds.specs.Value.{isNumber}
 use Rattle.kinds.specs.Meaning.{numberRead}
 use Rattle.kinds.specs.declared.NumberRead.the-variants as NumberRead

@@ -6,10 +6,6 @@ use borrow.Author.Needs.{needs}
 use lib.ListN.{length}
 use Rattle.kinds.proofs.read_revs.Statement.{statement}
 use Rattle.kinds.proofs.read_revs.Tie as tie
-use Rattle.kinds.proofs.read_revs.Reads as reads
-use Rattle.kinds.proofs.read_revs.Lts as lts
-use Rattle.kinds.proofs.read_unmarked.Reads as read-unmarked-reads
-use Rattle.kinds.proofs.starts_with.Reads as starts-with-reads
 use Rattle.kinds.specs.Value.{isRevs}
 use Rattle.kinds.specs.Meaning.{revsRead, revs, unmarkedRead}
 use Rattle.kinds.proofs.Laws.{tail-all, starts-long}

@@ -4,11 +4,6 @@ use mathlib.Core.Bool.{true}
 use borrow.Author.Needs.{needs, sfits-of}
 use Rattle.kinds.proofs.read_signed.Statement.{statement}
 use Rattle.kinds.proofs.read_signed.Tie as tie
-use Rattle.kinds.proofs.read_signed.Reads as reads
-use Rattle.kinds.proofs.read_signed.Lts as lts
-use Rattle.kinds.proofs.hundredths.Reads as hundredths-reads
-use Rattle.kinds.proofs.is_fixed.Reads as is-fixed-reads
-use Rattle.kinds.proofs.signed.Reads as signed-reads
 use mir.Syntax.{w32}
 use mir.Facts.{toZ-ofZ}
 use Rattle.kinds.specs.Value.{isFixed}

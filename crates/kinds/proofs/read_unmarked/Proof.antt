@@ -6,10 +6,6 @@ use native.Mathlib.Omega.{arith}
 use borrow.Author.Needs.{needs}
 use Rattle.kinds.proofs.read_unmarked.Statement.{statement}
 use Rattle.kinds.proofs.read_unmarked.Tie as tie
-use Rattle.kinds.proofs.read_unmarked.Reads as reads
-use Rattle.kinds.proofs.read_unmarked.Lts as lts
-use Rattle.kinds.proofs.is_number.Reads as is-number-reads
-use Rattle.kinds.proofs.number.Reads as number-reads
 use Rattle.kinds.specs.Value.{isNumber}
 use Rattle.kinds.specs.Meaning.{unmarkedRead}
 use Rattle.kinds.specs.declared.RevsRead.the-variants as RevsRead

@@ -9,8 +9,6 @@ use Rattle.kinds.specs.Meaning.{signed}
 use borrow.Author.Needs.{needs}
 use Rattle.kinds.proofs.signed.Statement.{statement}
 use Rattle.kinds.proofs.signed.Tie as tie
-use Rattle.kinds.proofs.signed.Reads as reads
-use Rattle.kinds.proofs.signed.Lts as lts
 
 small-neg : (n : ℕ) → n < 10000 → SFits w32 (negℤ (pos n))
 small-neg zero h = record { sfits = omega arith }

@@ -3,8 +3,6 @@ use borrow.Author.Needs.{needs}
 use Rattle.lines.proofs.Bools.{tests}
 use Rattle.kinds.proofs.starts_with.Statement.{statement}
 use Rattle.kinds.proofs.starts_with.Tie as tie
-use Rattle.kinds.proofs.starts_with.Reads as reads
-use Rattle.kinds.proofs.starts_with.Lts as lts
 use Rattle.kinds.specs.Value.{startsWith}
 
 returns : tie.Need-returns

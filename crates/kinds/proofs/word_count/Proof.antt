@@ -1,8 +1,6 @@
 -- `kinds::word_count` meets its contract: each arm is the length of the list at that place. Assumes nothing.
 use Rattle.kinds.proofs.word_count.Statement.{statement}
 use Rattle.kinds.proofs.word_count.Tie as tie
-use Rattle.kinds.proofs.word_count.Reads as reads
-use Rattle.kinds.proofs.word_count.Lts as lts
 use Rattle.kinds.specs.Kind.{words}
 use Rattle.kinds.specs.Value.{wordsOf, numberedLists}
 use Rattle.kinds.proofs.Laws.{no-list, past}

@@ -7,10 +7,6 @@ use borrow.Author.Needs.{needs}
 use lib.ListN.{length, drop}
 use Rattle.kinds.proofs.word_index.Statement.{statement}
 use Rattle.kinds.proofs.word_index.Tie as tie
-use Rattle.kinds.proofs.word_index.Reads as reads
-use Rattle.kinds.proofs.word_index.Lts as lts
-use Rattle.kinds.proofs.is_word_at.Reads as is-word-at-reads
-use Rattle.kinds.proofs.word_count.Reads as word-count-reads
 use Rattle.kinds.specs.Value.{wordIndex, wordsOf}
 use Rattle.kinds.proofs.Laws.{index-here, index-later, index-end}
 

@@ -14,8 +14,6 @@ use mir.Facts.{toZ-ofZ}
 use Rattle.kinds_main.proofs.Sizes.{fits}
 use Rattle.kinds_main.proofs.magnitude.Statement.{statement}
 use Rattle.kinds_main.proofs.magnitude.Tie as tie
-use Rattle.kinds_main.proofs.magnitude.Reads as reads
-use Rattle.kinds_main.proofs.magnitude.Lts as lts
 
 neg-abs : (z : ℤ) → natAbs (negℤ z) ≡ natAbs z
 neg-abs (pos zero) = refl

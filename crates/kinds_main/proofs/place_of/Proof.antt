@@ -4,8 +4,6 @@ use borrow.Author.Needs.{needs}
 use lib.ListN.{length}
 use Rattle.kinds_main.proofs.place_of.Statement.{statement}
 use Rattle.kinds_main.proofs.place_of.Tie as tie
-use Rattle.kinds_main.proofs.place_of.Reads as reads
-use Rattle.kinds_main.proofs.place_of.Lts as lts
 
 abbrev Inv-loop : tie.InvT-loop
 Inv-loop text at b i₀ i = (at ≤ i) × (i ≤ length text)

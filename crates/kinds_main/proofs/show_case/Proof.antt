@@ -4,12 +4,6 @@ use borrow.Author.Needs.{needs}
 use lib.ListN.{length-take}
 use Rattle.kinds_main.proofs.show_case.Statement.{statement}
 use Rattle.kinds_main.proofs.show_case.Tie as tie
-use Rattle.kinds_main.proofs.show_case.Reads as reads
-use Rattle.kinds_main.proofs.show_case.Lts as lts
-use Rattle.io.proofs.write_all.Reads as write-all-reads
-use Rattle.kinds.proofs.read_number.Reads as read-number-reads
-use Rattle.kinds_main.proofs.place_of.Reads as place-of-reads
-use Rattle.kinds_main.proofs.show_judged.Reads as show-judged-reads
 
 write-all-requires : tie.Need-write-all-requires
 write-all-requires c κs = search needs

@@ -4,10 +4,6 @@ use borrow.Author.Needs.{needs}
 use lib.ListN.{length}
 use Rattle.kinds_main.proofs.show_cases.Statement.{statement}
 use Rattle.kinds_main.proofs.show_cases.Tie as tie
-use Rattle.kinds_main.proofs.show_cases.Reads as reads
-use Rattle.kinds_main.proofs.show_cases.Lts as lts
-use Rattle.kinds_main.proofs.place_of.Reads as place-of-reads
-use Rattle.kinds_main.proofs.show_case.Reads as show-case-reads
 
 abbrev Inv-loop : tie.InvT-loop
 Inv-loop text at₀ at = at ≤ length text + 1

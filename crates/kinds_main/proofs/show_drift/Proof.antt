@@ -6,12 +6,6 @@ use Rattle.kinds_main.proofs.Sizes.{fits}
 use borrow.Author.Needs.{needs}
 use Rattle.kinds_main.proofs.show_drift.Statement.{statement}
 use Rattle.kinds_main.proofs.show_drift.Tie as tie
-use Rattle.kinds_main.proofs.show_drift.Reads as reads
-use Rattle.kinds_main.proofs.show_drift.Lts as lts
-use Rattle.io.proofs.print_decimal.Reads as print-decimal-reads
-use Rattle.io.proofs.write_all.Reads as write-all-reads
-use Rattle.kinds.proofs.read_drift.Reads as read-drift-reads
-use Rattle.kinds_main.proofs.magnitude.Reads as magnitude-reads
 
 read-drift-requires : tie.Need-read-drift-requires
 read-drift-requires c κs = search needs

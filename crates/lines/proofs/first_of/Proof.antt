@@ -2,7 +2,7 @@
 use borrow.Author.Needs.{needs}
 use native.Mathlib.Omega.{arith}
 use Prim.Native.Nat.{ℕ, _*_, _/_}
-use mathlib.Core.Path.{_≡_, ap, sym, _∙_}
+use mathlib.Core.Path.{ap, sym, _∙_}
 use mathlib.Core.Bool.{not}
 use lib.Dec.{eqb}
 use lib.ListN.{getD}

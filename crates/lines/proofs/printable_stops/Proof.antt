@@ -3,7 +3,7 @@ use borrow.Author.Needs.{needs}
 use Prim.Native.Nat.{ℕ}
 use native.Mathlib.Omega.{arith}
 use lib.ListN.{getD}
-use lib.Bits.{bitAnd, and-le-r, xor-lt}
+use lib.Bits.{and-le-r}
 use denote.Ref.{now}
 use Rattle.lines.proofs.Lanes.{printable-mask}
 use Rattle.lines.proofs.printable_stops.Statement.{statement}

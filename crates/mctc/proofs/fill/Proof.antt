@@ -5,7 +5,7 @@ use native.Mathlib.Omega.{arith}
 use mathlib.Core.Path.{_≡_, refl, _∙_}
 use lib.ListN.{length, take, length-set}
 use denote.Ref.{now}
-use Rattle.mctc.specs.Answers.{answerSize, answered}
+use Rattle.mctc.specs.Answers.{answered}
 use Rattle.mctc.proofs.Answers.{put-next, put-all}
 use Rattle.mctc.proofs.fill.Statement.{statement}
 use Rattle.mctc.proofs.fill.Tie as tie

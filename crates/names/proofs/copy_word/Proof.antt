@@ -1,6 +1,6 @@
 -- `names::copy_word` meets its contract: no word of that number, or the first bytes of its row. Assumes nothing.
 use native.Mathlib.Omega.{arith}
-use Prim.Native.Nat.{_<_, _≤_}
+use Prim.Native.Nat.{_<_}
 use borrow.Author.Needs.{needs}
 use lib.ListN.{length}
 use Rattle.kinds.specs.Kind.{kindOf}
@@ -11,8 +11,6 @@ use Rattle.names.proofs.EntryKinds.{words-count, kind-some, section-in,
 use Rattle.names.proofs.Copied.{row-long, word-none, word-copied}
 use Rattle.names.proofs.copy_word.Statement.{statement}
 use Rattle.names.proofs.copy_word.Tie as tie
-use Rattle.names.proofs.copy_word.Reads as reads
-use Rattle.names.proofs.copy_word.Lts as lts
 
 returns : tie.Need-returns
 returns c =

@@ -3,9 +3,6 @@ use borrow.Author.Needs.{needs}
 use Rattle.lines.proofs.Bools.{tests}
 use Rattle.serial.proofs.address_ok.Statement.{statement}
 use Rattle.serial.proofs.address_ok.Tie as tie
-use Rattle.serial.proofs.address_ok.Reads as reads
-use Rattle.serial.proofs.address_ok.Lts as lts
-use Rattle.kinds.proofs.all_digits.Reads as all-digits-reads
 use Rattle.serial.specs.Identification.{addressOk}
 
 returns : tie.Need-returns

@@ -3,11 +3,6 @@ use borrow.Author.Needs.{needs}
 use borrow.Author.Tests.{eq-eqb, ne-eqb}
 use Rattle.serial.proofs.checksum_ok.Statement.{statement}
 use Rattle.serial.proofs.checksum_ok.Tie as tie
-use Rattle.serial.proofs.checksum_ok.Reads as reads
-use Rattle.serial.proofs.checksum_ok.Lts as lts
-use Rattle.serial.proofs.hex_digit.Reads as hex-digit-reads
-use Rattle.serial.proofs.sum_modulo_256.Reads as sum-modulo-256-reads
-use Rattle.serial.proofs.wide.Reads as wide-reads
 use Rattle.serial.specs.Reading.{checksumOk}
 
 sum-modulo-256-requires : tie.Need-sum-modulo-256-requires

@@ -4,9 +4,6 @@ use Prim.Native.Nat.{_+_}
 use borrow.Author.Needs.{needs}
 use Rattle.serial.proofs.ends_of.Statement.{statement}
 use Rattle.serial.proofs.ends_of.Tie as tie
-use Rattle.serial.proofs.ends_of.Reads as reads
-use Rattle.serial.proofs.ends_of.Lts as lts
-use Rattle.serial.proofs.field_end.Reads as field-end-reads
 use Rattle.serial.specs.Reading.{fieldEnd, endOf, endsOf}
 
 field-end-requires : tie.Need-field-end-requires

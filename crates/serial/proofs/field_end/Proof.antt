@@ -6,8 +6,6 @@ use borrow.Author.Needs.{needs}
 use lib.ListN.{length, drop}
 use Rattle.serial.proofs.field_end.Statement.{statement}
 use Rattle.serial.proofs.field_end.Tie as tie
-use Rattle.serial.proofs.field_end.Reads as reads
-use Rattle.serial.proofs.field_end.Lts as lts
 use Rattle.lines.specs.Bytes.{before}
 use Rattle.serial.specs.Reading.{fieldEnd}
 use Rattle.serial.proofs.Loops.{before-more, before-stop, before-end}

@@ -2,10 +2,6 @@
 use borrow.Author.Needs.{needs}
 use Rattle.serial.proofs.head_ok.Statement.{statement}
 use Rattle.serial.proofs.head_ok.Tie as tie
-use Rattle.serial.proofs.head_ok.Reads as reads
-use Rattle.serial.proofs.head_ok.Lts as lts
-use Rattle.lines.proofs.equal.Reads as equal-reads
-use Rattle.serial.proofs.address_ok.Reads as address-ok-reads
 use Rattle.serial.specs.Reading.{headOk}
 use Rattle.serial.proofs.Tests.{passed, failed}
 

@@ -3,8 +3,6 @@ use borrow.Author.Needs.{needs}
 use Rattle.lines.proofs.Bools.{tests}
 use Rattle.serial.proofs.hex_digit.Statement.{statement}
 use Rattle.serial.proofs.hex_digit.Tie as tie
-use Rattle.serial.proofs.hex_digit.Reads as reads
-use Rattle.serial.proofs.hex_digit.Lts as lts
 use Rattle.serial.specs.Identification.{hexDigit}
 
 add-result : tie.Need-add-result

@@ -3,8 +3,6 @@ use borrow.Author.Needs.{needs}
 use Rattle.lines.proofs.Bools.{tests}
 use Rattle.serial.proofs.is_framed.Statement.{statement}
 use Rattle.serial.proofs.is_framed.Tie as tie
-use Rattle.serial.proofs.is_framed.Reads as reads
-use Rattle.serial.proofs.is_framed.Lts as lts
 use Rattle.serial.specs.Reading.{framed}
 
 returns : tie.Need-returns

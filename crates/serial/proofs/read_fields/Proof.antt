@@ -4,11 +4,6 @@ use borrow.Author.Tests.{eq-eqb, ne-eqb}
 use lib.ListN.{length}
 use Rattle.serial.proofs.read_fields.Statement.{statement}
 use Rattle.serial.proofs.read_fields.Tie as tie
-use Rattle.serial.proofs.read_fields.Reads as reads
-use Rattle.serial.proofs.read_fields.Lts as lts
-use Rattle.serial.proofs.ends_of.Reads as ends-of-reads
-use Rattle.serial.proofs.head_ok.Reads as head-ok-reads
-use Rattle.serial.proofs.seven_ok.Reads as seven-ok-reads
 use Rattle.serial.specs.Reading.{readFields, Ordered}
 use Rattle.serial.proofs.Tests.{passed, failed}
 use Rattle.serial.proofs.Places.{first-end, ends-ordered}

@@ -7,11 +7,6 @@ use borrow.Author.Needs.{needs}
 use lib.ListN.{length, length-take}
 use Rattle.serial.proofs.read_identification.Statement.{statement}
 use Rattle.serial.proofs.read_identification.Tie as tie
-use Rattle.serial.proofs.read_identification.Reads as reads
-use Rattle.serial.proofs.read_identification.Lts as lts
-use Rattle.serial.proofs.checksum_ok.Reads as checksum-ok-reads
-use Rattle.serial.proofs.is_framed.Reads as is-framed-reads
-use Rattle.serial.proofs.read_fields.Reads as read-fields-reads
 use Rattle.serial.specs.Reading.{framed, readIdentification}
 use Rattle.serial.proofs.Tests.{passed, failed}
 use Rattle.serial.proofs.Places.{framed-size}

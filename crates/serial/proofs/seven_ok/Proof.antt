@@ -2,9 +2,6 @@
 use borrow.Author.Needs.{needs}
 use Rattle.serial.proofs.seven_ok.Statement.{statement}
 use Rattle.serial.proofs.seven_ok.Tie as tie
-use Rattle.serial.proofs.seven_ok.Reads as reads
-use Rattle.serial.proofs.seven_ok.Lts as lts
-use Rattle.serial.proofs.field_between.Reads as field-between-reads
 use Rattle.serial.specs.Identification.{allFieldsOk}
 use Rattle.serial.proofs.Tests.{passed, failed, and-true}
 

@@ -6,9 +6,6 @@ use borrow.Author.Needs.{needs}
 use lib.ListN.{length, drop}
 use Rattle.serial.proofs.sum_modulo_256.Statement.{statement}
 use Rattle.serial.proofs.sum_modulo_256.Tie as tie
-use Rattle.serial.proofs.sum_modulo_256.Reads as reads
-use Rattle.serial.proofs.sum_modulo_256.Lts as lts
-use Rattle.serial.proofs.wide.Reads as wide-reads
 use Rattle.serial.specs.Identification.{sum}
 use Rattle.serial.proofs.Loops.{sum-more, sum-end}
 use native.Mathlib.Nat.{zero-add}

@@ -4,12 +4,11 @@ use borrow.Author.Needs.{needs}
 use borrow.Author.Tests.{lt-ltb, le-ltb}
 use Prim.Native.Nat.{ℕ, _+_, _<_, _≤_}
 use native.Mathlib.Omega.{arith}
-use mathlib.Core.Path.{_≡_, ap, sym, _∙_}
+use mathlib.Core.Path.{ap}
 use mathlib.Core.List.{List}
 use lib.ListN.{length}
 use Rattle.tables.specs.Section.{Section}
 use Rattle.tables.specs.File.{tableOf}
-use Rattle.tables.specs.Groups.{groupOf}
 use Rattle.tables.specs.Row.{entriesIn, entryIn, rowAt}
 use Rattle.tables.proofs.NameRows.{group-few}
 use Rattle.tables.proofs.Rows.{row-in, rows-few}

@@ -1,6 +1,5 @@
 -- `tables::likely_section` meets its contract. Assumes nothing.
 use borrow.Author.Needs.{needs}
-use native.Mathlib.Omega.{arith}
 use mathlib.Core.Path.{refl}
 use lib.ListN.{length}
 use borrow.Author.Tests.{lt-ltb, le-ltb}

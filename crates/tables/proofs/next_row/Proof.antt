@@ -1,8 +1,7 @@
 -- `tables::next_row` meets its contract: no row before `row` has the tag. Assumes nothing.
 use borrow.Author.Needs.{needs}
 use native.Mathlib.Omega.{arith}
-use Prim.Native.Nat.{ℕ, _-_, _≤_}
-use lib.ListN.{length}
+use Prim.Native.Nat.{_-_, _≤_}
 use denote.Ref.{now}
 use Rattle.tables.proofs.Find.{NoneFrom, none-more}
 use Rattle.tables.proofs.next_row.Statement.{statement}

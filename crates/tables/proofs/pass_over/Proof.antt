@@ -2,10 +2,10 @@
 use borrow.Author.Needs.{needs}
 use borrow.Author.Tests.{not-true, not-false}
 use native.Mathlib.Omega.{arith}
-use Prim.Native.Nat.{ℕ, _+_, _-_, _≤_}
+use Prim.Native.Nat.{_+_, _-_, _≤_}
 use mathlib.Core.Path.{_≡_, sym, _∙_}
 use mathlib.Core.Bool.{false}
-use lib.ListN.{length, take, drop}
+use lib.ListN.{take, drop}
 use denote.Ref.{now}
 use Rattle.lines.specs.Bytes.{without}
 use Rattle.tables.specs.Groups.{PassesTo}

@@ -1,6 +1,4 @@
 -- `tables::section_start` meets its contract: a law for each file with more than one section. Assumes nothing.
-use mathlib.Core.Path.{_≡_}
-use Rattle.tables.specs.Groups.{StandsAt}
 use Rattle.tables.proofs.NameRows.{stands-first, stands-drift, stands-suspension, stands-gas, stands-other}
 use Rattle.tables.proofs.section_start.Statement.{statement}
 use Rattle.tables.proofs.section_start.Tie as tie

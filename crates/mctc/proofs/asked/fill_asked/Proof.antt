@@ -1,6 +1,5 @@
 -- `mctc::asked::fill_asked` meets its contract: 16, or the numbers one by one. Assumes nothing.
 use borrow.Author.Needs.{needs}
-use denote.Ref.{now}
 use mathlib.Core.Path.{_≡_}
 use borrow.Author.Tests.{eq-eqb, ne-eqb}
 use lib.ListN.{length}

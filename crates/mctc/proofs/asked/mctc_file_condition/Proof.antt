@@ -1,6 +1,5 @@
 -- `mctc::asked::mctc_file_condition` meets its contract: nothing is done, or what is asked and why is put into the array. Assumes nothing.
 use borrow.Author.Needs.{needs}
-use denote.Ref.{now}
 use native.Mathlib.Omega.{arith}
 use Rattle.mctc.proofs.Asking.{ask-short, ask-done}
 use Rattle.mctc.proofs.asked.mctc_file_condition.Statement.{statement}

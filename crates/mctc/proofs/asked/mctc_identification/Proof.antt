@@ -1,6 +1,5 @@
 -- `mctc::asked::mctc_identification` meets its contract: nothing is done, or what was read is put into the array. Assumes nothing.
 use borrow.Author.Needs.{needs}
-use denote.Ref.{now}
 use native.Mathlib.Omega.{arith}
 use Rattle.mctc.proofs.Asking.{ask-short, ask-done, ends-fit}
 use Rattle.mctc.proofs.asked.mctc_identification.Statement.{statement}
