@@ -83,6 +83,6 @@ fn is_doubtful(case: &Case, file: u32, entry: &Entry) -> bool {
     why.is_some_and(|why| {
         why.deciding()
             .iter()
-            .any(|looked| looked.corrected().is_some())
+            .any(|looked| looked.supposed().is_some())
     })
 }

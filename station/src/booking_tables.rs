@@ -123,6 +123,39 @@ pub fn categories() -> Vec<[String; 3]> {
     rows.collect()
 }
 
+/// Whether a word of the old booking passes with this fuel of the new one, with some directive and day, or with some
+/// Turbo and CorrettorePressione.
+pub fn goes_with(fuel: &str, word: &str) -> bool {
+    let fits = |values: &Values| {
+        let fuels = [&[("Alimentazione_1", fuel)], values].concat();
+        let acc = [&[("Alimentazione_1", word)], values].concat();
+        passes(&fuels, Some(&acc))
+    };
+    let directives = words_of("DirettivaEmissioniGasBenzinaAuto");
+    let petrol = directives.iter().any(|directive| {
+        DAYS.iter().any(|day| {
+            fits(&[
+                ("DirettivaEmissioniGasBenzinaAuto", directive.as_str()),
+                ("DataPrimaImm", day),
+                ("AnnoPrimaImm", year(day)),
+            ])
+        })
+    });
+    petrol
+        || words_of("Turbo").iter().any(|turbo| {
+            words_of("CorrettorePressione").iter().any(|corrector| {
+                fits(&[
+                    ("Turbo", turbo.as_str()),
+                    ("CorrettorePressione", corrector.as_str()),
+                ])
+            })
+        })
+}
+
+fn year(day: &str) -> &str {
+    day.get(4..).unwrap_or_default()
+}
+
 /// A car's directive, and the old booking's fuel for each of the days.
 pub fn petrol() -> (Vec<&'static str>, Vec<Vec<String>>) {
     let rows = words_of("DirettivaEmissioniGasBenzinaAuto").into_iter();
@@ -132,7 +165,7 @@ pub fn petrol() -> (Vec<&'static str>, Vec<Vec<String>>) {
                 ("Alimentazione_1", "BENZINA"),
                 ("DirettivaEmissioniGasBenzinaAuto", directive.as_str()),
                 ("DataPrimaImm", day),
-                ("AnnoPrimaImm", day.get(4..).unwrap_or_default()),
+                ("AnnoPrimaImm", year(day)),
             ];
             fitting(&values, "Alimentazione_1", &values)
         });

@@ -31,6 +31,11 @@ pub fn words() -> impl Iterator<Item = String> {
     words.chain(OLD_BOOKING.map(String::from))
 }
 
+/// The words of the old booking that no kind lists.
+pub fn old_booking() -> impl Iterator<Item = &'static str> {
+    OLD_BOOKING.into_iter()
+}
+
 /// All years that a day may have, as they are written.
 pub fn years() -> impl Iterator<Item = String> {
     (1900..=2099).map(|year: u32| year.to_string())

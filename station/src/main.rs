@@ -19,6 +19,7 @@ mod file_types;
 mod finding;
 mod folder;
 mod format;
+mod fuels;
 mod further;
 mod help;
 mod identification;

@@ -27,8 +27,13 @@ pub fn nearest_stem<'a>(
     stems.find(|stem| distance(&plain(written), &plain(stem)) <= 1)
 }
 
+/// Whether two names are the same but for capitals and spaces.
+pub fn is_alike(one: &[u8], other: &[u8]) -> bool {
+    plain(one) == plain(other)
+}
+
 /// Small letters, without spaces.
-fn plain(name: &[u8]) -> Vec<u8> {
+pub fn plain(name: &[u8]) -> Vec<u8> {
     let kept = name.iter().filter(|byte| !byte.is_ascii_whitespace());
     kept.map(u8::to_ascii_lowercase).collect()
 }

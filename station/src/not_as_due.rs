@@ -148,11 +148,18 @@ pub fn correction(refused: &Refused, looked: &Looked) -> Option<Correction> {
     Some(Correction { edit, advice })
 }
 
-/// What is due with this change and not there: what the library refuses it for, and files that it would come to.
+/// What is due with this change and not there; None where that is not what the library refuses it for.
 fn then_due(case: &Case, edit: &Edit) -> Option<String> {
     let text = edit.apply(case.text(edit.file));
+    case.with_text(edit.file, &text).lacking()?;
+    Some(lacking_with(case, edit).join("; "))
+}
+
+/// What is due with this change and not there: what the library refuses it for, and files that it would come to.
+pub fn lacking_with(case: &Case, edit: &Edit) -> Vec<String> {
+    let text = edit.apply(case.text(edit.file));
     let case = case.with_text(edit.file, &text);
-    let mut lacking = vec![case.lacking()?];
+    let mut lacking: Vec<String> = case.lacking().into_iter().collect();
     for file in &FILE_TYPES {
         let is_due = Why::file(&case, file.number).is_some_and(|why| why.is_due());
         let missing = missing(file);
@@ -160,14 +167,18 @@ fn then_due(case: &Case, edit: &Edit) -> Option<String> {
             lacking.push(missing);
         }
     }
-    Some(lacking.join("; "))
+    lacking
 }
 
 /// What is to be noted of an accepted set: values that are near a word that counts, by which something would be due.
 pub fn doubts(case: &Case) -> Vec<String> {
     let doubtful = reasons::doubtful(case);
     let notes = doubtful.iter().filter_map(|looked| {
-        let Correction { edit, .. } = Correction::of(looked)?;
+        let edit = Edit {
+            file: looked.file(),
+            line: looked.line,
+            action: Action::Replace(looked.supposed()?),
+        };
         let then = then_due(case, &edit)?;
         Some(format!("{}, {then}", looked.doubt()?))
     });

@@ -4,6 +4,7 @@ use mctc::{Asked, Condition, Kind, Reason, Test};
 
 use crate::case::{Case, GAS, IDENTIFICATION};
 use crate::file_types::{by_number, FILE_TYPES};
+use crate::fuels;
 use crate::near::nearest;
 use crate::shown::{self, listed, word_list};
 
@@ -199,9 +200,13 @@ impl<'a> Looked<'a> {
         entry(&self.reason).is_some_and(|(_, name)| names.contains(&name.as_str()))
     }
 
-    /// The value and the word that it is near.
+    /// The value and the word that may be meant.
     pub fn doubt(&self) -> Option<String> {
-        Some(format!("{}; if `{}` is meant", self.words(), self.near()?))
+        let meant = self.meant()?;
+        Some(match self.near() {
+            Some(_) => format!("{}; if `{meant}` is meant", self.words()),
+            None => format!("{}; if `{meant}` is meant", self.failure()),
+        })
     }
 
     /// The value and what counts, of a value that does not pass.
@@ -213,21 +218,42 @@ impl<'a> Looked<'a> {
         Counts::of(&self.reason).instead()
     }
 
-    /// The word that counts and that the value is near. A word of a list is near no other: it is another choice.
+    /// The word that counts and that the value is near, or that the old booking writes so. A word of a list is near no
+    /// other: it is another choice.
     fn near(&self) -> Option<&'static str> {
-        let test = self.reason.test;
+        let counts = |word: &&str| self.reason.test.passes(word.as_bytes());
         let words = WORDS.into_iter().filter(|_| !is_word_list(&self.reason));
-        let near = nearest(
-            self.value,
-            words.filter(|word| test.passes(word.as_bytes())),
-        )?;
+        let near = nearest(self.value, words.filter(counts));
+        let near = near.or_else(|| {
+            let fuel = self.has_name(&[fuels::ENTRY]).then_some(self.value);
+            fuel.and_then(fuels::of_old_word).filter(counts)
+        })?;
         (near.as_bytes() != self.value).then_some(near)
     }
 
-    /// The line with that word.
+    /// The word that is near, or that of a fuel which the value speaks of.
+    fn meant(&self) -> Option<&'static str> {
+        self.near().or_else(|| {
+            let fuel = self.has_name(&[fuels::ENTRY]).then_some(self.value);
+            let meant = fuel.and_then(fuels::spoken_of)?;
+            let is_other = meant.as_bytes() != self.value;
+            (is_other && self.reason.test.passes(meant.as_bytes())).then_some(meant)
+        })
+    }
+
+    /// The line with the word that is near.
     pub fn corrected(&self) -> Option<Vec<u8>> {
+        self.with_word(self.near()?)
+    }
+
+    /// The line with the word that may be meant.
+    pub fn supposed(&self) -> Option<Vec<u8>> {
+        self.with_word(self.meant()?)
+    }
+
+    fn with_word(&self, word: &str) -> Option<Vec<u8>> {
         let (_, name) = entry(&self.reason)?;
-        Some(format!("{name}={}", self.near()?).into_bytes())
+        Some(format!("{name}={word}").into_bytes())
     }
 }
 
@@ -336,7 +362,7 @@ impl<'a> Why<'a> {
     }
 }
 
-/// Values of a set that decide something and are near a word that counts, but not that word.
+/// Values of a set that decide something and may be meant as a word that counts, but are not that word.
 pub fn doubtful<'a>(case: &Case<'a>) -> Vec<Looked<'a>> {
     let conditions = FILE_TYPES.iter().flat_map(|file| {
         let file = file.number;
@@ -351,7 +377,7 @@ pub fn doubtful<'a>(case: &Case<'a>) -> Vec<Looked<'a>> {
     }
     let looked = reasons.iter().filter_map(|reason| Looked::at(case, reason));
     looked
-        .filter(|looked| !looked.holds() && looked.corrected().is_some())
+        .filter(|looked| !looked.holds() && looked.supposed().is_some())
         .collect()
 }
 

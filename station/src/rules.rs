@@ -7,8 +7,9 @@ use crate::case::{Refused, AC2};
 use crate::edit::{Action, Edit};
 use crate::file_types::by_number;
 use crate::finding::Finding;
+use crate::fuels;
 use crate::near::nearest;
-use crate::not_as_due::{correction, Correction};
+use crate::not_as_due::{correction, lacking_with, Correction};
 use crate::reasons::{doubtful, Looked};
 use crate::shown;
 use crate::table;
@@ -47,6 +48,10 @@ pub fn booking(refused: &Refused) -> Option<Finding> {
     let expected: Vec<String> = passing.iter().map(|value| format!("`{value}`")).collect();
     let expected = shown::listed(&expected, "or");
     let finding = Finding::cause(format!("{found}{behind}")).expected(Some(expected));
+    if let Some(first) = other_fuel(refused, name, value) {
+        let advice = advice.replacen("write line", "write ACC line", 1);
+        return Some(finding.advice(format!("{first}; only if AC2 is right, {advice}")));
+    }
     let advice = format!("{advice}, or correct what it hangs on if that is wrong");
     Some(Finding {
         mend,
@@ -65,6 +70,34 @@ fn doubted(refused: &Refused, doubt: &Looked, found: &str) -> Finding {
         },
         None => finding.advice(format!("correct {} first", doubt.place())),
     }
+}
+
+/// Where the bookings contradict each other in fuel: which is right is not known, and to write the new booking's fuel
+/// here may leave out the gas test. So the new booking is looked at first, and no mending is given.
+fn other_fuel(refused: &Refused, name: &[u8], value: &[u8]) -> Option<String> {
+    if name != fuels::ENTRY.as_bytes() {
+        return None;
+    }
+    let (line, new) = filled(refused.case.text(AC2), AC2, fuels::ENTRY)?;
+    if fuels::agree(new, value) {
+        return None;
+    }
+    let start = "find out which fuel is right";
+    let Some(fuel) = fuels::spoken_of(value) else {
+        return Some(format!("{start}: correct AC2 line {line} if it is wrong"));
+    };
+    let edit = Edit {
+        file: AC2,
+        line,
+        action: Action::Replace(format!("{}={fuel}", fuels::ENTRY).into_bytes()),
+    };
+    let then = match lacking_with(&refused.case, &edit).as_slice() {
+        [] => String::new(),
+        lacking => format!("; then {}", lacking.join("; ")),
+    };
+    Some(format!(
+        "{start}: if AC2 line {line} must be `{fuel}`, correct it{then}"
+    ))
 }
 
 /// What the library lets pass at the refusal's line: words, the new booking's own values, years and digits.
@@ -106,14 +139,18 @@ fn hangs_on(file: u32, name: &[u8]) -> &'static [&'static str] {
     }
 }
 
-/// A filled entry of a file as `AC2 line 8: Alimentazione_1=..`, from any of its sections.
-pub fn with_line(refused: &Refused, file: u32, name: &str) -> Option<String> {
-    let text = refused.case.text(file);
+/// The line and value of a filled entry, from any section of the file.
+fn filled<'a>(text: &'a [u8], file: u32, name: &str) -> Option<(u32, &'a [u8])> {
     let sections = table::sections(file);
     let mut found = sections
         .iter()
         .filter_map(|section| table::line_of(text, &section.heading, name));
-    let (line, value) = found.find(|(_, value)| !value.is_empty())?;
+    found.find(|(_, value)| !value.is_empty())
+}
+
+/// A filled entry of a file as `AC2 line 8: Alimentazione_1=..`, from any of its sections.
+pub fn with_line(refused: &Refused, file: u32, name: &str) -> Option<String> {
+    let (line, value) = filled(refused.case.text(file), file, name)?;
     let ending = by_number(file)?.ending;
     Some(format!(
         "{ending} line {line}: {name}={}",

@@ -38,9 +38,10 @@ const fn car(
 }
 
 const FUEL: (&str, &str, &str) = ("AC2", "=BENZINA\r", "=benzina\r");
+const OLD_WORD: (&str, &str, &str) = ("AC2", "=BENZINA\r", "=BENZINA CAT\r");
 const DIRECTIVE: (&str, &str, &str) = ("AC2", "=98/69/CE", "=");
 
-const SETS: [Made; 16] = [
+const SETS: [Made; 23] = [
     moped("category", &[("AC2", "=L1e", "=L3e")]),
     moped("plate", &[("AC2", "=X2ABCD", "=X2ABCDE")]),
     moped(
@@ -74,6 +75,42 @@ const SETS: [Made; 16] = [
     car("old-booking", &[FUEL, DIRECTIVE], &["GAS", "ID"]),
     car("noted", &[FUEL, DIRECTIVE], &["ACC", "GAS", "ID"]),
     car("other-fuel", &[("AC2", "=BENZINA\r", "=GPL\r")], &[]),
+    car(
+        "bookings-gpl",
+        &[("AC2", "=BENZINA\r", "=GPL\r"), DIRECTIVE],
+        &["GAS", "ID"],
+    ),
+    car(
+        "bookings-diesel",
+        &[
+            ("AC2", "=BENZINA\r", "=DIESEL\r"),
+            ("AC2", "Turbo=", "Turbo=S"),
+            ("AC2", "CorrettorePressione=", "CorrettorePressione=N"),
+            DIRECTIVE,
+        ],
+        &["GAS", "ID"],
+    ),
+    car(
+        "bookings-methane",
+        &[
+            ("AC2", "=BENZINA\r", "=GPL\r"),
+            ("ACC", "=BENZINA CAT\r", "=METANO\r"),
+            DIRECTIVE,
+        ],
+        &["GAS", "ID"],
+    ),
+    car("old-word", &[OLD_WORD, DIRECTIVE], &["GAS", "ID"]),
+    car("old-word-directive", &[OLD_WORD], &["GAS", "ID"]),
+    car(
+        "two-fuels",
+        &[("AC2", "=BENZINA\r", "=BENZINA/GPL\r"), DIRECTIVE],
+        &["ACC", "GAS", "ID"],
+    ),
+    car(
+        "short-fuel",
+        &[("AC2", "=BENZINA\r", "=BENZ.\r"), DIRECTIVE],
+        &["GAS", "ID"],
+    ),
 ];
 
 impl Made {
