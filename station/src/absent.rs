@@ -43,15 +43,28 @@ pub fn entries(refused: &Refused) -> Option<Finding> {
     let names: Vec<&str> = missing.iter().map(|entry| entry.name.as_str()).collect();
     let names = names.join(", ");
     let first = missing.first()?;
+    let finding = Finding::default().meaning(format!("{}: {names}", words::meaning(8)));
+    if missing.iter().all(|entry| entry.name == ERROR_CODE) {
+        return Some(finding.advice(format!(
+            "add {ERROR_CODE} with the device's value; nothing behind `=` only if it reported none"
+        )));
+    }
     let mend = may_be_empty(refused, &missing)
         .then(|| below(refused, first))
         .and_then(|edit| refused.tried(edit));
-    let finding = Finding::default().meaning(format!("{}: {names}", words::meaning(8)));
+    let advice = format!("add to this section, with their values: {names}");
+    let has_code = missing.iter().any(|entry| entry.name == ERROR_CODE);
     Some(finding.mend_or(
         mend,
-        format!("add to this section, with their values: {names}"),
+        match has_code {
+            true => format!("{advice}; {ERROR_CODE} is empty only if the device reported none"),
+            false => advice,
+        },
     ))
 }
+
+/// What the device reports. Without a value it says that there was no error, which only the device knows.
+const ERROR_CODE: &str = "CodErrore";
 
 /// The entry as a line without a value, below its heading.
 fn below(refused: &Refused, entry: &Entry) -> Edit {
@@ -62,6 +75,12 @@ fn below(refused: &Refused, entry: &Entry) -> Edit {
 /// that decides it is doubtful: to leave out what is due with another value would hide that.
 fn may_be_empty(refused: &Refused, missing: &[Entry]) -> bool {
     let file = refused.refusal.file;
+    if missing
+        .first()
+        .is_some_and(|first| first.name == ERROR_CODE)
+    {
+        return false;
+    }
     let text = missing.iter().fold(refused.text().to_vec(), |text, entry| {
         below(refused, entry).apply(&text)
     });

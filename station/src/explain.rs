@@ -12,6 +12,7 @@ use crate::identification;
 use crate::line_form;
 use crate::misnamed;
 use crate::not_as_due;
+use crate::other_type;
 use crate::page::{labelled, verbatim};
 use crate::rules;
 use crate::shown::{self, counted, Line};
@@ -103,7 +104,15 @@ pub fn explain(case: Case, refusal: Refusal, subject: Option<Subject>) -> Explai
 }
 
 fn finding(refused: &Refused, subject: Option<&Subject>) -> Option<Finding> {
-    match refused.refusal.number {
+    let number = refused.refusal.number;
+    if let Some(finding) = (5..=7)
+        .contains(&number)
+        .then(|| other_type::finding(refused))
+        .flatten()
+    {
+        return Some(finding);
+    }
+    match number {
         2 => Some(stem(refused)),
         4 => line_form::finding(refused),
         5 => misnamed::heading(refused),

@@ -2,11 +2,15 @@
 
 use std::fs::{self, File, OpenOptions};
 use std::io::{self, ErrorKind, Write};
+use std::os::unix::ffi::OsStrExt;
 use std::path::Path;
 
 use mctc::Refusal;
 
+use crate::case::IDENTIFICATION;
 use crate::disk::{read_file, MOST};
+use crate::file_types::split_name;
+use crate::identification;
 use crate::line_ends::{self, Mended, NoText};
 use crate::output::{say, Output, Status, Trouble};
 use crate::read::{FileRead, Input};
@@ -41,6 +45,14 @@ pub fn mend(path: &Path, new: Option<&Path>, out: &mut Output) -> Result<Status,
         let why = format!("{name}: has more than {MOST} bytes, which no file of a set may have");
         return Err(Trouble(why));
     }
+    let ending = path.file_name().map(OsStrExt::as_bytes);
+    let is_answer = ending
+        .and_then(split_name)
+        .is_some_and(|(_, file)| file.number == IDENTIFICATION);
+    if is_answer || file.text.first() == Some(&identification::START) {
+        let why = format!("{name}: not mended, as an identification answer has no lines");
+        return Err(Trouble(why));
+    }
     if let Some(no_text) = NoText::of(&file.text) {
         let (cause, advice) = (no_text.cause(), no_text.advice());
         return Err(Trouble(format!("{name}: not mended, as {cause}; {advice}")));
@@ -71,9 +83,13 @@ fn changes(mended: &Mended) -> String {
         count => Some(format!("{} made CR LF", counted(count, "line end"))),
     };
     let changes: Vec<String> = mark.into_iter().chain(ends).collect();
+    let cut_off = match mended.ends.none {
+        0 => "",
+        _ => "; the last line had no end: compare the file with the device's, it may be cut off",
+    };
     match changes.as_slice() {
         [] => "nothing was to be mended, every byte is the same".to_string(),
-        changes => format!("{}; all else is the same", changes.join(", ")),
+        changes => format!("{}; all else is the same{cut_off}", changes.join(", ")),
     }
 }
 

@@ -51,7 +51,8 @@ expected, mend, drift_axles, suspension_axles, drift_mark, suspension_mark,
 gas_mark, empty, notes; or stem and error where a file cannot be read.
 
 An accepted set may have notes: values that are near a word that counts, as
-`benzina` is near `BENZINA`, and by which something would be due.
+`benzina` is near `BENZINA`, and by which something would be due; and drift and
+suspension with different counts of axles.
 
 mend is what to_do asks for, where that can be done without knowing more, or
 null. It was tried: with it, the judge accepts, refuses at a later place, or
@@ -144,7 +145,8 @@ new file. A refusal goes to standard error.
   --output NEW  a file that does not exist yet; none is ever overwritten
   --mend        write FILE as it stands, but every line ended by CR LF and no
                 byte order mark, and say what was changed; nothing is judged.
-                UTF-16 and what is no text is not mended
+                UTF-16, what is no text, and an identification answer, which has
+                no lines, are not mended
 
 Exit status: 0 written; 1 refused; 2 bad usage, FILE cannot be read or NEW
 cannot be written.

@@ -9,7 +9,7 @@ use crate::finding::Finding;
 use crate::shown::{self, counted};
 
 /// The first byte, the last byte, and the one between fields.
-const START: u8 = 0x02;
+pub const START: u8 = 0x02;
 const END: u8 = 0x03;
 const BETWEEN: u8 = 0x17;
 

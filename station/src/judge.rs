@@ -18,6 +18,9 @@ use crate::output::{Output, Status, Trouble};
 use crate::page::labelled;
 use crate::shown::counted;
 
+const DRIFT: u32 = 3;
+const SUSPENSION: u32 = 4;
+
 /// What is asked for besides the verdict.
 #[derive(Clone, Copy, Debug, PartialEq, Eq)]
 pub struct Wish {
@@ -62,7 +65,8 @@ pub struct Judged {
     verdict: Result<Acceptance, Explained>,
     /// Beside the verdict, where they are asked for.
     further: Option<Vec<Explained>>,
-    /// Beside an acceptance: values by which nothing is due, but which may be meant otherwise.
+    /// Beside an acceptance: values by which nothing is due, but which may be meant otherwise, and axles that a file
+    /// lacks.
     doubts: Vec<String>,
 }
 
@@ -79,7 +83,10 @@ impl Judged {
             Err(explained) => further(&set, explained.refusal),
         });
         let doubts = match &verdict {
-            Ok(_) => doubts(&Case::set(&set)),
+            Ok(acceptance) => {
+                let axles = other_axles(&set, acceptance);
+                doubts(&Case::set(&set)).into_iter().chain(axles).collect()
+            }
             Err(_) => Vec::new(),
         };
         Judged {
@@ -208,8 +215,8 @@ impl Judged {
         };
         match file.number {
             2 if self.places.value(2, 0).is_none() => ", not read with category L".to_string(),
-            3 => measured(acceptance.drift_axles, acceptance.drift_mark),
-            4 => measured(acceptance.suspension_axles, acceptance.suspension_mark),
+            DRIFT => measured(acceptance.drift_axles, acceptance.drift_mark),
+            SUSPENSION => measured(acceptance.suspension_axles, acceptance.suspension_mark),
             5 => format!(", {}", mark(acceptance.gas_mark)),
             _ => String::new(),
         }
@@ -265,6 +272,16 @@ fn about_refusal(object: Object, refusal: Refusal, explained: Option<&Explained>
             "mend",
             explained.and_then(|explained| explained.mend.as_ref().map(Edit::json)),
         )
+}
+
+/// Of drift and suspension with different counts of axles, where both are given.
+fn other_axles(set: &SetOnDisk, acceptance: &Acceptance) -> Option<String> {
+    let (drift, suspension) = (acceptance.drift_axles, acceptance.suspension_axles);
+    let both = set.is_given(DRIFT) && set.is_given(SUSPENSION);
+    (both && drift != suspension).then(|| {
+        let drift = counted(drift as usize, "axle");
+        format!("drift has {drift} and suspension {suspension}: see that neither file is cut off")
+    })
 }
 
 pub fn counts_as_not_given(name: &str) -> String {

@@ -11,6 +11,9 @@ use crate::words;
 /// 01, Lines: the most bytes before CR LF.
 const LONGEST: usize = 512;
 
+/// Of a file whose last line has no end: what it had behind that is not known.
+const CUT_OFF: &str = "the file may be cut off: compare it with the device's, or fetch it again";
+
 const FORM: &str = "a line is a heading in [ ], or name=value";
 
 pub fn finding(refused: &Refused) -> Option<Finding> {
@@ -46,14 +49,21 @@ impl<'a> Line<'a> {
         self.tried(Action::Replace(text.to_vec()))
     }
 
-    /// A change to the file as a whole.
+    /// A change to the file as a whole; not where it may be cut off, which that would hide.
     fn line_ends(&self) -> Option<Edit> {
+        if self.ends().none > 0 {
+            return None;
+        }
         let file = self.refused.refusal.file;
         self.refused.tried(Edit {
             file,
             line: 0,
             action: Action::LineEnds,
         })
+    }
+
+    fn ends(&self) -> Ends {
+        line_ends::mended(self.refused.text()).ends
     }
 
     fn mark(&self) -> Option<Finding> {
@@ -79,7 +89,7 @@ impl<'a> Line<'a> {
         if !feed && !doubled && returns.is_none() {
             return None;
         }
-        let ends = line_ends::mended(self.refused.text()).ends;
+        let ends = self.ends();
         let alone = Ends {
             feeds: 1,
             right: ends.right,
@@ -103,11 +113,12 @@ impl<'a> Line<'a> {
             }
             _ => ends.words().join("; "),
         };
-        Some(with_program(
-            &cause,
-            "save the file with CR LF line ends",
-            self.line_ends(),
-        ))
+        let advice = "save the file with CR LF line ends";
+        let advice = match ends.none {
+            0 => advice.to_string(),
+            _ => format!("{CUT_OFF}; only if it is whole, {advice}"),
+        };
+        Some(with_program(&cause, &advice, self.line_ends()))
     }
 
     fn length(&self) -> Option<Finding> {
@@ -152,10 +163,11 @@ impl<'a> Line<'a> {
         let kept = content.get(start..)?;
         let end = kept.iter().rev().take_while(|byte| control(byte)).count();
         let kept = kept.get(..kept.len() - end)?;
-        if kept.is_empty() {
-            self.tried(Action::Delete)
-        } else {
-            self.replaced(kept)
+        match kept {
+            [] => self.tried(Action::Delete),
+            // The end of the line is missing too, and the file may be cut off.
+            _ if !self.whole.ends_with(b"\n") => None,
+            kept => self.replaced(kept),
         }
     }
 
@@ -163,9 +175,9 @@ impl<'a> Line<'a> {
         (!self.whole.ends_with(b"\n")).then(|| {
             let line = self.refused.refusal.line;
             let cause = format!("the file ends in line {line} without CR LF");
-            let mend = self.replaced(self.content());
-            let finding = Finding::cause(cause).advice(format!("end line {line} with CR LF"));
-            Finding { mend, ..finding }
+            Finding::cause(cause).advice(format!(
+                "{CUT_OFF}; only if it is whole, end line {line} with CR LF"
+            ))
         })
     }
 

@@ -31,6 +31,7 @@ mod line_form;
 mod misnamed;
 mod near;
 mod not_as_due;
+mod other_type;
 mod output;
 mod page;
 mod progress;

@@ -75,7 +75,7 @@ fn doubted(refused: &Refused, doubt: &Looked, found: &str) -> Finding {
 /// Where the bookings contradict each other in fuel: which is right is not known, and to write the new booking's fuel
 /// here may leave out the gas test. So the new booking is looked at first, and no mending is given.
 fn other_fuel(refused: &Refused, name: &[u8], value: &[u8]) -> Option<String> {
-    if name != fuels::ENTRY.as_bytes() {
+    if name != fuels::ENTRY.as_bytes() || value.is_empty() {
         return None;
     }
     let (line, new) = filled(refused.case.text(AC2), AC2, fuels::ENTRY)?;

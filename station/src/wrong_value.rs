@@ -127,6 +127,7 @@ impl Wrong<'_> {
             .or_else(|| self.no_such_day())
             .or_else(|| self.no_such_time())
             .or_else(|| self.length())
+            .or_else(|| self.letter())
             .or_else(|| self.behind())
             .or_else(|| self.sign())
             .or_else(|| self.no_digit());
@@ -301,16 +302,29 @@ impl Wrong<'_> {
         Some(self.said(what, &format!("{}: the number has no sign", self.correct())))
     }
 
+    /// A letter that looks like a digit stands where one passes.
+    fn letter(&self) -> Option<Finding> {
+        let mut others = (0..)
+            .zip(self.value)
+            .filter(|(_, byte)| b"OoQDlIiZzSsBb".contains(byte));
+        let (at, byte) = others.find(|(at, _)| self.passes_with_digit(*at))?;
+        Some(self.stands_for_digit(at, *byte))
+    }
+
     /// One byte stands where a digit passes.
     fn no_digit(&self) -> Option<Finding> {
         let mut others = (0..)
             .zip(self.value)
             .filter(|(_, byte)| !byte.is_ascii_digit());
         let (at, byte) = others.find(|(at, _)| self.passes_with_digit(*at))?;
-        let byte = shown::value(&[*byte]);
+        Some(self.stands_for_digit(at, *byte))
+    }
+
+    fn stands_for_digit(&self, at: usize, byte: u8) -> Finding {
+        let byte = shown::value(&[byte]);
         let at = at + 1;
         let what = format!("{byte} stands where a digit must be, as byte {at} of the value");
-        Some(self.said(&what, &self.correct()))
+        self.said(&what, &self.correct())
     }
 
     fn passes_with_digit(&self, at: usize) -> bool {

@@ -19,7 +19,7 @@ const ENDINGS: [&str; 6] = ["AC2", "ACC", "DER", "SOS", "GAS", "ID"];
 const MOST_STEPS: usize = 20;
 
 /// The broken sets that are accepted once the advice is obeyed, besides those that are accepted as they are.
-const MENDED: [&str; 31] = [
+const MENDED: [&str; 30] = [
     "01-lf-only",
     "02-bom",
     "03-trailing-blank",
@@ -35,7 +35,6 @@ const MENDED: [&str; 31] = [
     "28-comment",
     "29-case-name",
     "30-case-heading",
-    "32-no-final-crlf",
     "33-time-colon",
     "34-grip-float",
     "35-deriva-plus",

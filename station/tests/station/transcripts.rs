@@ -244,6 +244,34 @@ fn odd_files() -> PathBuf {
         put(folder.join(format!("several/AA123456.{ending}")), text);
     }
 
+    for ending in ["AC2", "ACC", "SOS", "GAS", "ID"] {
+        let text = sample(&format!("accepted-car/AA123456.{ending}"));
+        put(folder.join(format!("axles/AA123456.{ending}")), text);
+    }
+    let axle = car("DER") + "[DerivaAsse_3]\r\nDeriva=0.10\r\n";
+    put(folder.join("axles/AA123456.DER"), &axle);
+
+    let code = car("DER").replace("CodErrore=\r\n", "");
+    put(folder.join("lacking/code.DER"), &code);
+    put(
+        folder.join("lacking/code-and-note.DER"),
+        code.replace("Note=\r\n", ""),
+    );
+    put(
+        folder.join("lacking/note.DER"),
+        car("DER").replace("Note=\r\n", ""),
+    );
+
+    put(folder.join("cut/last.DER"), car("DER").trim_end());
+    put(
+        folder.join("cut/feeds.DER"),
+        car("DER").trim_end().replace("\r\n", "\n"),
+    );
+    put(
+        folder.join("cut/mark.DER"),
+        car("DER").trim_end().to_string() + "\x1A",
+    );
+
     let values = [
         ("day", "=30062027", "=31041999"),
         ("month", "=30062027", "=01132027"),
@@ -270,6 +298,8 @@ fn odd_files() -> PathBuf {
         ("gas-revs", "=#850", "=123456"),
         ("gas-sign", "=118", "=-118"),
         ("gas-key", "=K0117", "=K011"),
+        ("revs", "=#850", "=#85O"),
+        ("days", "=118", "=1l8"),
     ];
     for (name, old, new) in values {
         let text = car("GAS");
@@ -278,6 +308,23 @@ fn odd_files() -> PathBuf {
             folder.join(format!("values/{name}.GAS")),
             text.replace(old, new),
         );
+    }
+
+    for (name, new) in [("grip-l", "=l2"), ("grip-o", "=7O")] {
+        put(
+            folder.join(format!("values/{name}.SOS")),
+            car("SOS").replace("=72", new),
+        );
+    }
+
+    for (name, ending) in [
+        ("drift.SOS", "DER"),
+        ("suspension.DER", "SOS"),
+        ("old.AC2", "ACC"),
+        ("new.ACC", "AC2"),
+        ("gas.DER", "GAS"),
+    ] {
+        put(folder.join("types").join(name), car(ending));
     }
 
     let answers: [(&str, &[&str]); 4] = [
@@ -300,6 +347,7 @@ fn odd_files() -> PathBuf {
         put(folder.join(format!("answers/{name}.ID")), answer);
     }
     put(folder.join("answers/none.ID"), "");
+    put(folder.join("answers/answer"), b"\x02GAS");
 
     put(folder.join("mend/lf.DER"), "[DerivaAsse_1]\nDeriva=0.40\n");
     put(
