@@ -152,6 +152,28 @@ pub fn goes_with(fuel: &str, word: &str) -> bool {
         })
 }
 
+/// Whether the fuel that passes in the old booking changes with one of these values of the new one, by trial with others
+/// in its place.
+pub fn changes_fuel(values: &Values, name: &str) -> bool {
+    let fuels = |values: &Values| {
+        let day = values.iter().find(|(name, _)| *name == "DataPrimaImm");
+        let years = day.map(|(_, day)| ("AnnoPrimaImm", year(day)));
+        let years: Vec<(&str, &str)> = years.into_iter().collect();
+        let alone = passes(values, None);
+        alone.then(|| fitting(values, "Alimentazione_1", &years))
+    };
+    let others = match name {
+        "DataPrimaImm" => DAYS.map(String::from).to_vec(),
+        name => words_of(name),
+    };
+    let found = fuels(values);
+    others.iter().any(|other| {
+        let values = [&[(name, other.as_str())], values].concat();
+        let changed = fuels(&values);
+        changed.is_some() && changed != found
+    })
+}
+
 fn year(day: &str) -> &str {
     day.get(4..).unwrap_or_default()
 }

@@ -2,10 +2,10 @@
 
 use std::collections::BTreeSet;
 
+use crate::booking_tables;
 use crate::candidates;
 use crate::case::{Refused, AC2};
 use crate::edit::{Action, Edit};
-use crate::file_types::by_number;
 use crate::finding::Finding;
 use crate::fuels;
 use crate::near::nearest;
@@ -24,16 +24,17 @@ pub fn booking(refused: &Refused) -> Option<Finding> {
     if let Some(doubt) = doubtful.iter().find(|looked| looked.has_name(names)) {
         return Some(doubted(refused, doubt, &found));
     }
-    let hangs = names
-        .iter()
-        .filter_map(|name| with_line(refused, AC2, name))
-        .collect::<Vec<_>>();
+    let deciding = deciding(refused, names);
+    let hangs: Vec<String> = deciding.iter().map(Given::words).collect();
     let behind = match hangs.as_slice() {
         [] => String::new(),
         hangs => format!("; this hangs on {}", hangs.join(", ")),
     };
     let passing = passing(refused);
     if passing.is_empty() {
+        if let Some(finding) = no_fuel_fits(&deciding, &found) {
+            return Some(finding);
+        }
         let rule = words::booking_rule(refused.refusal.file, name)?;
         let finding = Finding::cause(format!("{found}, and no value fits here{behind}"));
         return Some(finding.advice(format!("correct what it hangs on: {rule}")));
@@ -57,6 +58,59 @@ pub fn booking(refused: &Refused) -> Option<Finding> {
         mend,
         ..finding.advice(advice)
     })
+}
+
+/// A filled entry of the new booking.
+struct Given<'a> {
+    name: &'static str,
+    line: u32,
+    value: &'a [u8],
+}
+
+impl Given<'_> {
+    /// `AC2 line 8: Alimentazione_1=..`.
+    fn words(&self) -> String {
+        let Given { name, line, value } = self;
+        format!("AC2 line {line}: {name}={}", shown::value(value))
+    }
+}
+
+/// Those of the entries that are filled and decide. Of those that the fuel hangs on, not all do.
+fn deciding<'a>(refused: &Refused<'a>, names: &[&'static str]) -> Vec<Given<'a>> {
+    let given = names.iter().filter_map(|name| {
+        let (line, value) = filled(refused.case.text(AC2), AC2, name)?;
+        Some(Given { name, line, value })
+    });
+    let given: Vec<Given> = given.collect();
+    let texts: Vec<(&str, &str)> = given
+        .iter()
+        .filter_map(|given| Some((given.name, std::str::from_utf8(given.value).ok()?)))
+        .collect();
+    let decides = |given: &Given| {
+        given.name == fuels::ENTRY || booking_tables::changes_fuel(&texts, given.name)
+    };
+    match names.contains(&fuels::ENTRY) {
+        true => given.into_iter().filter(decides).collect(),
+        false => given,
+    }
+}
+
+/// Where two values of the new booking leave no fuel for the old one.
+fn no_fuel_fits(deciding: &[Given], found: &str) -> Option<Finding> {
+    let others = deciding.iter().filter(|given| given.name != fuels::ENTRY);
+    let others: Vec<&Given> = others.collect();
+    let [one, other] = others.as_slice() else {
+        return None;
+    };
+    let cause = format!(
+        "{found}, and no value fits here: {} does not go with {} ({}, {})",
+        shown::value(one.value),
+        shown::value(other.value),
+        one.words(),
+        other.words()
+    );
+    let advice = format!("correct AC2 line {} or {}", one.line, other.line);
+    Some(Finding::cause(cause).advice(advice))
 }
 
 /// What the rule hangs on is itself written otherwise than a word that counts. That is mended first: to write the same
@@ -146,16 +200,6 @@ fn filled<'a>(text: &'a [u8], file: u32, name: &str) -> Option<(u32, &'a [u8])> 
         .iter()
         .filter_map(|section| table::line_of(text, &section.heading, name));
     found.find(|(_, value)| !value.is_empty())
-}
-
-/// A filled entry of a file as `AC2 line 8: Alimentazione_1=..`, from any of its sections.
-pub fn with_line(refused: &Refused, file: u32, name: &str) -> Option<String> {
-    let (line, value) = filled(refused.case.text(file), file, name)?;
-    let ending = by_number(file)?.ending;
-    Some(format!(
-        "{ending} line {line}: {name}={}",
-        shown::value(value)
-    ))
 }
 
 /// Refusal 13.

@@ -41,7 +41,7 @@ const FUEL: (&str, &str, &str) = ("AC2", "=BENZINA\r", "=benzina\r");
 const OLD_WORD: (&str, &str, &str) = ("AC2", "=BENZINA\r", "=BENZINA CAT\r");
 const DIRECTIVE: (&str, &str, &str) = ("AC2", "=98/69/CE", "=");
 
-const SETS: [Made; 23] = [
+const SETS: [Made; 25] = [
     moped("category", &[("AC2", "=L1e", "=L3e")]),
     moped("plate", &[("AC2", "=X2ABCD", "=X2ABCDE")]),
     moped(
@@ -98,6 +98,16 @@ const SETS: [Made; 23] = [
             DIRECTIVE,
         ],
         &["GAS", "ID"],
+    ),
+    car("directive-and-day", &[("AC2", "=98/69/CE", "=RT1902")], &[]),
+    car(
+        "old-directive",
+        &[
+            ("AC2", "=98/69/CE", "=RT1902"),
+            ("AC2", "=15032004", "=15032000"),
+            ("ACC", "=2004", "=2000"),
+        ],
+        &[],
     ),
     car("old-word", &[OLD_WORD, DIRECTIVE], &["GAS", "ID"]),
     car("old-word-directive", &[OLD_WORD], &["GAS", "ID"]),
