@@ -51,20 +51,27 @@ pub fn parse(words: &[OsString]) -> Result<Command, Trouble> {
         return Err(Trouble("no command; see `mctc --help`".to_string()));
     };
     match first.to_str() {
+        Some("help") if !rest.is_empty() => {
+            let [name] = exactly(rest.to_vec(), "one command")?;
+            Ok(Command::Print(grammar(&name)?.help))
+        }
         Some("--help" | "-h" | "help") => Ok(Command::Print(help::PROGRAM)),
         Some("--version" | "-V") => Ok(Command::Print(help::VERSION)),
-        Some("judge") => command(&JUDGE, rest),
-        Some("due") => command(&DUE, rest),
-        Some("explain") => command(&EXPLAIN, rest),
-        Some("rules") => command(&RULES, rest),
-        Some("read") => command(&READ, rest),
-        Some("format") => command(&FORMAT, rest),
-        _ => {
-            let word = shown::name(first);
-            Err(Trouble(format!("no command {word}; see `mctc --help`")))
-        }
+        _ => command(grammar(first)?, rest),
     }
 }
+
+/// The subcommand of this name.
+fn grammar(name: &OsStr) -> Result<&'static Grammar, Trouble> {
+    let mut grammars = GRAMMARS.iter();
+    let grammar = grammars.find(|grammar| name == grammar.name);
+    grammar.ok_or_else(|| {
+        let name = shown::name(name);
+        Trouble(format!("no command {name}; see `mctc --help`"))
+    })
+}
+
+const GRAMMARS: [Grammar; 6] = [JUDGE, DUE, EXPLAIN, RULES, READ, FORMAT];
 
 /// A subcommand: the options that it knows, and what is made of its words.
 struct Grammar {

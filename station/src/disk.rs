@@ -7,7 +7,7 @@ use std::io::{self, ErrorKind, Read};
 use std::os::unix::ffi::OsStrExt;
 use std::path::{Path, PathBuf};
 
-use crate::file_types::split_name;
+use crate::file_types::{by_ending, split_name};
 use crate::near;
 use crate::output::Trouble;
 use crate::shown;
@@ -35,12 +35,16 @@ pub struct SetOnDisk {
     /// The folder has another set whose stem is this one in capitals.
     pub twin: bool,
     files: [Option<FileOnDisk>; 6],
+    /// Names in the folder that have the stem, but none of the six endings.
+    pub others: Vec<OsString>,
 }
 
 /// The names in a folder that have one of the six endings.
 pub struct Folder {
     path: PathBuf,
     names: BTreeMap<Vec<u8>, [Vec<OsString>; 6]>,
+    /// All other names, sorted.
+    others: Vec<OsString>,
 }
 
 impl Folder {
@@ -50,6 +54,7 @@ impl Folder {
             Trouble(format!("{path}: {why}; name the folder of the sets"))
         };
         let mut names: BTreeMap<Vec<u8>, [Vec<OsString>; 6]> = BTreeMap::new();
+        let mut others = Vec::new();
         for entry in fs::read_dir(path).map_err(trouble)? {
             let name = entry.map_err(trouble)?.file_name();
             if let Some((stem, file)) = split_name(name.as_bytes()) {
@@ -57,11 +62,15 @@ impl Folder {
                 if let Some(names) = place(file.number).and_then(|at| files.get_mut(at)) {
                     names.push(name);
                 }
+            } else {
+                others.push(name);
             }
         }
+        others.sort();
         Ok(Folder {
             path: path.to_path_buf(),
             names,
+            others,
         })
     }
 
@@ -77,6 +86,7 @@ impl Folder {
             stem: stem.to_vec(),
             twin: capitals != stem && self.names.contains_key(&capitals),
             files: Default::default(),
+            others: self.others_of(stem),
         };
         if let Some(names) = self.names.get(stem) {
             for (file, names) in set.files.iter_mut().zip(names) {
@@ -84,6 +94,17 @@ impl Folder {
             }
         }
         Ok(set)
+    }
+
+    /// The names that begin with a stem and a point; of an empty stem none.
+    fn others_of(&self, stem: &[u8]) -> Vec<OsString> {
+        let start = [stem, b"."].concat();
+        let from = self
+            .others
+            .partition_point(|name| name.as_bytes() < start.as_slice());
+        let others = self.others.iter().skip(from);
+        let others = others.take_while(|name| name.as_bytes().starts_with(&start));
+        others.filter(|_| !stem.is_empty()).cloned().collect()
     }
 
     /// Reads the files of a stem that the command names. One that no file has is most likely not the one that was meant.
@@ -169,6 +190,25 @@ impl SetOnDisk {
         let there = self.files.iter().flatten();
         let empty = there.filter(|file| file.text.is_empty());
         empty.map(|file| file.name.as_str())
+    }
+
+    /// Of each name with the stem and another ending: that it is not read, and what it may be.
+    pub fn near_names(&self) -> impl Iterator<Item = String> + '_ {
+        self.others.iter().map(|name| {
+            let shown = shown::value(name.as_bytes());
+            let rest = name.as_bytes().get(self.stem.len() + 1..);
+            let mut parts = rest
+                .unwrap_or_default()
+                .split(|byte| !byte.is_ascii_alphanumeric());
+            let ending = parts.next().unwrap_or_default();
+            match by_ending(ending) {
+                Some(file) => format!(
+                    "{shown} is not read, as its name does not end in .{}",
+                    file.ending
+                ),
+                None => format!("{shown} is not read: its ending is none of a set"),
+            }
+        })
     }
 
     /// The stem as it is shown.

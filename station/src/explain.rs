@@ -147,7 +147,9 @@ fn stem(refused: &Refused) -> Finding {
     let cause = match mend {
         Some(_) => format!("the stem `{found}` has small letters"),
         None if stem.len() != STEM => format!("the stem `{found}` has {length}, and not {STEM}"),
-        None => format!("the stem `{found}` has {length}, but not two capitals and six digits"),
+        None => wrong_byte(refused).unwrap_or_else(|| {
+            format!("the stem `{found}` has {length}, but not two capitals and six digits")
+        }),
     };
     let finding = Finding::cause(cause);
     if refused.case.has_twin() {
@@ -157,6 +159,31 @@ fn stem(refused: &Refused) -> Finding {
         ));
     }
     finding.mend_or(mend, words::advice(2))
+}
+
+/// The one byte of a stem with which a capital or a digit in its place passes.
+fn wrong_byte(refused: &Refused) -> Option<String> {
+    let stem = refused.case.stem();
+    let passes = |at: usize, byte: u8| {
+        let mut other = stem.to_vec();
+        *other.get_mut(at)? = byte;
+        let edit = Edit {
+            file: 0,
+            line: 0,
+            action: Action::Rename(other),
+        };
+        refused.tried(edit)
+    };
+    stem.iter().enumerate().find_map(|(at, byte)| {
+        let kinds = [(b'A', "a capital letter"), (b'0', "a digit")];
+        let (_, must) = kinds
+            .into_iter()
+            .find(|(byte, _)| passes(at, *byte).is_some())?;
+        let (found, byte, place) = (stem_shown(stem), shown::value(&[*byte]), at + 1);
+        Some(format!(
+            "the stem `{found}` has {byte} as byte {place}, where {must} must be"
+        ))
+    })
 }
 
 impl Explained {

@@ -39,8 +39,11 @@ pub fn split_name(name: &[u8]) -> Option<(&[u8], &'static FileType)> {
     let point = name.iter().rposition(|byte| *byte == b'.')?;
     let (stem, rest) = name.split_at(point);
     let ending = rest.get(1..)?;
-    let file = FILE_TYPES
-        .iter()
-        .find(|file| ending.eq_ignore_ascii_case(file.ending.as_bytes()))?;
-    Some((stem, file))
+    Some((stem, by_ending(ending)?))
+}
+
+/// The type with this ending, in capitals or small letters.
+pub fn by_ending(ending: &[u8]) -> Option<&'static FileType> {
+    let mut files = FILE_TYPES.iter();
+    files.find(|file| ending.eq_ignore_ascii_case(file.ending.as_bytes()))
 }

@@ -1,7 +1,7 @@
 //! `mctc judge --all`: what else can be said beside the verdict, which stays the library's one refusal.
 //!
 //! By the order of judging (01, Judging) the rest of a set is not judged once it is refused. What holds all the same:
-//! each file read alone (3 to 9), and where that file and the new booking pass, its due column (10).
+//! each file read alone (3 to 9, 14), and where that file and the new booking pass, its due column (10).
 
 use mctc::{Due, Places, Refusal};
 
@@ -56,12 +56,9 @@ fn booking_stands(set: &SetOnDisk, verdict: Refusal) -> bool {
     verdict.file > AC2 && alone(set, AC2).is_empty() && not_as_due(set, AC2).is_empty()
 }
 
-/// The refusals of a file read alone: 3 to 8 ends the reading, and each value of the wrong kind is taken out to find
+/// The refusals of a file read alone: 3 to 8, and 14, end the reading, and each value of the wrong kind is taken out to find
 /// the next.
 fn alone(set: &SetOnDisk, number: u32) -> Vec<Explained> {
-    if has_no_entries(number) {
-        return Vec::new();
-    }
     let mut text = set.text(number).to_vec();
     let mut findings = Vec::new();
     // A file has fewer entries than lines, and each is taken out once.
@@ -78,11 +75,6 @@ fn alone(set: &SetOnDisk, number: u32) -> Vec<Explained> {
         text = emptied;
     }
     findings
-}
-
-/// The identification answer cannot be read alone.
-fn has_no_entries(number: u32) -> bool {
-    mctc::heading_name(number, 0).is_err()
 }
 
 /// The entries of a file that are filled but not due, or due but empty.

@@ -19,7 +19,7 @@ mctc: judges MCTCNet2 test sets with the proved library
                                     one file written in table order
   mctc format --mend FILE [--output NEW]
                                     one file with its line ends mended
-  mctc COMMAND --help               more about a command
+  mctc help COMMAND                 more about a command
   mctc --version
 
 A set is the files of a folder that have one stem, such as AB123456:
@@ -52,7 +52,8 @@ gas_mark, empty, notes; or stem and error where a file cannot be read.
 
 An accepted set may have notes: values that are near a word that counts, as
 `benzina` is near `BENZINA`, and by which something would be due; and drift and
-suspension with different counts of axles.
+suspension with different counts of axles. Any set may have notes of files in
+the folder that have its stem, but none of the six endings: they are not read.
 
 mend is what to_do asks for, where that can be done without knowing more, or
 null. It was tried: with it, the judge accepts, refuses at a later place, or
@@ -67,14 +68,15 @@ line, action and text:
   rename     all files of the set have this stem
 
 With --all also what else can be said beside the verdict, which stays as it is:
-each file read alone (3 to 9), and the entries that are not as due (10) of files
-that pass, where the new booking passes. With --json a member further: an array
-of objects with number, file, line, name, meaning, text, remark, to_do, cause,
-expected, mend.
+each file read alone (3 to 9, 14), and the entries that are not as due (10) of
+files that pass, where the new booking passes. With --json a member further: an
+array of objects with number, file, line, name, meaning, text, remark, to_do,
+cause, expected, mend.
 
-Without STEM: a line for each set, then how many were accepted, refused and not
-judged. With --json one object: folder, sets (an array of the objects above),
-accepted, refused, not_judged; or folder and error.
+Without STEM: a line for each set, with --all also one for each further finding,
+then how many were accepted, refused and not judged. With --json one object:
+folder, sets (an array of the objects above), accepted, refused, not_judged; or
+folder and error.
 
 Exit status: 0 all accepted; 1 one is refused; 2 bad usage, no set in the
 folder, no file of that stem, or a file cannot be read.

@@ -65,9 +65,9 @@ pub struct Judged {
     verdict: Result<Acceptance, Explained>,
     /// Beside the verdict, where they are asked for.
     further: Option<Vec<Explained>>,
-    /// Beside an acceptance: values by which nothing is due, but which may be meant otherwise, and axles that a file
-    /// lacks.
-    doubts: Vec<String>,
+    /// Beside the verdict: files that are near in name. Beside an acceptance also values by which nothing is due, but
+    /// which may be meant otherwise, and axles that a file lacks.
+    noted: Vec<String>,
 }
 
 impl Judged {
@@ -82,19 +82,20 @@ impl Judged {
             Ok(_) => Vec::new(),
             Err(explained) => further(&set, explained.refusal),
         });
-        let doubts = match &verdict {
+        let mut noted: Vec<String> = match &verdict {
             Ok(acceptance) => {
                 let axles = other_axles(&set, acceptance);
                 doubts(&Case::set(&set)).into_iter().chain(axles).collect()
             }
             Err(_) => Vec::new(),
         };
+        noted.extend(set.near_names());
         Judged {
             set,
             places,
             verdict,
             further,
-            doubts,
+            noted,
         }
     }
 
@@ -110,8 +111,8 @@ impl Judged {
         match &self.verdict {
             Ok(acceptance) => {
                 let files = self.accepted_files(acceptance);
-                let doubts = self.doubts.iter().map(|doubt| labelled("note", doubt));
-                format!("{stem}: accepted\n{files}{}", doubts.collect::<String>())
+                let notes = self.noted.iter().map(|note| labelled("note", note));
+                format!("{stem}: accepted\n{files}{}", notes.collect::<String>())
             }
             Err(explained) => {
                 let (number, page) = (explained.refusal.number, explained.page());
@@ -131,7 +132,9 @@ impl Judged {
     fn further_page(&self) -> String {
         match &self.further {
             None => String::new(),
-            Some(findings) if findings.is_empty() => labelled("further", "nothing more was found"),
+            Some(findings) if findings.is_empty() => {
+                labelled("further", "nothing more can be said before this is mended")
+            }
             Some(findings) => findings.iter().map(Explained::further_lines).collect(),
         }
     }
@@ -147,7 +150,8 @@ impl Judged {
 
     /// What is to be noted beside a refusal, which speaks of its own file.
     fn notes(&self, explained: &Explained) -> String {
-        let mut notes = String::new();
+        let noted = self.noted.iter().map(|note| labelled("note", note));
+        let mut notes: String = noted.collect();
         for name in self.set.empty_files() {
             if explained.name.as_deref() != Some(name) {
                 notes += &labelled("note", &counts_as_not_given(name));
@@ -173,21 +177,21 @@ impl Judged {
     pub fn in_short(&self) -> String {
         let verdict = match &self.verdict {
             Ok(acceptance) => {
-                let doubts = self.doubts.iter().map(|doubt| format!("  (note: {doubt})"));
-                let doubts: String = doubts.collect();
-                format!("accepted{}{doubts}", marks_in_short(acceptance))
+                format!("accepted{}", marks_in_short(acceptance))
             }
             Err(explained) => {
                 let number = explained.refusal.number;
                 format!("refused {number:2}  {}", explained.in_short())
             }
         };
+        let notes = self.noted.iter().map(|note| format!("  (note: {note})"));
+        let notes: String = notes.collect();
         let empty: Vec<&str> = self.set.empty_files().collect();
-        let note = match empty.as_slice() {
+        let empty = match empty.as_slice() {
             [] => String::new(),
             names => format!("  (empty, so not given: {})", names.join(", ")),
         };
-        verdict + &note
+        verdict + &notes + &empty
     }
 
     fn accepted_files(&self, acceptance: &Acceptance) -> String {
@@ -239,7 +243,7 @@ impl Judged {
             .truth("suspension_mark", acceptance.suspension_mark)
             .truth("gas_mark", acceptance.gas_mark)
             .strings("empty", self.set.empty_files())
-            .strings("notes", self.doubts.iter().map(String::as_str));
+            .strings("notes", self.noted.iter().map(String::as_str));
         let object = match &self.further {
             None => object,
             Some(findings) => object.objects(

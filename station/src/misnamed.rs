@@ -88,11 +88,17 @@ fn repeated(refused: &Refused, first: u32) -> Finding {
     let name = refused
         .entry()
         .map_or(String::new(), |(name, _)| shown::value(name));
-    let cause = if same {
-        format!("{name} stands at line {first} already, with the same value")
-    } else {
-        format!("{name} stands at line {first} already, with another value")
+    let is_empty = |line: u32| {
+        let entry = at(line).and_then(shown::entry);
+        entry.is_some_and(|(_, value)| value.is_empty())
     };
+    let how = match () {
+        () if same => "with the same value",
+        () if is_empty(line) => "and here with nothing behind it",
+        () if is_empty(first) => "with nothing behind it",
+        () => "with another value",
+    };
+    let cause = format!("{name} stands at line {first} already, {how}");
     let mend = refused.tried(refused.edit(Action::Delete)).filter(|_| same);
     Finding::cause(cause)
         .meaning("the entry stands here again")

@@ -38,7 +38,7 @@ struct Slip {
     mended: fn(&[u8]) -> Option<Vec<u8>>,
 }
 
-const SLIPS: [Slip; 10] = [
+const SLIPS: [Slip; 9] = [
     Slip {
         what: "a space stands at its start or end",
         mended: |value| Some(value.trim_ascii().to_vec()),
@@ -77,13 +77,6 @@ const SLIPS: [Slip; 10] = [
     Slip {
         what: "it has too few digits behind the point",
         mended: |value| point(value).map(|_| [value, b"0"].concat()),
-    },
-    Slip {
-        what: "it has no digits behind a point",
-        mended: |value| match point(value) {
-            None => Some([value, b".00"].concat()),
-            Some(_) => None,
-        },
     },
 ];
 
@@ -127,6 +120,7 @@ impl Wrong<'_> {
             .or_else(|| self.no_such_day())
             .or_else(|| self.no_such_time())
             .or_else(|| self.length())
+            .or_else(|| self.no_point())
             .or_else(|| self.letter())
             .or_else(|| self.behind())
             .or_else(|| self.sign())
@@ -222,6 +216,8 @@ impl Wrong<'_> {
         let what = if self.passes(&[b"01", month, year].concat()) {
             let [day, month, year] = [day, month, year].map(shown::bytes);
             format!("month {month} of {year} has no day {day}")
+        } else if month == b"00" && self.passes(&[b"0000", year].concat()) {
+            "month 00 stands only with day 00".to_string()
         } else if self.passes(&[b"0101", year].concat()) {
             format!("there is no month {}", shown::bytes(month))
         } else {
@@ -300,6 +296,17 @@ impl Wrong<'_> {
         self.passing(self.value.strip_prefix(b"-")?)?;
         let what = "a `-` stands before a number that has no sign";
         Some(self.said(what, &format!("{}: the number has no sign", self.correct())))
+    }
+
+    /// A number without a point, which passes with one and some zeros. Where the point was meant is not known.
+    fn no_point(&self) -> Option<Finding> {
+        let zeros = [&b".0"[..], b".00", b".000"];
+        let whole = point(self.value).is_none();
+        let passes = zeros
+            .iter()
+            .any(|zeros| self.passes(&[self.value, zeros].concat()));
+        (whole && passes)
+            .then(|| self.said("it has no point, and no digits behind one", &self.correct()))
     }
 
     /// A letter that looks like a digit stands where one passes.

@@ -243,6 +243,7 @@ fn odd_files() -> PathBuf {
     for (ending, text) in several {
         put(folder.join(format!("several/AA123456.{ending}")), text);
     }
+    put(folder.join("several/AA123456.ID"), b"\x02GAS");
 
     for ending in ["AC2", "ACC", "SOS", "GAS", "ID"] {
         let text = sample(&format!("accepted-car/AA123456.{ending}"));
@@ -250,6 +251,15 @@ fn odd_files() -> PathBuf {
     }
     let axle = car("DER") + "[DerivaAsse_3]\r\nDeriva=0.10\r\n";
     put(folder.join("axles/AA123456.DER"), &axle);
+
+    for ending in ["AC2", "ACC", "DER", "SOS"] {
+        let text = sample(&format!("accepted-car/AA123456.{ending}"));
+        put(folder.join(format!("names/AA123456.{ending}")), text);
+    }
+    put(folder.join("names/AA123456.GAS.txt"), car("GAS"));
+    put(folder.join("names/AA123456.der "), car("DER"));
+    put(folder.join("names/AA123456.pdf"), "%PDF");
+    put(folder.join("names/AA1234567.GAS.txt"), car("GAS"));
 
     let code = car("DER").replace("CodErrore=\r\n", "");
     put(folder.join("lacking/code.DER"), &code);
@@ -283,6 +293,7 @@ fn odd_files() -> PathBuf {
         ("letter", "=0.40", "=O.40"),
         ("words", "=0.40", "=none"),
         ("link", "=RETE", "=SERIALE"),
+        ("whole", "=0.40", "=40"),
     ];
     for (name, old, new) in values {
         let text = car("DER");
@@ -309,6 +320,21 @@ fn odd_files() -> PathBuf {
             text.replace(old, new),
         );
     }
+
+    let month = car("AC2").replace("=15032004", "=15002004");
+    put(folder.join("values/month.AC2"), month);
+    for stem in ["AA12345O", "A1123456", "AB12-4-6"] {
+        put(folder.join(format!("stems/{stem}.AC2")), &ac2);
+    }
+    let twice = |new: &str| car("DER").replace("Tipo=PD 4000\r\n", new);
+    put(
+        folder.join("twice-in-file/second.DER"),
+        twice("Tipo=PD 4000\r\nTipo=\r\n"),
+    );
+    put(
+        folder.join("twice-in-file/first.DER"),
+        twice("Tipo=\r\nTipo=PD 4000\r\n"),
+    );
 
     for (name, new) in [("grip-l", "=l2"), ("grip-o", "=7O")] {
         put(
