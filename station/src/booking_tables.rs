@@ -224,3 +224,32 @@ pub fn brakes() -> Vec<[String; 2]> {
     });
     rows.collect()
 }
+
+#[cfg(test)]
+mod tests {
+    use super::passes;
+
+    /// A day that is not known counts as 00, before all days of its month.
+    #[test]
+    fn days_are_compared_with_their_zeros() {
+        for (day, fuel) in [
+            ("00101986", "BENZINA<86"),
+            ("00001986", "BENZINA<86"),
+            ("01101986", "BENZINA NO CAT"),
+        ] {
+            let ac2 = [
+                ("Alimentazione_1", "BENZINA"),
+                ("DirettivaEmissioniGasBenzinaAuto", "RT1902"),
+                ("DataPrimaImm", day),
+            ];
+            let acc = |fuel| [("Alimentazione_1", fuel), ("AnnoPrimaImm", "1986")];
+            for other in ["BENZINA<86", "BENZINA NO CAT"] {
+                assert_eq!(
+                    passes(&ac2, Some(&acc(other))),
+                    other == fuel,
+                    "{day} {other}"
+                );
+            }
+        }
+    }
+}

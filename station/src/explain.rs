@@ -96,7 +96,7 @@ pub fn explain(case: Case, refusal: Refusal, subject: Option<Subject>) -> Explai
         meaning: or(finding.meaning, words::meaning(number)),
         cause: finding.cause,
         expected: finding.expected,
-        advice: or(finding.advice, words::advice(number)),
+        advice: or(finding.advice, &words::advice(number)),
         mend: finding.mend,
         line: shown::line(text, refusal.line),
         name: subject.map(|subject| subject.name),

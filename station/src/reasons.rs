@@ -364,6 +364,15 @@ impl<'a> Why<'a> {
 
 /// Values of a set that decide something and may be meant as a word that counts, but are not that word.
 pub fn doubtful<'a>(case: &Case<'a>) -> Vec<Looked<'a>> {
+    let reasons = all();
+    let looked = reasons.iter().filter_map(|reason| Looked::at(case, reason));
+    looked
+        .filter(|looked| !looked.holds() && looked.supposed().is_some())
+        .collect()
+}
+
+/// The reasons of all conditions, each once.
+fn all() -> Vec<Reason> {
     let conditions = FILE_TYPES.iter().flat_map(|file| {
         let file = file.number;
         let entries = (0..).map_while(move |entry| mctc::condition(file, entry).ok());
@@ -375,22 +384,28 @@ pub fn doubtful<'a>(case: &Case<'a>) -> Vec<Looked<'a>> {
             reasons.push(reason);
         }
     }
-    let looked = reasons.iter().filter_map(|reason| Looked::at(case, reason));
-    looked
-        .filter(|looked| !looked.holds() && looked.supposed().is_some())
-        .collect()
+    reasons
 }
 
 #[cfg(test)]
 mod tests {
-    use super::WORDS;
+    use super::{all, is_word_list, Counts, WORDS};
 
-    /// Each word passes a test, and a test that looks at no word list has a word.
+    /// Each word passes the test of a reason that looks at no word list, and each reason has what counts.
     #[test]
     fn words_count() {
+        let reasons = all();
         for word in WORDS {
-            let passes = |test: &mctc::Test| test.passes(word.as_bytes());
-            assert!(mctc::TESTS.iter().any(passes), "{word}");
+            let mut others = reasons.iter().filter(|reason| !is_word_list(reason));
+            let counts = others.any(|reason| reason.test.passes(word.as_bytes()));
+            assert!(counts, "{word}");
+        }
+        for reason in reasons {
+            let has_words = match Counts::of(&reason) {
+                Counts::These(words) | Counts::AllBut(words) => !words.is_empty(),
+                Counts::Plate | Counts::Stem => true,
+            };
+            assert!(has_words, "{reason:?}");
         }
     }
 }

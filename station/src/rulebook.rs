@@ -13,8 +13,9 @@ use crate::words;
 const TOP: &str = "\
 # The rules of a set
 
-Printed by `mctc rules`: kinds, words and conditions are those of the library that judges. `mctc explain NUMBER` and
-`mctc explain ENTRY` say the same of one refusal or one entry. No line here is edited by hand.
+Printed by `mctc rules`: kinds, words and conditions are those of the library that judges; what else stands here is the
+program's text. `mctc explain NUMBER` and `mctc explain ENTRY` say the same of one refusal or one entry. No line here is
+edited by hand.
 
 A set is the files of a folder that have one stem, of two capital letters and six digits, such as AB123456.
 ";
@@ -28,6 +29,10 @@ const LINES: &str = "
 - The sections of a file stand in any order, once each. Axles count from 1 without a gap, 1 to 9 of them.
 - In a section every entry stands once, in any order. One that is not due stands there too, with nothing behind `=`.
 - Names, headings and words are compared byte for byte, capitals included.
+";
+
+const DAYS: &str = "
+Days are compared as yyyymmdd, zeros included: `00101986`, of which the day is not known, is before 01/10/1986.
 ";
 
 const ANSWER: &str = "
@@ -46,7 +51,8 @@ const ORDER: &str = "
 
 The stem (2), then files 1 to 6. For each file: given or not (11), its length (3), the first line with 4, 5 or 6, absent
 sections (7) and entries (8), all kinds (9), all that is filled or empty (10), then the rules (12 or 13). For the
-identification answer: 11, 14, 15. The first refusal in this order is the verdict. An old booking is not read with category L.
+identification answer: 11, 14, 15. The first refusal in this order is the verdict. An old booking is not read with
+category L, even if it is too long.
 ";
 
 const REFUSALS: &str = "
@@ -127,7 +133,7 @@ fn rules() -> String {
 
 /// What the library lets pass in bookings that were made up for this.
 fn bookings() -> String {
-    let mut text = "\nWhat passes, by trial with the library:\n".to_string();
+    let mut text = DAYS.to_string() + "\nWhat passes, by trial with the library:\n";
     text += &table(
         &[
             "CategoriaInternazionale",
@@ -186,13 +192,8 @@ fn fields() -> String {
 
 fn refusals() -> String {
     let rows = (1..=words::LAST).map(|number| {
-        let words = [
-            words::meaning(number),
-            words::place(number),
-            words::advice(number),
-        ];
-        let [meaning, place, advice] = words;
-        row(&[&number.to_string(), meaning, place, advice])
+        let (meaning, place) = (words::meaning(number), words::place(number));
+        row(&[&number.to_string(), meaning, place, &words::advice(number)])
     });
     rows.collect()
 }

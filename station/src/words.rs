@@ -1,6 +1,7 @@
 //! What each refusal means and what to do, in plain words.
 
 use crate::file_types::{by_number, FILE_TYPES};
+use crate::identification;
 use crate::page::labelled;
 use crate::reasons;
 
@@ -13,7 +14,7 @@ pub fn page(number: u32) -> String {
     page += &labelled("meaning", meaning(number));
     page += &labelled("where", place(number));
     page += &labelled("comes", calls(number));
-    page += &labelled("to do", advice(number));
+    page += &labelled("to do", &advice(number));
     let rules = match number {
         11 => FILE_TYPES
             .iter()
@@ -88,7 +89,22 @@ pub fn meaning(number: u32) -> &'static str {
 }
 
 /// What to do about a refusal, by its number.
-pub fn advice(number: u32) -> &'static str {
+pub fn advice(number: u32) -> String {
+    match number {
+        15 => {
+            let fields = identification::fields().into_iter();
+            let shared = fields.filter(|field| field.entry.is_some());
+            let names: Vec<String> = shared.map(|field| field.name).collect();
+            format!(
+                "compare the last seven fields with gas: {}",
+                names.join(", ")
+            )
+        }
+        other => fixed_advice(other).to_string(),
+    }
+}
+
+fn fixed_advice(number: u32) -> &'static str {
     match number {
         2 => "give all files of the set one name of two capital letters and six digits, such as AB123456",
         1 => "lend the library at least 278 numbers",
@@ -112,8 +128,6 @@ pub fn advice(number: u32) -> &'static str {
         13 => "correct Aderenza%Sx, Aderenza%Dx or Differenza% of this axle",
         14 => "have the analyser's answer recorded again: 02 hex, ten fields separated by 17 hex (GAS, address, ID and \
                seven values), the checksum as two capital hexadecimal digits, 03 hex; at most 512 bytes",
-        15 => "compare the last seven fields with gas: MarcaAnalizzatore, TipoAnalizzatore, NumOmologaAnalizzatore, \
-               NumSerieAnalizzatore, DataScadenzaAnalizzatore, NumVersSoftwareAnalizzatore, NumVersioneProtocollo",
         16 => "name the file's number: 1 new booking, 2 old booking, 3 drift, 4 suspension, 5 gas",
         17 => "lend the places that reading this text gave",
         18 => "lend an output as long as the text that was read",
