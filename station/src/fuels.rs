@@ -1,4 +1,4 @@
-//! The fuels by which something is due, and how else they are written: in the old booking, with more behind them, short.
+//! The fuels by which something is due, and how else they are written: as in the old booking, with more, or short.
 
 use crate::booking_tables;
 use crate::candidates;

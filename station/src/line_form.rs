@@ -12,7 +12,7 @@ use crate::words;
 const LONGEST: usize = 512;
 
 /// Of a file whose last line has no end: what it had behind that is not known.
-const CUT_OFF: &str = "the file may be cut off: compare it with the device's, or fetch it again";
+const COMPARE: &str = "compare it with the device's, or fetch it again; only if it is whole,";
 
 const FORM: &str = "a line is a heading in [ ], or name=value";
 
@@ -116,7 +116,7 @@ impl<'a> Line<'a> {
         let advice = "save the file with CR LF line ends";
         let advice = match ends.none {
             0 => advice.to_string(),
-            _ => format!("{CUT_OFF}; only if it is whole, {advice}"),
+            _ => format!("the file may be cut off at its end: {COMPARE} {advice}"),
         };
         Some(with_program(&cause, &advice, self.line_ends()))
     }
@@ -176,7 +176,7 @@ impl<'a> Line<'a> {
             let line = self.refused.refusal.line;
             let cause = format!("the file ends in line {line} without CR LF");
             Finding::cause(cause).advice(format!(
-                "{CUT_OFF}; only if it is whole, end line {line} with CR LF"
+                "the file may be cut off here: {COMPARE} end line {line} with CR LF"
             ))
         })
     }

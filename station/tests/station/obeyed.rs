@@ -381,7 +381,7 @@ fn no_petrol_vehicle_goes_without_gas() {
         let (accepted, steps) = obeyed(&folder, stem.clone().into());
         let answer = run(&folder, &["judge", ".", &stem, "--json"]).stdout;
         let answer = String::from_utf8(answer).expect("JSON is UTF-8");
-        let noted = !answer.contains("\"notes\":[]");
+        let noted = answer.contains("has Alimentazione_1=");
         assert!(
             !accepted
                 || has_gas(&folder)
