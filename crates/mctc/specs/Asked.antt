@@ -11,7 +11,7 @@ use Rattle.serial.specs.declared.IdentificationRead.{IdentificationRead}
 use Rattle.serial.specs.declared.IdentificationRead.the-variants.{Malformed, Fields}
 use Rattle.reasons.specs.Tests.{isTest, testOf, passesSome}
 use Rattle.reasons.specs.Asked.{entryAsked, entryReasons, fileAsked, fileReasons, isOfSeven, fieldEntry}
-use Rattle.refusals.specs.Answer.{refusal, acceptance}
+use Rattle.refusals.specs.Answer.{Answer, refusal, acceptance}
 use Rattle.mctc.specs.Answers.{numbersOf, markNumber}
 
 -- these numbers, carried by an acceptance
@@ -36,18 +36,18 @@ fileNumbers file = askedNumbers file (fileAsked file) (fileReasons file)
 abbrev pub testNumbers : ℕ → List ℕ → List ℕ
 testNumbers test v = cond (isTest test) (accepted (markNumber (passesSome (testOf test) v) ∷ [])) (noSuch 0)
 
--- where each of the ten fields of the identification answer ends
-abbrev pub endNumbers : FieldEnds → List ℕ
-endNumbers e =
-    accepted
-    (e .gas ∷ e .address ∷ e .id ∷ e .mar ∷ e .model ∷ e .numom ∷ e .numser ∷ e .datasca ∷ e .numver ∷ e .vermctcnet ∷ [])
+-- the identification answer read: where its ten fields end; 14 where it is not of the form
+abbrev pub fieldsOf : IdentificationRead → Answer FieldEnds
+fieldsOf Malformed = refusal 14 identificationNumber 0
+fieldsOf (Fields e) = acceptance e
 
--- 14 where it is not of the form
 abbrev pub fieldNumbers : IdentificationRead → List ℕ
-fieldNumbers Malformed = numbersOf endNumbers (refusal 14 identificationNumber 0)
-fieldNumbers (Fields e) = endNumbers e
+fieldNumbers x =
+    numbersOf
+    (λ e. e .gas ∷ e .address ∷ e .id ∷ e .mar ∷ e .model ∷ e .numom ∷ e .numser ∷ e .datasca ∷ e .numver ∷ e .vermctcnet ∷ [])
+    (fieldsOf x)
 
--- they are places of at most 512 bytes
+-- the ends are places of at most 512 bytes
 abbrev pub EndsFit : IdentificationRead → Type 0
 EndsFit Malformed = Unit {0}
 EndsFit (Fields e) = Ordered 512 e

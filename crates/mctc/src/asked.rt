@@ -3,8 +3,9 @@
 ghost use Prim.Native.Nat.{_≤_};
 ghost use lib.ListN.{length};
 ghost use Rattle.serial.specs.Reading.{Ordered};
+ghost use Rattle.serial.specs.declared.IdentificationRead.{IdentificationRead};
 ghost use Rattle.mctc.specs.Answers.{answerSize, Filled};
-ghost use Rattle.mctc.specs.Asked.{noSuch, askedNumbers, conditionNumbers, fileNumbers, testNumbers, endNumbers, fieldNumbers, EndsFit, identificationNumbers, entryNumbers};
+ghost use Rattle.mctc.specs.Asked.{noSuch, askedNumbers, conditionNumbers, fileNumbers, testNumbers, fieldNumbers, EndsFit, identificationNumbers, entryNumbers};
 ghost use Rattle.mctc.specs.Calls.{AskCall};
 use refusals::Refusal;
 use refusals::RefusalKind;
@@ -99,7 +100,7 @@ pub extern "C" fn mctc_test(test: u32, value: &[u8], answer: &mut [u32]) -> u32
 // Where each of the ten fields ends.
 fn fill_ends(answer: &mut [u32], e: FieldEnds) -> u32
     requires { ⌜ (answerSize ≤ length (now answer)) × Ordered 512 e ⌝ }
-    ensures { λ r. ⌜ Filled (endNumbers e) (now (answer .entry)) (now (answer .exit)) r ⌝ }
+    ensures { λ r. ⌜ Filled (fieldNumbers (IdentificationRead.Fields e)) (now (answer .entry)) (now (answer .exit)) r ⌝ }
 {
     let gas = e.gas as u32;
     let address = e.address as u32;

@@ -1,13 +1,13 @@
 -- Names by their rows, and where a section's entries stand in their group: one law for every group. Assumes nothing.
 use Prim.Native.Nat.{ℕ, zero, suc, _+_, _-_, _≤_, _<_}
 use native.Mathlib.Omega.{arith}
-use native.Mathlib.Nat.{le-of-suc-le-suc}
 use mathlib.Core.Path.{_≡_, refl, ap, sym, _∙_}
 use mathlib.Core.List.{List, [], _∷_, map}
 use lib.Dec.{ltb}
 use lib.ListN.{length, getD, take, drop, replicate, length-append, length-map, List·getD-map}
 use lib.Seq.{take-at, getD-take, getD-drop}
 use borrow.Author.Tests.{ltb-true, ltb-false}
+use Rattle.kinds.proofs.ByKind.{map-at}
 use Rattle.kinds.proofs.Laws.{by-test}
 use Rattle.tables.specs.Section.{Entry, Section}
 use Rattle.tables.specs.Entries.{
@@ -65,12 +65,6 @@ module _ {A B : Type 0} (f : A → B) where
 
 -- ---- names in lent rows
 
--- within a list it does not matter what stands past its end
-map-at : (f : List ℕ → List ℕ) (l : List (List ℕ)) (k : ℕ) → k < length l → getD (map f l) k [] ≡ f (getD l k [])
-map-at f [] k h = absurd (omega arith)
-map-at f (x ∷ l) zero h = refl
-map-at f (x ∷ l) (suc k) h = map-at f l k (le-of-suc-le-suc h)
-
 module _ {ns : List (List ℕ)} {rows : List (List ℕ)} {lengths tags : List ℕ} (l : Lent ns rows lengths tags) where
   pub tags-many : length tags ≡ length ns
   tags-many = ap length (l .tags-are) ∙ length-map ns tagOf
@@ -89,7 +83,7 @@ module _ {ns : List (List ℕ)} {rows : List (List ℕ)} {lengths tags : List �
   length-at k = ap (λ (ks : List ℕ). getD ks k 0) (l .lengths-are) ∙ List·getD-map length ns k []
 
   row-at : (k : ℕ) → k < length ns → getD rows k [] ≡ inRow (getD ns k [])
-  row-at k h = ap (λ (rs : List (List ℕ)). getD rs k []) (l .rows-are) ∙ map-at inRow ns k h
+  row-at k h = ap (λ (rs : List (List ℕ)). getD rs k []) (l .rows-are) ∙ map-at inRow ns k [] [] h
 
   pub in-row : (k : ℕ) → k < length ns → InRow rows lengths k
   unfolding inRow
