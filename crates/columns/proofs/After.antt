@@ -19,9 +19,9 @@ use Rattle.files.specs.declared.FileAnswer.the-variants as FileAnswer
 use Rattle.files.proofs.Pairs.{same-file, AloneRead, refused-inv, short-inv, alone-length, alone-pairs, alone-cleared}
 use Rattle.due.specs.Booking.{bookingIn}
 use Rattle.due.specs.declared.Booking.{Booking}
-use Rattle.tables.specs.Value.{pairsOf}
-use Rattle.due.specs.Values.{newValues, Held}
-use Rattle.due.proofs.Pairs.{new-count}
+use Rattle.tables.specs.Value.{pairsOf, Held}
+use Rattle.due.specs.Values.{newValues}
+use Rattle.tables.proofs.Values.{new-count}
 use Rattle.columns.specs.Column.{FileColumn, columnBeside, fitting, dueColumn, placesOf, Gives}
 use Rattle.columns.specs.declared.ColumnAnswer.{ColumnAnswer}
 use Rattle.columns.specs.declared.ColumnAnswer.the-variants.{Refused}

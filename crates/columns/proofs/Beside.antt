@@ -23,14 +23,14 @@ use Rattle.files.specs.declared.FileAnswer.{FileAnswer}
 use Rattle.files.specs.declared.FileAnswer.the-variants as FileAnswer
 use Rattle.files.proofs.Pairs.{AloneRead, rooms-fit, refused-inv, by-alone, alone-few, alone-sections, alone-length, alone-pairs, alone-cleared}
 use Rattle.due.specs.Booking.{bookingIn}
-use Rattle.due.specs.Values.{NumberHeld}
+use Rattle.tables.specs.Value.{NumberHeld}
 use Rattle.due.specs.Conditions.{linksNumbered, withLinks, conditionsOf}
 use Rattle.due.specs.Due.{dueOf, dueIn}
 use Rattle.due.specs.declared.Booking.{Booking}
 use Rattle.due.specs.declared.Conditions.{Conditions}
 use Rattle.due.proofs.Entries.{due-file, conditions-file}
 use Rattle.rules.specs.Slices.{isRead}
-use Rattle.due.proofs.Pairs.{held-number, fixed-held}
+use Rattle.tables.proofs.Values.{held-number, fixed-held}
 use Rattle.columns.specs.Column.{numbersFrom, columnOf, FileColumn, noColumn, columnRead, columnOfText, columnBeside, fitting, Gives}
 use Rattle.columns.specs.declared.ColumnAnswer.{ColumnAnswer}
 use Rattle.columns.specs.declared.ColumnAnswer.the-variants.{Column, Refused}

@@ -1,4 +1,3 @@
-pub mod Pairs
 pub mod Entries
 pub mod Categories
 pub mod Values

@@ -16,7 +16,7 @@ use Rattle.places.specs.Places.{Pair, setPairs, pairsAt, valuesAt, cleared, Wit
 use Rattle.places.proofs.Laws.{set-length, pairs-set, drop-pairs, cleared-length, cleared-drop}
 use Rattle.tables.specs.Section.{Section}
 use Rattle.tables.specs.File.{File, ac2, acc, drift, suspension, gas, fileNumber, fileOf, isFile, ofNumber, hasAxles, fixedSections, sections, allSections, leastSections, entries, room, firstPair, leastPlaces, tableOf, mostAxles}
-use Rattle.tables.proofs.Files.{of-file, table-of, file-of, is-file}
+use Rattle.tables.proofs.Files.{of-file, of-number, table-of, file-of, is-file}
 use Rattle.tables.proofs.Numbers.{room-in}
 use Rattle.tables.proofs.Axles.{entries-most}
 use Rattle.reading.specs.Reading.{Reading, refused, read}
@@ -31,10 +31,6 @@ use Rattle.files.specs.declared.FileAnswer.{FileAnswer}
 use Rattle.files.specs.declared.FileAnswer.the-variants.{Accepted, Refused}
 use Rattle.files.proofs.Theorem.{by-inv, FileRead, read-sound, read-complete}
 use Rattle.files.proofs.Alone.{fixed-least, few-sections}
-
--- what is said of a file's number is said of the file
-by-number : {A : Type 0} (d : A) (g : File → A) (f : File) (n : ℕ) → n ≡ fileNumber f → ofNumber d g n ≡ g f
-by-number d g f n e = ap (ofNumber d g) e ∙ of-file d g f
 
 -- a number has one file
 pub same-file : (f g : File) (n : ℕ) → n ≡ fileNumber f → n ≡ fileNumber g → f ≡ g
@@ -101,8 +97,8 @@ module _ (n : ℕ) (s p q : List ℕ) (axles : ℕ) (l : leastPlaces ≤ length 
       let v = alone-inv n s c ps ls e in
       let f : File = is-file n (v .0) .0 in
       let g : n ≡ fileNumber f = is-file n (v .0) .1 in
-      let fixed : ofNumber 0 (λ f. length (fixedSections f)) n ≡ length (fixedSections f) = by-number 0 (λ f. length (fixedSections f)) f n g in
-      let some : ofNumber 0 leastSections n ≡ leastSections f = by-number 0 leastSections f n g in
+      let fixed : ofNumber 0 (λ f. length (fixedSections f)) n ≡ length (fixedSections f) = of-number 0 (λ f. length (fixedSections f)) f n g in
+      let some : ofNumber 0 leastSections n ≡ leastSections f = of-number 0 leastSections f n g in
       let r : readFile f s ≡ read c ps ls = sym (ap₂ (λ (t : List Section) (m : ℕ). readBy t m s) (ap tableOf g ∙ table-of f) some) ∙ v .1 in
       let i = sound (allSections f) (leastSections f) s (tables-distinct f) c ps ls (by-inv (allSections f) (leastSections f) s c ps ls r .1) .is in
       let k : axles ≡ ofNumber c (λ f. axlesOf f c) n = ap axles-in a in
@@ -117,8 +113,8 @@ module _ (n : ℕ) (s p q : List ℕ) (axles : ℕ) (l : leastPlaces ≤ length 
         is = read-sound f s c ps ls r;
         least = omega (arith, fixed-least n, i .enough);
         most = i .most;
-        axles-are = k ∙ by-number c (λ f. axlesOf f c) f n g;
-        places-are = d ∙ ap (λ (m : ℕ). setPairs m ps (cleared leastPlaces p)) (by-number 0 firstPair f n g);
+        axles-are = k ∙ of-number c (λ f. axlesOf f c) f n g;
+        places-are = d ∙ ap (λ (m : ℕ). setPairs m ps (cleared leastPlaces p)) (of-number 0 firstPair f n g);
       }
 
 module _ {n : ℕ} {s p q : List ℕ} {r : FileAnswer} (w : ReadsAlone n s p q r) where
@@ -157,7 +153,7 @@ module _ {n : ℕ} {s p q : List ℕ} {r : FileAnswer} (w : ReadsAlone n s p q r
 module _ {n : ℕ} {s p q : List ℕ} {axles : ℕ} (x : AloneRead n s p q axles) where
   -- what is said of the number is said of the file
   pub by-alone : {A : Type 0} (d : A) (g : File → A) → ofNumber d g n ≡ g (x .file)
-  by-alone d g = by-number d g (x .file) n (x .number-is)
+  by-alone d g = of-number d g (x .file) n (x .number-is)
 
   pub alone-few : axles ≤ mostAxles
   alone-few = omega (arith, x .axles-are, few-axles (hasAxles (x .file)) (axlesOf (x .file) (x .count)) (x .is .counted .count))

@@ -6,7 +6,7 @@ use mathlib.Core.List.{[]}
 use Rattle.tables.specs.File.{File, ac2, acc, drift, suspension, gas, allSections, room, ofNumber, tableOf}
 use Rattle.tables.specs.Row.{mostRows}
 use Rattle.tables.proofs.Numbers.{first-pairs}
-use Rattle.due.proofs.Pairs.{of-number}
+use Rattle.tables.proofs.Files.{of-number}
 use Rattle.judge.specs.Steps.{fileNumbered, IsNumber}
 
 -- ---- the file of a number

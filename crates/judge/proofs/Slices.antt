@@ -16,11 +16,11 @@ use Rattle.tables.proofs.Axles.{entries-most}
 use Rattle.files.proofs.Pairs.{few-axles, rooms-fit, own-pairs}
 use Rattle.due.specs.Booking.{bookingIn}
 use Rattle.due.specs.declared.Booking.{Booking}
-use Rattle.tables.specs.Value.{pairsOf, valuesOf}
-use Rattle.due.specs.Values.{newValues, Held}
+use Rattle.tables.specs.Value.{pairsOf, valuesOf, Held}
+use Rattle.due.specs.Values.{newValues}
 use Rattle.rules.specs.Slices.{sliceRight, isRead, identificationRight}
 use Rattle.rules.specs.declared.Stated.{Stated}
-use Rattle.due.proofs.Pairs.{gas-count}
+use Rattle.tables.proofs.Values.{gas-count}
 use Rattle.serial.specs.Reading.{readIdentification}
 use Rattle.sets.specs.Records.{Slices, isGiven}
 use Rattle.sets.specs.Judge.{FileRead, SetRead, notRead, judgeBooking, judgeFields, judgeFile, judgeIdentification, fileGiven, identificationStep, setRead, Slice, fileSlice, identificationSlice, laterSlices, eachAccepted, judgeSlices, setFiles, acceptanceWith}

@@ -26,9 +26,9 @@ use Rattle.files.proofs.Theorem as T
 use Rattle.files.proofs.Pairs.{few-axles, pairs-fit, own-pairs}
 use Rattle.due.specs.Booking.{bookingIn}
 use Rattle.due.specs.declared.Booking.{Booking}
-use Rattle.tables.specs.Value.{pairsOf}
-use Rattle.due.specs.Values.{newValues, Held}
-use Rattle.due.proofs.Pairs.{new-count}
+use Rattle.tables.specs.Value.{pairsOf, Held}
+use Rattle.due.specs.Values.{newValues}
+use Rattle.tables.proofs.Values.{new-count}
 use Rattle.sets.specs.Judge.{fileRead, fileChecks, firstFailed, checkedFile, judgeReading, judgeText}
 use Rattle.judge.specs.Steps.{fileNumbered, IsNumber, figuresOf, IsBooking, FileReady, ValuesReady, valuesStep, JudgesValues, JudgesFile, textJudged, JudgesBooking}
 use Rattle.sets.specs.declared.Figures.{Figures}

@@ -27,12 +27,12 @@ use Rattle.due.proofs.Entries.{conditions-file}
 use Rattle.due.proofs.FirstNotAsDue.{first-at-values}
 use Rattle.rules.specs.Rule.{firstBroken}
 use Rattle.rules.specs.Rules.{rulesOf, firstBrokenAt}
-use Rattle.tables.specs.Value.{pairsOf, valuesOf}
-use Rattle.due.specs.Values.{newValues, Held, NumberHeld}
+use Rattle.tables.specs.Value.{pairsOf, valuesOf, Held, NumberHeld}
+use Rattle.due.specs.Values.{newValues}
 use Rattle.rules.specs.declared.BrokenRule.{BrokenRule}
 use Rattle.rules.specs.declared.RuleCheck.{RuleCheck}
 use Rattle.rules.specs.declared.RuleCheck.the-variants.{Kept, Broken}
-use Rattle.due.proofs.Pairs.{held-number, fixed-held}
+use Rattle.tables.proofs.Values.{held-number, fixed-held}
 use Rattle.sets.specs.Judge.{checkRule, checkedFile, firstFailed, figuresFrom}
 use Rattle.judge.specs.Steps.{fileNumbered, IsNumber, ValuesReady, readAt, valuesStep, JudgesValues}
 use Rattle.sets.specs.declared.Figures as K

@@ -13,8 +13,8 @@ use Rattle.tables.specs.Row.{mostRows}
 use Rattle.files.specs.Files.{axlesOf}
 use Rattle.due.specs.Booking.{bookingIn}
 use Rattle.due.specs.declared.Booking.{Booking}
-use Rattle.tables.specs.Value.{pairsOf, valuesOf}
-use Rattle.due.specs.Values.{newValues, Held}
+use Rattle.tables.specs.Value.{pairsOf, valuesOf, Held}
+use Rattle.due.specs.Values.{newValues}
 use Rattle.rules.specs.declared.Stated.{Stated}
 use Rattle.sets.specs.Records.{Slices, isGiven}
 use Rattle.sets.specs.Judge.{figuresFrom, acceptanceOf, FileRead, SetRead, fileRead, checkedFile, firstFailed, fileChecks, judgeText, judgeFile, judgeIdentification, setRead, laterSlices, eachAccepted, setFiles}

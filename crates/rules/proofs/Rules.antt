@@ -12,10 +12,10 @@ use Rattle.places.specs.Places.{startOf, lengthOf, pairsAt, valueOf}
 use Rattle.tables.specs.Section.{entriesOf}
 use Rattle.tables.specs.Entries.{newBooking, oldBooking, tester, protocol, measurement, sixteen, driftAxle, suspensionAxle, analyser, counter, speedTest, allKeyDates, allKeyBodies, analysis, fuelAnalysis}
 use Rattle.tables.specs.File.{File, ac2, acc, drift, suspension, gas, fixedSections, axleEntries, axlesFrom, axleSections, sections, entries, room, rooms, firstPair}
-use Rattle.tables.specs.Value.{placeOf, axlePlaceOf, valuesOf}
+use Rattle.tables.specs.Value.{placeOf, axlePlaceOf, valuesOf, Held, pairOf}
 use Rattle.due.specs.Booking.{bookingIn}
 use Rattle.due.specs.Conditions.{isSerialLink, isSerial}
-use Rattle.due.specs.Values.{Held, newValues, pairOf}
+use Rattle.due.specs.Values.{newValues}
 use Rattle.due.specs.declared.Booking.{Booking}
 use Rattle.due.specs.declared.Fuel.the-variants.{Petrol, Diesel, OtherFuel}
 use Rattle.rules.specs.Rule.{broken, firstBroken}
@@ -28,7 +28,7 @@ use Rattle.rules.specs.declared.RuleCheck.the-variants.{Kept}
 use Rattle.refusals.specs.declared.RefusalKind.the-variants.{BookingRule, DifferenceRule}
 use Rattle.places.proofs.Values.{within-at, value-length}
 use Rattle.tables.proofs.Numbers.{first-pairs}
-use Rattle.due.proofs.Pairs.{drift-pairs, suspension-pairs, gas-code, value-held, drift-count, suspension-count, gas-count}
+use Rattle.tables.proofs.Values.{drift-pairs, suspension-pairs, gas-code, value-held, drift-count, suspension-count, gas-count}
 
 -- ---- names to pairs
 

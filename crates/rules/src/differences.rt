@@ -2,8 +2,7 @@
 ghost use mathlib.Core.Path.{_≡_};
 ghost use Prim.Native.Nat.{_≤_};
 ghost use Rattle.tables.specs.File.{suspension, mostAxles};
-ghost use Rattle.tables.specs.Value.{valuesOf};
-ghost use Rattle.due.specs.Values.{Held};
+ghost use Rattle.tables.specs.Value.{valuesOf, Held};
 ghost use Rattle.rules.specs.Rule.{firstBroken};
 ghost use Rattle.rules.specs.Differences.{difference, differenceFits, differencesFrom};
 use crate::BrokenRule;

@@ -6,8 +6,7 @@ ghost use Rattle.lines.specs.Bytes.{part, sameBytes};
 ghost use Rattle.places.specs.Places.{valueOf};
 ghost use Rattle.serial.specs.Reading.{Ordered, sevenIn};
 ghost use Rattle.tables.specs.File.{gas};
-ghost use Rattle.tables.specs.Value.{valuesOf};
-ghost use Rattle.due.specs.Values.{Held, PairHeld};
+ghost use Rattle.tables.specs.Value.{valuesOf, Held, PairHeld};
 ghost use Rattle.rules.specs.Identification.{sevenOf, sameFields};
 use tables::pairs;
 

@@ -9,7 +9,8 @@ mod slices; // slices.rt: the stem, and which slices are due and read
 ghost use mathlib.Core.Path.{_≡_};
 ghost use Prim.Native.Nat.{_≤_};
 ghost use Rattle.tables.specs.File.{ac2, ofNumber, mostAxles};
-ghost use Rattle.due.specs.Values.{newValues, Held, NumberHeld};
+ghost use Rattle.due.specs.Values.{newValues};
+ghost use Rattle.tables.specs.Value.{Held, NumberHeld};
 ghost use Rattle.due.specs.Booking.{bookingIn};
 ghost use Rattle.rules.specs.Rules.{firstBrokenAt};
 ghost use Rattle.rules.specs.declared.RuleCheck.{RuleCheck};

@@ -2,8 +2,7 @@
 ghost use mathlib.Core.Path.{_≡_};
 ghost use mathlib.Core.Bool.{false};
 ghost use Rattle.tables.specs.File.{ofNumber};
-ghost use Rattle.tables.specs.Value.{valuesOf};
-ghost use Rattle.due.specs.Values.{NumberHeld};
+ghost use Rattle.tables.specs.Value.{valuesOf, NumberHeld};
 ghost use Rattle.rules.specs.Marks.{isMarked};
 use tables::DRIFT;
 use tables::GAS;

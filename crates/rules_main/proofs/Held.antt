@@ -10,8 +10,9 @@ use borrow.Author.Tests.{leb-true}
 use lib.ListN.{length}
 use Rattle.places.specs.Places.{startOf, lengthOf, pairsAt, Within}
 use Rattle.tables.specs.File.{File, ac2, gas, entries, firstPair, fileNumber, ofNumber}
-use Rattle.due.specs.Values.{Held, NumberHeld}
-use Rattle.due.proofs.Pairs.{of-number, of-others, number-held}
+use Rattle.tables.specs.Value.{Held, NumberHeld}
+use Rattle.tables.proofs.Files.{of-number, of-others}
+use Rattle.tables.proofs.Values.{number-held}
 
 -- ---- pairs one after the other
 

@@ -14,7 +14,7 @@ ghost use lib.ListN.{length};
 ghost use Rattle.places.specs.Places.{placeSize, pairsAt, Within};
 ghost use Rattle.tables.specs.File.{ac2, gas as gasFile, entries, firstPair, leastPlaces, ofNumber, mostAxles};
 ghost use Rattle.serial.specs.Reading.{Ordered};
-ghost use Rattle.due.specs.Values.{Held, NumberHeld};
+ghost use Rattle.tables.specs.Value.{Held, NumberHeld};
 use due::Booking;
 use due::Conditions;
 use due::Due;

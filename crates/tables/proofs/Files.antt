@@ -1,6 +1,6 @@
 -- Files by number. Assumes nothing.
 use Prim.Native.Nat.{ℕ, zero, suc}
-use mathlib.Core.Path.{_≡_, refl, sym}
+use mathlib.Core.Path.{_≡_, refl, ap, sym, _∙_}
 use mathlib.Core.Bool.{true, false≢true}
 use mathlib.Core.Option.{none, some}
 use mathlib.Core.List.{[], map}
@@ -15,6 +15,22 @@ of-file d g acc = refl
 of-file d g drift = refl
 of-file d g suspension = refl
 of-file d g gas = refl
+
+-- what is said of the file of a number
+pub of-number : {A : Type 0} (d : A) (g : File → A) (f : File) (m : ℕ) → m ≡ fileNumber f → ofNumber d g m ≡ g f
+of-number d g f m e = ap (ofNumber d g) e ∙ of-file d g f
+
+-- where each file that the number may be says the same as no file
+pub of-others : {A : Type 0} (d : A) (g : File → A) (m : ℕ) → (m ≡ 1 → g ac2 ≡ d) → (m ≡ 2 → g acc ≡ d) → (m ≡ 3 → g drift ≡ d)
+    → (m ≡ 4 → g suspension ≡ d) → (m ≡ 5 → g gas ≡ d) → ofNumber d g m ≡ d
+unfolding ofNumber
+of-others d g zero h1 h2 h3 h4 h5 = refl
+of-others d g (suc zero) h1 h2 h3 h4 h5 = h1 refl
+of-others d g (suc (suc zero)) h1 h2 h3 h4 h5 = h2 refl
+of-others d g (suc (suc (suc zero))) h1 h2 h3 h4 h5 = h3 refl
+of-others d g (suc (suc (suc (suc zero)))) h1 h2 h3 h4 h5 = h4 refl
+of-others d g (suc (suc (suc (suc (suc zero))))) h1 h2 h3 h4 h5 = h5 refl
+of-others d g (suc (suc (suc (suc (suc (suc m)))))) h1 h2 h3 h4 h5 = refl
 
 -- what the last arm of a `match` on a file's number knows
 abbrev pub NoFile : ℕ → Type 0

@@ -8,5 +8,6 @@ pub mod Listed
 pub mod Rows
 pub mod Axles
 pub mod Numbers
+pub mod Values
 pub mod Tests
 pub mod Distinct

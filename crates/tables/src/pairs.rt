@@ -1,5 +1,5 @@
 // The pairs of the entries that conditions and rules look at (01, Judging), named by file and entry. An entry's place in
-// its file is its pair less the file's first. What each stands for is proved in `due`, proofs/Pairs.
+// its file is its pair less the file's first. What each stands for is proved in proofs/Values.
 
 pub const AC2_FIRST: usize = 0;
 

@@ -9,7 +9,7 @@ use Rattle.kinds.specs.Value.{wordIndex, wordsOf}
 use Rattle.places.specs.Places.{startOf, lengthOf, valueOf}
 use Rattle.due.specs.Booking.{fuelIn, isLate}
 use Rattle.places.proofs.Values.{value-length}
-use Rattle.due.proofs.Pairs.{new-held}
+use Rattle.tables.proofs.Values.{new-held}
 use Rattle.due.proofs.Values.{booking-at}
 use Rattle.due.proofs.booking_of.Statement.{statement}
 use Rattle.due.proofs.booking_of.Tie as tie

@@ -4,7 +4,7 @@ use Rattle.tables.specs.Section.{entriesOf}
 use Rattle.tables.specs.Entries.{newBooking, oldBooking, tester, protocol, measurement, sixteen}
 use Rattle.tables.specs.File.{ofNumber, fixedSections, axlesFrom, axleSections, sections, entries}
 use Rattle.due.specs.Table.{firstCondition}
-use Rattle.due.proofs.Pairs.{of-others}
+use Rattle.tables.proofs.Files.{of-others}
 use Rattle.due.proofs.first_condition.Statement.{statement}
 use Rattle.due.proofs.first_condition.Tie as tie
 

@@ -5,7 +5,8 @@ use lib.Dec.{lit<}
 use Rattle.tables.specs.File.{File, gas}
 use Rattle.tables.specs.Value.{valuesOf}
 use Rattle.due.specs.Conditions.{noLinks, linksOf, linksNumbered}
-use Rattle.due.proofs.Pairs.{of-number, of-others, number-held, gas-held}
+use Rattle.tables.proofs.Files.{of-number, of-others}
+use Rattle.tables.proofs.Values.{number-held, gas-held}
 use Rattle.due.proofs.Values.{gas-links}
 use Rattle.due.proofs.links_of.Statement.{statement}
 use Rattle.due.proofs.links_of.Tie as tie

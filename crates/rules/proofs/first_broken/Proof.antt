@@ -2,8 +2,8 @@
 use mathlib.Core.Path.{sym, _∙_}
 use mathlib.Core.List.{[]}
 use Rattle.tables.specs.File.{File, ac2, acc, drift, suspension, gas}
-use Rattle.tables.proofs.Files.{of-none}
-use Rattle.due.proofs.Pairs.{of-number, number-held}
+use Rattle.tables.proofs.Files.{of-none, of-number}
+use Rattle.tables.proofs.Values.{number-held}
 use Rattle.rules.specs.Rules.{firstBrokenAt}
 use Rattle.rules.specs.declared.RuleCheck.the-variants.{Kept}
 use Rattle.rules.proofs.Rules.{new-rules, old-rules, axle-rules, drift-rules, gas-rules, old-any}

@@ -6,7 +6,7 @@ use Rattle.rules_main.proofs.entry_count.Statement.{statement}
 use Rattle.rules_main.proofs.entry_count.Tie as tie
 use Rattle.tables.specs.File.{ac2, acc, drift, suspension, gas}
 use Rattle.tables.proofs.Numbers.{first-pairs}
-use Rattle.due.proofs.Pairs.{new-count, old-count, drift-count, suspension-count, gas-count}
+use Rattle.tables.proofs.Values.{new-count, old-count, drift-count, suspension-count, gas-count}
 use Rattle.rules_main.proofs.Held.{counts, no-counts}
 
 add-result : tie.Need-add-result

@@ -4,7 +4,7 @@ use borrow.Author.Needs.{needs}
 use Rattle.rules_main.proofs.show_due.Statement.{statement}
 use Rattle.rules_main.proofs.show_due.Tie as tie
 use Rattle.tables.proofs.Numbers.{first-pairs}
-use Rattle.due.proofs.Pairs.{fixed-held}
+use Rattle.tables.proofs.Values.{fixed-held}
 
 booking-of-requires : tie.Need-booking-of-requires
 booking-of-requires c κs = c .before .before .before .before .pre .1

@@ -2,7 +2,7 @@
 use borrow.Author.Needs.{needs}
 use lib.Dec.{lit<}
 use Rattle.serial.proofs.Tests.{passed, failed}
-use Rattle.due.proofs.Pairs.{new-held}
+use Rattle.tables.proofs.Values.{new-held}
 use Rattle.rules.proofs.Rules.{new-broken}
 use Rattle.rules.proofs.bookings.check_new_booking.Statement.{statement}
 use Rattle.rules.proofs.bookings.check_new_booking.Tie as tie

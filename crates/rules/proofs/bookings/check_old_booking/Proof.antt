@@ -4,7 +4,7 @@ use mathlib.Core.Path.{ap}
 use lib.Dec.{lit<}
 use Rattle.serial.proofs.Tests.{passed, failed}
 use Rattle.due.specs.declared.Booking.{Booking}
-use Rattle.due.proofs.Pairs.{new-held, old-held}
+use Rattle.tables.proofs.Values.{new-held, old-held}
 use Rattle.rules.proofs.Rules.{old-broken}
 use Rattle.rules.proofs.bookings.check_old_booking.Statement.{statement}
 use Rattle.rules.proofs.bookings.check_old_booking.Tie as tie

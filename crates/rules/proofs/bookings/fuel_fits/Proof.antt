@@ -2,7 +2,7 @@
 use borrow.Author.Needs.{needs}
 use lib.Dec.{lit<}
 use Rattle.rules.specs.Bookings.{fuelFits}
-use Rattle.due.proofs.Pairs.{new-held}
+use Rattle.tables.proofs.Values.{new-held}
 use Rattle.rules.proofs.Rules.{petrol-at, diesel-at, other-at}
 use Rattle.rules.proofs.bookings.fuel_fits.Statement.{statement}
 use Rattle.rules.proofs.bookings.fuel_fits.Tie as tie

@@ -6,7 +6,7 @@ use native.Mathlib.Omega.{arith}
 use native.Mathlib.Nat.{sub-zero}
 use Rattle.tables.specs.File.{suspension}
 use Rattle.tables.specs.Value.{valuesOf}
-use Rattle.due.proofs.Pairs.{axle-held}
+use Rattle.tables.proofs.Values.{axle-held}
 use Rattle.rules.specs.Rule.{firstBroken}
 use Rattle.rules.specs.Differences.{differencesFrom}
 use Rattle.serial.proofs.Tests.{passed, failed}

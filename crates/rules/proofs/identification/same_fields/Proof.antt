@@ -4,7 +4,7 @@ use lib.Dec.{lit<}
 use Rattle.serial.proofs.Tests.{passed, failed, and-true}
 use mathlib.Core.Path.{sym, _∙_}
 use Rattle.rules.specs.Identification.{sameFields}
-use Rattle.due.proofs.Pairs.{gas-held}
+use Rattle.tables.proofs.Values.{gas-held}
 use Rattle.rules.proofs.Rules.{seven-at}
 use Rattle.rules.proofs.identification.same_fields.Statement.{statement}
 use Rattle.rules.proofs.identification.same_fields.Tie as tie

@@ -6,7 +6,8 @@ use Rattle.tables.specs.File.{File, drift, suspension, gas}
 use Rattle.tables.specs.Value.{valuesOf}
 use Rattle.rules.specs.Marks.{isMarked}
 use Rattle.tables.proofs.Numbers.{first-pairs}
-use Rattle.due.proofs.Pairs.{of-number, of-others, number-held}
+use Rattle.tables.proofs.Files.{of-number, of-others}
+use Rattle.tables.proofs.Values.{number-held}
 use Rattle.rules.proofs.Rules.{drift-marked, suspension-marked, gas-marked, new-marked, old-marked}
 use Rattle.rules.proofs.marks.is_marked.Statement.{statement}
 use Rattle.rules.proofs.marks.is_marked.Tie as tie

@@ -5,7 +5,7 @@ use borrow.Author.Tests.{lt-ltb, le-ltb}
 use Rattle.rules.specs.Slices.{identificationRight}
 use lib.Dec.{lit<}
 use lib.ListN.{length}
-use Rattle.due.proofs.Pairs.{gas-held}
+use Rattle.tables.proofs.Values.{gas-held}
 use Rattle.rules.proofs.Rules.{serial-at}
 use Rattle.rules.proofs.slices.identification_right.Statement.{statement}
 use Rattle.rules.proofs.slices.identification_right.Tie as tie

@@ -5,7 +5,7 @@ use mathlib.Core.Bool.{not}
 use borrow.Author.Tests.{not-true, not-false}
 use Rattle.tables.specs.File.{File, acc}
 use Rattle.rules.specs.Slices.{isRead}
-use Rattle.due.proofs.Pairs.{of-number, of-others}
+use Rattle.tables.proofs.Files.{of-number, of-others}
 use Rattle.rules.proofs.slices.is_read.Statement.{statement}
 use Rattle.rules.proofs.slices.is_read.Tie as tie
 

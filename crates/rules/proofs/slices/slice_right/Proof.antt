@@ -4,7 +4,7 @@ use mathlib.Core.Path.{refl, sym, ap, _∙_}
 use mathlib.Core.Bool.{Bool, true}
 use Rattle.tables.specs.File.{File, ac2, acc, gas}
 use Rattle.rules.specs.Slices.{exactly, sliceRight}
-use Rattle.due.proofs.Pairs.{of-number, of-others}
+use Rattle.tables.proofs.Files.{of-number, of-others}
 use Rattle.rules.proofs.slices.slice_right.Statement.{statement}
 use Rattle.rules.proofs.slices.slice_right.Tie as tie
 

@@ -9,14 +9,13 @@ use Rattle.lines.specs.Bytes.{sameBytes}
 use Rattle.kinds.specs.Value.{wordIndex}
 use Rattle.places.specs.Places.{startOf, lengthOf, pairsAt, valueAt, valueOf, Within}
 use Rattle.places.proofs.Values.{within-at}
 use Rattle.tables.specs.Section.{entriesOf}
 use Rattle.tables.specs.Entries.{newBooking, oldBooking, tester, protocol, measurement, sixteen, driftAxle, suspensionAxle, analyser, counter, speedTest, allKeyDates, allKeyBodies, analysis, fuelAnalysis}
 use Rattle.tables.specs.File.{File, ac2, acc, drift, suspension, gas, fixedSections, axleEntries, axlesFrom, axleSections, sections, entries, room, rooms, firstPair, leastPlaces, fileNumber, ofNumber, mostAxles}
-use Rattle.tables.specs.Value.{placeOf, axlePlaceOf, valuesOf}
+use Rattle.tables.specs.Value.{placeOf, axlePlaceOf, valuesOf, pairOf, Held, NumberHeld, PairHeld}
 use Rattle.tables.proofs.Numbers.{first-pairs, room-in}
 use Rattle.tables.proofs.Axles.{entries-length, entries-most}
-use Rattle.tables.proofs.Files.{of-file, of-any, of-map}
-use Rattle.due.specs.Values.{pairOf, Held, NumberHeld, PairHeld}
+use Rattle.tables.proofs.Files.{of-number, of-any, of-map}
 
 -- ---- the numbers of `tables::pairs`, by the names of their entries
 
@@ -106,22 +105,6 @@ within-few t p a (suc m) zero l w = absurd (omega arith)
 within-few t p a (suc m) (suc n) l w = (w .0, within-few t p (a + 1) m n (omega arith) (w .1))
 
 -- ---- a file by its number
-
--- what is said of the file of a number
-pub of-number : {A : Type 0} (d : A) (g : File → A) (f : File) (m : ℕ) → m ≡ fileNumber f → ofNumber d g m ≡ g f
-of-number d g f m e = ap (ofNumber d g) e ∙ of-file d g f
-
--- where each file that the number may be says the same as no file
-pub of-others : {A : Type 0} (d : A) (g : File → A) (m : ℕ) → (m ≡ 1 → g ac2 ≡ d) → (m ≡ 2 → g acc ≡ d) → (m ≡ 3 → g drift ≡ d)
-    → (m ≡ 4 → g suspension ≡ d) → (m ≡ 5 → g gas ≡ d) → ofNumber d g m ≡ d
-unfolding ofNumber
-of-others d g zero h1 h2 h3 h4 h5 = refl
-of-others d g (suc zero) h1 h2 h3 h4 h5 = h1 refl
-of-others d g (suc (suc zero)) h1 h2 h3 h4 h5 = h2 refl
-of-others d g (suc (suc (suc zero))) h1 h2 h3 h4 h5 = h3 refl
-of-others d g (suc (suc (suc (suc zero)))) h1 h2 h3 h4 h5 = h4 refl
-of-others d g (suc (suc (suc (suc (suc zero))))) h1 h2 h3 h4 h5 = h5 refl
-of-others d g (suc (suc (suc (suc (suc (suc m)))))) h1 h2 h3 h4 h5 = refl
 
 pub number-held : (f : File) (m n : ℕ) (t p : List ℕ) → m ≡ fileNumber f → NumberHeld m n t p → Held f n t p
 number-held f m n t p e h = (h .0, rw (of-number 0 firstPair f m e, of-number 0 (λ (f : File). length (entries f n)) f m e) at (h .1))
