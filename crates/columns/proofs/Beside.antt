@@ -21,7 +21,8 @@ use Rattle.files.specs.Files.{axlesOf}
 use Rattle.files.specs.Alone.{ReadsAlone}
 use Rattle.files.specs.declared.FileAnswer.{FileAnswer}
 use Rattle.files.specs.declared.FileAnswer.the-variants as FileAnswer
-use Rattle.files.proofs.Pairs.{AloneRead, rooms-fit, refused-inv, by-alone, alone-few, alone-sections, alone-length, alone-pairs, alone-cleared}
+use Rattle.files.proofs.Texts.{rooms-fit}
+use Rattle.files.proofs.Pairs.{AloneRead, refused-inv, by-alone, alone-few, alone-sections, alone-length, alone-pairs, alone-cleared}
 use Rattle.due.specs.Booking.{bookingIn}
 use Rattle.tables.specs.Value.{NumberHeld}
 use Rattle.due.specs.Conditions.{linksNumbered, withLinks, conditionsOf}

@@ -1,7 +1,7 @@
 -- The pairs of a file that was read stand in the places; and what an answer of reading alone says. Assumes nothing.
-use Prim.Native.Nat.{ℕ, _+_, _*_, _-_, _≤_, _<_}
+use Prim.Native.Nat.{ℕ, _≤_, _<_}
 use native.Mathlib.Omega.{arith}
-use mathlib.Core.Path.{_≡_, refl, ap, ap₂, sym, subst, _∙_}
+use mathlib.Core.Path.{_≡_, refl, ap, sym, subst, _∙_}
 use mathlib.Core.Bool.{Bool, true, false, cond}
 use mathlib.Core.Option.{some}
 use mathlib.Core.List.{List}
@@ -12,24 +12,22 @@ use Rattle.lines.proofs.Bools.{clash}
 use Rattle.refusals.specs.Refusals.{numberOf}
 use Rattle.refusals.specs.Answer.{Answer, refusal, acceptance, refusalOf}
 use Rattle.refusals.specs.declared.Refusal.{Refusal}
-use Rattle.places.specs.Places.{Pair, setPairs, pairsAt, valuesAt, cleared, Within, placeSize}
-use Rattle.places.proofs.Laws.{set-length, pairs-set, drop-pairs, cleared-length, cleared-drop}
-use Rattle.tables.specs.Section.{Section}
-use Rattle.tables.specs.File.{File, ac2, acc, drift, suspension, gas, fileNumber, fileOf, isFile, ofNumber, hasAxles, fixedSections, sections, allSections, leastSections, entries, room, firstPair, leastPlaces, tableOf, mostAxles}
+use Rattle.places.specs.Places.{Pair, setPairs, pairsAt, valuesAt, cleared, Within}
+use Rattle.places.proofs.Laws.{set-length, drop-pairs, cleared-length, cleared-drop}
+use Rattle.tables.specs.File.{File, ac2, acc, drift, suspension, gas, fileNumber, fileOf, isFile, ofNumber, hasAxles, fixedSections, sections, allSections, leastSections, entries, firstPair, leastPlaces, tableOf, mostAxles}
 use Rattle.tables.proofs.Files.{of-file, of-number, table-of, file-of, is-file}
-use Rattle.tables.proofs.Numbers.{room-in}
-use Rattle.tables.proofs.Axles.{entries-most}
 use Rattle.reading.specs.Reading.{Reading, refused, read}
 use Rattle.reading.specs.Tables.{tableLength}
 use Rattle.reading.proofs.Tables.{tables-distinct}
 use Rattle.reading.proofs.Formed.{text-length}
 use Rattle.reading.proofs.Theorem.{sound}
-use Rattle.files.specs.Files.{readBy, readFile, readNumbered, axlesOf, AxleCount, IsFile}
+use Rattle.files.specs.Files.{readFile, readNumbered, axlesOf, IsFile}
 use Rattle.files.specs.Alone.{accepted, answerIs, answerOf, pairsSet, readGiven, readAlone, aloneAnswer, alonePlaces, ReadsAlone}
 use Rattle.files.specs.declared.FileAcceptance.{FileAcceptance}
 use Rattle.files.specs.declared.FileAnswer.{FileAnswer}
 use Rattle.files.specs.declared.FileAnswer.the-variants.{Accepted, Refused}
 use Rattle.files.proofs.Theorem.{by-inv, FileRead, read-sound, read-complete}
+use Rattle.files.proofs.Texts.{few-axles, pairs-fit, own-pairs, read-numbered}
 use Rattle.files.proofs.Alone.{fixed-least, few-sections}
 
 -- a number has one file
@@ -37,26 +35,6 @@ pub same-file : (f g : File) (n : ℕ) → n ≡ fileNumber f → n ≡ fileNumb
 same-file f g n d e =
     let h : some f ≡ some g = sym (file-of f) ∙ ap fileOf (sym d ∙ e) ∙ file-of g in
     cc
-
--- ---- pairs of a file that was read
-
--- a count of axles is at most nine
-pub few-axles : (b : Bool) (n : ℕ) → AxleCount b n → n ≤ mostAxles
-few-axles true n c = c .1
-few-axles false n c = omega arith
-
-pub rooms-fit : (f : File) → placeSize * (firstPair f + room f) ≤ leastPlaces
-unfolding leastPlaces
-rooms-fit f = omega (arith, room-in f)
-
-pub pairs-fit : (f : File) (t : List ℕ) (c : ℕ) (ps : List Pair) → FileRead f t c ps → placeSize * (firstPair f + length ps) ≤ leastPlaces
-pairs-fit f t c ps r = omega (arith, r .many, entries-most f (axlesOf f c) (few-axles (hasAxles f) (axlesOf f c) (r .counted .count)), rooms-fit f)
-
--- the pairs that were set are there
-pub own-pairs : (f : File) (n : ℕ) (ps : List Pair) (p : List ℕ) → length ps ≡ length (entries f n) → placeSize * (firstPair f + length ps) ≤ leastPlaces → leastPlaces ≤ length p
-    → pairsAt (setPairs (firstPair f) ps p) (firstPair f) (length (entries f n)) ≡ ps
-own-pairs f n ps p m h l =
-    ap (λ (k : ℕ). pairsAt (setPairs (firstPair f) ps p) (firstPair f) k) (sym m) ∙ pairs-set (firstPair f) ps p (omega (arith, h, l))
 
 -- ---- a text that was read alone
 
@@ -99,7 +77,7 @@ module _ (n : ℕ) (s p q : List ℕ) (axles : ℕ) (l : leastPlaces ≤ length 
       let g : n ≡ fileNumber f = is-file n (v .0) .1 in
       let fixed : ofNumber 0 (λ f. length (fixedSections f)) n ≡ length (fixedSections f) = of-number 0 (λ f. length (fixedSections f)) f n g in
       let some : ofNumber 0 leastSections n ≡ leastSections f = of-number 0 leastSections f n g in
-      let r : readFile f s ≡ read c ps ls = sym (ap₂ (λ (t : List Section) (m : ℕ). readBy t m s) (ap tableOf g ∙ table-of f) some) ∙ v .1 in
+      let r : readFile f s ≡ read c ps ls = read-numbered f n s g ∙ v .1 in
       let i = sound (allSections f) (leastSections f) s (tables-distinct f) c ps ls (by-inv (allSections f) (leastSections f) s c ps ls r .1) .is in
       let k : axles ≡ ofNumber c (λ f. axlesOf f c) n = ap axles-in a in
       record {
@@ -204,7 +182,7 @@ alone-complete f n vs s h p l =
     let b = le-leb leastPlaces (length p) l in
     let full : eqb (length s) 0 ≡ false = ne-eqb (length s) 0 (λ z. omega (arith, text-length (sections f n) vs s (h .fits), some-bytes f n)) in
     let file : isFile (fileNumber f) ≡ true = of-file false (λ g. true) f in
-    let e : readNumbered (fileNumber f) s ≡ read c ps (r .2) = ap₂ (λ (t : List Section) (m : ℕ). readBy t m s) (table-of f) (of-file 0 leastSections f) ∙ r .3 in
+    let e : readNumbered (fileNumber f) s ≡ read c ps (r .2) = sym (read-numbered f (fileNumber f) s refl) ∙ r .3 in
     let axles : ofNumber c (λ g. axlesOf g c) (fileNumber f) ≡ axlesOf f c = of-file c (λ g. axlesOf g c) f in
     let first : ofNumber 0 firstPair (fileNumber f) ≡ firstPair f = of-file 0 firstPair f in
     let m : length ps ≡ length (entries f n) = k .many ∙ ap (λ (i : ℕ). length (entries f i)) (r .4) in

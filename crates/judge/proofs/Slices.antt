@@ -13,7 +13,7 @@ use Rattle.places.specs.Places.{placeSize, setPairs, pairsAt, valueAt, Within}
 use Rattle.places.proofs.Laws.{set-length, drop-pairs}
 use Rattle.tables.specs.File.{File, ac2, acc, drift, suspension, gas, files, hasAxles, fileNumber, room, firstPair, leastPlaces, identificationNumber}
 use Rattle.tables.proofs.Axles.{entries-most}
-use Rattle.files.proofs.Pairs.{few-axles, rooms-fit, own-pairs}
+use Rattle.files.proofs.Texts.{few-axles, rooms-fit, own-pairs}
 use Rattle.due.specs.Booking.{bookingIn}
 use Rattle.due.specs.declared.Booking.{Booking}
 use Rattle.tables.specs.Value.{pairsOf, valuesOf, Held}

@@ -1,5 +1,5 @@
 -- The text of a file: what its judges ask of the values, and a law for each way out. Assumes nothing.
-use Prim.Native.Nat.{ℕ, _+_, _*_, _≤_}
+use Prim.Native.Nat.{ℕ, _≤_}
 use native.Mathlib.Omega.{arith}
 use mathlib.Core.Path.{_≡_, ap, ap₂, sym, subst, _∙_}
 use mathlib.Core.List.{List, map}
@@ -7,23 +7,22 @@ use lib.ListN.{length, take, drop}
 use Rattle.refusals.specs.Refusals.{numberOf, refusalWith}
 use Rattle.refusals.specs.Answer.{refusal, acceptance}
 use Rattle.refusals.specs.declared.Refusal.{Refusal}
-use Rattle.places.specs.Places.{Pair, placeSize, setPairs, pairsAt, valueAt, Within}
-use Rattle.places.proofs.Laws.{set-length, pairs-before, drop-pairs}
-use Rattle.tables.specs.Section.{Section}
+use Rattle.places.specs.Places.{Pair, setPairs, pairsAt, valueAt, Within}
+use Rattle.places.proofs.Laws.{pairs-before, drop-pairs}
 use Rattle.tables.specs.File.{File, ac2, acc, drift, suspension, gas, fileNumber, hasAxles, fixedSections, allSections, leastSections, entries, firstPair, leastPlaces}
 use Rattle.tables.specs.Row.{mostRows}
 use Rattle.tables.proofs.Numbers.{first-pairs}
 use Rattle.reading.specs.Reading.{read}
 use Rattle.reading.proofs.Tables.{tables-distinct}
 use Rattle.reading.proofs.Theorem.{sound}
-use Rattle.files.specs.Files.{readBy, readFile, readNumbered, axlesOf}
+use Rattle.files.specs.Files.{readFile, axlesOf}
 use Rattle.files.specs.Steps.{ReadsText}
 use Rattle.files.specs.declared.Fault.{Fault}
 use Rattle.files.specs.declared.TextAnswer.{TextAnswer}
 use Rattle.files.specs.declared.TextAnswer.the-variants.{Sections, Faulty}
 use Rattle.files.proofs.Alone.{count-in}
 use Rattle.files.proofs.Theorem as T
-use Rattle.files.proofs.Pairs.{few-axles, pairs-fit, own-pairs}
+use Rattle.files.proofs.Texts.{few-axles, pairs-fit, read-numbered, text-read, text-is, text-set, text-pairs, text-held}
 use Rattle.due.specs.Booking.{bookingIn}
 use Rattle.due.specs.declared.Booking.{Booking}
 use Rattle.tables.specs.Value.{pairsOf, Held}
@@ -35,7 +34,7 @@ use Rattle.sets.specs.declared.Figures.{Figures}
 use Rattle.judge.specs.declared.Step.{Step}
 use Rattle.judge.specs.declared.Step.the-variants.{Stop, Go}
 use Rattle.judge.specs.declared.BookingStep.the-variants as B
-use Rattle.judge.proofs.Numbers.{by-file, table, new-number}
+use Rattle.judge.proofs.Numbers.{by-file, new-number}
 
 -- ---- AC2's pairs
 
@@ -56,9 +55,6 @@ new-pairs n p = ap (λ (k : ℕ). pairsAt p (firstPair ac2) k) (new-count n ∙ 
 
 -- ---- what was read
 
-by-number : (file : ℕ) (t : List ℕ) → IsNumber file → readFile (fileNumbered file) t ≡ readNumbered file t
-by-number file t e = sym (ap₂ (λ (x : List Section) (n : ℕ). readBy x n t) (table file e) (by-file file e 0 leastSections))
-
 module _ (file : ℕ) (number : IsNumber file) (t p q ls : List ℕ) (r : TextAnswer) (w : ReadsText file t r p q ls) where
   abbrev f : File
   f = fileNumbered file
@@ -69,7 +65,7 @@ module _ (file : ℕ) (number : IsNumber file) (t p q ls : List ℕ) (r : TextAn
   unfolding judgeText
   text-faulty booking x e =
       let v = subst (λ (y : TextAnswer). ReadsText file t y p q ls) e w in (
-        ap (judgeReading f booking t) (by-number file t number ∙ v .0) ∙ ap (λ (m : ℕ). refusal (numberOf (x .kind)) m (x .line)) number,
+        ap (judgeReading f booking t) (read-numbered f file t (sym number) ∙ v .0) ∙ ap (λ (m : ℕ). refusal (numberOf (x .kind)) m (x .line)) number,
         ap (drop leastPlaces) (v .1),
       )
 
@@ -81,22 +77,19 @@ module _ (file : ℕ) (number : IsNumber file) (t p q ls : List ℕ) (r : TextAn
     ps = v .0
 
     was-read : readFile f t ≡ read c ps (take (length ps) ls)
-    was-read = by-number file t number ∙ v .1
+    was-read = text-read f file (sym number) t p q ls c v
 
     x : T.FileRead f t c ps
-    x = T.read-sound f t c ps (take (length ps) ls) was-read
+    x = text-is f file (sym number) t p q ls c v
 
     set : q ≡ setPairs (firstPair f) ps p
-    set = v .2 ∙ ap (λ (k : ℕ). setPairs k ps p) (by-file file number 0 firstPair)
-
-    fit : placeSize * (firstPair f + length ps) ≤ leastPlaces
-    fit = pairs-fit f t c ps x
+    set = text-set f file (sym number) t p q ls c v
 
     own : pairsOf f (axlesOf f c) q ≡ ps
-    own = ap (pairsOf f (axlesOf f c)) set ∙ own-pairs f (axlesOf f c) ps p (x .many) fit enough
+    own = text-pairs f file (sym number) t p q ls c v enough
 
-    still : leastPlaces ≤ length q
-    still = omega (arith, ap length set, set-length (firstPair f) ps p, enough)
+    abbrev held : Held f (axlesOf f c) t q
+    held = text-held f file (sym number) t p q ls c v enough
 
     -- s for AC2's text
     pub text-ready : (b : Booking) (s : List ℕ) → Held ac2 0 s q → IsBooking b s q → mostRows ≤ length ls → ValuesReady file c b s t q ls
@@ -109,7 +102,7 @@ module _ (file : ℕ) (number : IsNumber file) (t p q ls : List ℕ) (r : TextAn
           sections-are = x .counted .sections-are;
           few = few-axles (hasAxles f) (axlesOf f c) (x .counted .count);
           held = h;
-          own = (still, subst (Within t) (sym own) (x .within));
+          own = held;
           lines = l;
           booking = eb;
         }
@@ -123,7 +116,7 @@ module _ (file : ℕ) (number : IsNumber file) (t p q ls : List ℕ) (r : TextAn
 
     module _ (booking : List (List ℕ) → List (List ℕ)) (s : List ℕ) (eb : booking (map (valueAt t) ps) ≡ newValues s q) where
       stopped : (y : Refusal) → JudgesValues f c s t q ls (Stop y) → JudgesFile f (judgeText f booking t) (Stop y) p q
-      stopped y j = (step booking s eb ∙ j, ap (drop leastPlaces) set ∙ drop-pairs leastPlaces (firstPair f) ps p fit)
+      stopped y j = (step booking s eb ∙ j, ap (drop leastPlaces) set ∙ drop-pairs leastPlaces (firstPair f) ps p (pairs-fit f t c ps x))
 
       went : (y : Figures) → JudgesValues f c s t q ls (Go y) → (judgeText f booking t ≡ acceptance (fileRead f t c ps)) × (y ≡ figuresOf f (fileRead f t c ps))
       went y j = (
@@ -138,7 +131,7 @@ module _ (file : ℕ) (number : IsNumber file) (t p q ls : List ℕ) (r : TextAn
       same = ap (pairsOf ac2 0) set ∙ booking-kept f (omega (arith, number, d .later)) ps p
 
       pub later-ready : mostRows ≤ length ls → ValuesReady file c b s t q ls
-      later-ready l = text-ready b s (still, subst (Within s) (sym same) (d .held .1)) (d .booking ∙ ap (λ (y : List Pair). bookingIn (map (valueAt s) y)) (sym same)) l
+      later-ready l = text-ready b s (held .0, subst (Within s) (sym same) (d .held .1)) (d .booking ∙ ap (λ (y : List Pair). bookingIn (map (valueAt s) y)) (sym same)) l
 
       pub later-judged : (y : Step) → JudgesValues f c s t q ls y → JudgesFile f (textJudged file s t p) y p q
       later-judged (Stop y) j = stopped (λ own. newValues s p) s (ap (map (valueAt s)) (sym same)) y j
@@ -163,7 +156,7 @@ module _ (t p q ls : List ℕ) (r : TextAnswer) (w : ReadsText 1 t r p q ls) whe
     now-own = sym (new-pairs (axlesOf ac2 c) q) ∙ subst (λ (f : File). pairsOf f (axlesOf f c) q ≡ pairs) new-number (own 1 number t p q ls r w enough c e)
 
     pub booking-held : Held ac2 0 t q
-    booking-held = (still 1 number t p q ls r w enough c e, subst (Within t) (sym now-own) (x 1 number t p q ls r w enough c e .within))
+    booking-held = (held 1 number t p q ls r w enough c e .0, subst (Within t) (sym now-own) (x 1 number t p q ls r w enough c e .within))
 
     pub values-ready : (b : Booking) → IsBooking b t q → mostRows ≤ length ls → ValuesReady 1 c b t t q ls
     values-ready b eb l = text-ready 1 number t p q ls r w enough c e b t booking-held eb l

@@ -17,7 +17,7 @@ use Rattle.tables.specs.Row.{entriesBefore}
 use Rattle.tables.specs.File.{File, mostAxles, ac2, fileNumber, fixedSections, entries, room, firstPair, ofNumber, tableOf}
 use Rattle.tables.proofs.Axles.{entries-most}
 use Rattle.files.specs.Files.{axlesOf}
-use Rattle.files.proofs.Pairs.{rooms-fit}
+use Rattle.files.proofs.Texts.{rooms-fit}
 use Rattle.due.specs.Booking.{bookingIn}
 use Rattle.due.specs.Conditions.{linksNumbered, withLinks, conditionsOf}
 use Rattle.due.specs.Due.{dueIn, filledPairs, firstNotAsDueFrom, firstNotAsDue}

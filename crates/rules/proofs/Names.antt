@@ -1,4 +1,4 @@
--- Every entry that a rule names stands in its file's table, by computation; those whose values the tests take, by their pairs (`due` Pairs). Assumes nothing.
+-- Every entry that a rule names stands in its file's table, by computation; those whose values the tests take, by their pairs (`tables` Values). Assumes nothing.
 use Prim.Native.Nat.{ℕ, zero, suc, _+_}
 use mathlib.Core.Path.{_≡_, refl}
 use mathlib.Core.Bool.{Bool, true, _&&_}

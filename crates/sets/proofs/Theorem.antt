@@ -14,7 +14,7 @@ use Rattle.tables.specs.File.{File, ac2, files, hasAxles, sections, room, first
 use Rattle.tables.proofs.Axles.{entries-most}
 use Rattle.reading.specs.Fitting.{StartOf}
 use Rattle.files.specs.Files.{AxleCount}
-use Rattle.files.proofs.Pairs.{few-axles}
+use Rattle.files.proofs.Texts.{few-axles}
 use Rattle.due.specs.Booking.{bookingIn}
 use Rattle.places.proofs.Values.{value-length}
 use Rattle.rules.specs.Slices.{goodStem, isRead}

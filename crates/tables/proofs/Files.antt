@@ -37,14 +37,8 @@ abbrev pub NoFile : ℕ → Type 0
 NoFile n = ((((Unit {0} × (n ≡ 1 → ⊥)) × (n ≡ 2 → ⊥)) × (n ≡ 3 → ⊥)) × (n ≡ 4 → ⊥)) × (n ≡ 5 → ⊥)
 
 pub of-none : {A : Type 0} (d : A) (g : File → A) (n : ℕ) → NoFile n → ofNumber d g n ≡ d
-unfolding ofNumber
-of-none d g zero t = refl
-of-none d g (suc zero) t = absurd (t .0 .0 .0 .0 .1 refl)
-of-none d g (suc (suc zero)) t = absurd (t .0 .0 .0 .1 refl)
-of-none d g (suc (suc (suc zero))) t = absurd (t .0 .0 .1 refl)
-of-none d g (suc (suc (suc (suc zero)))) t = absurd (t .0 .1 refl)
-of-none d g (suc (suc (suc (suc (suc zero))))) t = absurd (t .1 refl)
-of-none d g (suc (suc (suc (suc (suc (suc n)))))) t = refl
+of-none d g n t =
+    of-others d g n (λ e. absurd (t .0 .0 .0 .0 .1 e)) (λ e. absurd (t .0 .0 .0 .1 e)) (λ e. absurd (t .0 .0 .1 e)) (λ e. absurd (t .0 .1 e)) (λ e. absurd (t .1 e))
 
 -- what holds of every file, and where there is none, holds of every number
 pub of-any : {A : Type 0} (d : A) (g : File → A) (P : A → Type 0) → P d → ((f : File) → P (g f)) → (n : ℕ) → P (ofNumber d g n)
