@@ -1,4 +1,4 @@
--- A value that passes its kind is read as what it means, and a drift lies between -9999 and 9999. Assumes nothing.
+-- A value that passes its kind is read as what it means; a speed entered by hand is told from a measured one; a drift lies between -9999 and 9999. Assumes nothing.
 use mathlib.Core.Path.{_≡_, refl, sym, ap, _∙_}
 use mathlib.Core.Bool.{Bool, true, false, cond, _&&_, false≢true}
 use mathlib.Core.List.{List, [], _∷_}
@@ -8,17 +8,17 @@ use borrow.Author.Tests.{le-leb, ne-eqb}
 use lib.Dec.{leb, le→leb}
 use lib.IntN.{ℤ, pos, negsuc, negℤ, natAbs}
 use lib.Signed.{_≤ℤ_, leZ-yes}
-use lib.ListN.{length, take, drop, length-take, length-drop}
+use lib.ListN.{length, getD, take, drop, length-take, length-drop}
 use Rattle.lines.proofs.Bools.{and-left, and-right}
 use Rattle.kinds.specs.Kind.{N, D, Deriva, Revs, DataPrimaImm}
 use Rattle.kinds.specs.Digits.{isDigit, allDigits, number, numberFrom}
-use Rattle.kinds.specs.Value.{isNumber, isFixed, pointPlace, isYear, isGregorian, isDay, isFirstDate, isFirstDay, startsWith, isDrift, areDigits, dayOf, monthOf, yearOf, kindOk}
+use Rattle.kinds.specs.Value.{isNumber, isFixed, pointPlace, isYear, isGregorian, isDay, isFirstDate, isFirstDay, startsWith, isDrift, isRevs, areDigits, dayOf, monthOf, yearOf, kindOk}
 use Rattle.kinds.specs.Meaning.{numberRead, hundredths, signed, drift, driftRead, revs, revsRead, dayNumber, dayRead}
 use Rattle.kinds.specs.declared.NumberRead.the-variants as NumberRead
 use Rattle.kinds.specs.declared.DriftRead.{DriftRead}
 use Rattle.kinds.specs.declared.DriftRead.the-variants as DriftRead
 use Rattle.kinds.specs.declared.RevsRead.the-variants as RevsRead
-use Rattle.kinds.proofs.Laws.{digit, FixedPoint, fixed-point, number-long, number-short, number-all, by-test}
+use Rattle.kinds.proofs.Laws.{digit, digit-at, FixedPoint, fixed-point, number-long, number-short, number-all, by-test}
 
 module _ (v : List ℕ) where
   pub number-reads : (w : ℕ) → w ≤ 9 → kindOk (N w) v ≡ true → numberRead v ≡ NumberRead.Of (number v)
@@ -36,6 +36,19 @@ module _ (v : List ℕ) where
   pub first-day-reads : kindOk DataPrimaImm v ≡ true → dayRead v ≡ NumberRead.Of (dayNumber v)
   unfolding kindOk dayRead
   first-day-reads e = rw e
+
+-- no digit is `#`
+digits-bare : (v : List ℕ) → isNumber 5 v ≡ true → startsWith 35 v ≡ false
+unfolding startsWith
+digits-bare v e =
+    let l : 1 ≤ length v = number-long 5 v e in
+    rw (le-leb 1 (length v) l, ne-eqb (getD v 0 0) 35 (λ q. omega (arith, digit-at v 0 l (number-all 5 v e)))) refl
+
+-- 02, 1/14: a measured speed and the same one entered by hand have one number, and are told apart
+pub speeds-read : (v : List ℕ) → isNumber 5 v ≡ true
+    → (revsRead v ≡ RevsRead.Of (record { number = number v; byhand = false })) × (revsRead (35 ∷ v) ≡ RevsRead.Of (record { number = number v; byhand = true }))
+unfolding revsRead isRevs revs startsWith
+speeds-read v e = (rw (digits-bare v e, e) refl, rw (le-leb 1 (length (35 ∷ v)) (omega arith), e) refl)
 
 -- a Gregorian day is not day 00
 gregorian-first : (d m y : ℕ) → isGregorian d m y ≡ true → isFirstDate d m y ≡ true

@@ -6,8 +6,9 @@ use Rattle.lines.specs.Text.{bytes}
 use Rattle.kinds.specs.Kind.{D, H, Deriva, Revs, DataPrimaImm}
 use Rattle.kinds.specs.Digits.{allDigits, numberFrom}
 use Rattle.kinds.specs.Value.{isNumber, isFixed, isLeap, daysIn, isYear, isGregorian, areDigits, isDay, isTime, startsWith, isDrift, isRevs, isFirstDate, isFirstDay, kindOk}
-use Rattle.kinds.specs.Meaning.{hundredths, signed, drift, driftRead}
+use Rattle.kinds.specs.Meaning.{hundredths, signed, drift, driftRead, revs, revsRead}
 use Rattle.kinds.specs.declared.DriftRead.the-variants as DriftRead
+use Rattle.kinds.specs.declared.RevsRead.the-variants as RevsRead
 
 -- `-5.00` is -500; `99.99` is 9999; `100.00` no Deriva
 module _ where
@@ -53,3 +54,12 @@ hour-24 = refl
 pub revs-by-hand : kindOk Revs (bytes "#850") ≡ true
 unfolding kindOk isRevs startsWith isNumber allDigits
 revs-by-hand = refl
+
+-- 02, 1/14: `00850` and `#00850` are the same speed, the second entered by hand
+pub revs-measured : revsRead (bytes "00850") ≡ RevsRead.Of (record { number = 850; byhand = false })
+unfolding revsRead revs isRevs startsWith isNumber allDigits numberFrom
+revs-measured = refl
+
+pub revs-typed : revsRead (bytes "#00850") ≡ RevsRead.Of (record { number = 850; byhand = true })
+unfolding revsRead revs isRevs startsWith isNumber allDigits numberFrom
+revs-typed = refl

@@ -36,16 +36,16 @@ driftRead v = cond (isDrift v) (DriftRead.Of (drift v)) DriftRead.Wrong
 unfoldable pub signedRead : Bool → List ℕ → DriftRead
 signedRead minus v = cond (isFixed 2 5 v) (DriftRead.Of (signed minus (hundredths v))) DriftRead.Wrong
 
--- "revs: N 5, with `#` before it where entered by hand": the number, without the mark
+-- "revs: N 5, with `#` before it where entered by hand"; 02, 1/14: "the number and whether `#` stood before it"
 unfoldable pub revs : List ℕ → Revs
-revs v = record { number = cond (startsWith 35 v) (number (drop 1 v)) (number v) }
+revs v = record { number = cond (startsWith 35 v) (number (drop 1 v)) (number v); byhand = startsWith 35 v }
 
 unfoldable pub revsRead : List ℕ → RevsRead
 revsRead v = cond (isRevs v) (RevsRead.Of (revs v)) RevsRead.Wrong
 
--- the part behind a mark or without one
-unfoldable pub unmarkedRead : List ℕ → RevsRead
-unmarkedRead v = cond (isNumber 5 v) (RevsRead.Of (record { number = number v })) RevsRead.Wrong
+-- the part behind `#` or without it, and which of the two it is
+unfoldable pub bareRead : Bool → List ℕ → RevsRead
+bareRead byhand v = cond (isNumber 5 v) (RevsRead.Of (record { number = number v; byhand = byhand })) RevsRead.Wrong
 
 -- 01, Bookings: "the number yyyymmdd, zeros included"
 unfoldable pub dayNumber : List ℕ → ℕ

@@ -11,7 +11,7 @@ ghost use Rattle.lines.specs.Bytes.{allPrintable};
 ghost use Rattle.kinds.specs.Kind.{kindOf, words, vehicleTypes, categories, yesNo, petrolDirectives, brakeControls, links, gasLinks, counterLinks};
 ghost use Rattle.kinds.specs.Digits.{isDigit, allDigits, number as Digits·number};
 ghost use Rattle.kinds.specs.Value.{isNumber, isFixed, isLeap, daysIn, isYear, isGregorian, areDigits, isDay, isTime, wordIndex, isWordAt, isWord, wordsOf, startsWith, isDrift, isRevs, isFirstDate, isFirstDay, isSorN, allSorN, isPositions, kindOk, kindKept};
-ghost use Rattle.kinds.specs.Meaning.{numberRead, hundredths as Meaning·hundredths, signed as Meaning·signed, signedRead, driftRead, unmarkedRead, revsRead, dayNumber, dayRead};
+ghost use Rattle.kinds.specs.Meaning.{numberRead, hundredths as Meaning·hundredths, signed as Meaning·signed, signedRead, driftRead, bareRead, revs, revsRead, dayNumber, dayRead};
 
 // A number, or that the value is no such number.
 pub enum NumberRead {
@@ -25,8 +25,10 @@ pub enum DriftRead {
     Wrong,
 }
 
+// Revolutions per minute, and whether they were entered by hand.
 pub struct Revs {
     pub number: u32,
+    pub byhand: bool,
 }
 
 pub enum RevsRead {
@@ -595,25 +597,34 @@ pub fn read_drift(value: &[u8]) -> DriftRead
     }
 }
 
-fn read_unmarked(value: &[u8]) -> RevsRead
-    ensures { λ r. ⌜ r ≡ unmarkedRead (now (value .entry)) ⌝ }
+// Revs without `#`, and whether it stood before them.
+fn read_bare(byhand: bool, value: &[u8]) -> RevsRead
+    ensures { λ r. ⌜ r ≡ bareRead byhand (now (value .entry)) ⌝ }
 {
     if is_number(value, 5) {
         return RevsRead::Of(Revs {
             number: number(value),
+            byhand: byhand,
         });
     }
     RevsRead::Wrong
 }
 
-// The revolutions per minute, without the mark of an entry by hand.
+// Whether revs were entered by hand (02, 1/14), where their number is not asked for.
+pub fn is_by_hand(value: &[u8]) -> bool
+    ensures { λ r. ⌜ r ≡ revs (now (value .entry)) .byhand ⌝ }
+{
+    starts_with(value, b'#')
+}
+
+// The revolutions per minute, and whether `#` stood before them.
 pub fn read_revs(value: &[u8]) -> RevsRead
     ensures { λ r. ⌜ r ≡ revsRead (now (value .entry)) ⌝ }
 {
-    if starts_with(value, b'#') {
-        read_unmarked(&value[1..])
+    if is_by_hand(value) {
+        read_bare(true, &value[1..])
     } else {
-        read_unmarked(value)
+        read_bare(false, value)
     }
 }
 

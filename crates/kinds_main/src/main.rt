@@ -41,7 +41,12 @@ fn show_drift(value: &[u8]) {
 
 fn show_revs(value: &[u8]) {
     match kinds::read_revs(value) {
-        RevsRead::Of(revs) => show_decimal(revs.number),
+        RevsRead::Of(revs) => {
+            show_decimal(revs.number);
+            if revs.byhand {
+                io::write_all(1, b" by hand");
+            }
+        }
         RevsRead::Wrong => (),
     }
 }
