@@ -48,7 +48,11 @@
  *     5        judge: mark of drift, 0 or 1       0
  *     6        judge: mark of suspension          0
  *     7        judge: mark of gas                 0
+ *     9        judge, read: 1 where the idle      0
+ *              speed was entered by hand, else 0
  *     others   0                                  0
+ *
+ * The idle speed is NumGiriMotoreMin of gas, entered by hand where its value begins with `#`.
  *
  * The calls that say what the judge goes by:
  *
@@ -131,8 +135,9 @@ extern "C" {
 /* Judges a whole set: the stem of its files and six slices, each empty where it is not given. Refuses with 1 to 15.
  *
  * Accepted: answer 3 and 4 are the axle counts of drift and suspension, 0 for a file that is not given; 5, 6 and 7 are
- * the marks of drift, suspension and gas, 1 where the file is given with CodErrore filled, else 0. The places have the
- * pairs of all files that were read. */
+ * the marks of drift, suspension and gas, 1 where the file is given with CodErrore filled, else 0; 9 is 1 where gas is
+ * given and its idle speed was entered by hand, 0 where it was measured or gas is not given. Which sets pass does not
+ * hang on 9. The places have the pairs of all files that were read. */
 uint32_t mctc_judge(const uint8_t *stem, size_t stem_length,
                     const uint8_t *ac2, size_t ac2_length,
                     const uint8_t *acc, size_t acc_length,
@@ -146,8 +151,9 @@ uint32_t mctc_judge(const uint8_t *stem, size_t stem_length,
 /* Reads one file alone, by its number. Refuses, in this order, with 1, 16 where the number is not 1 to 5, 11 where the
  * text is empty, then 3 to 9. A refusal carries the file as handed in, 0 with 1.
  *
- * Accepted: answer 3 is the axle count, 0 for files 1, 2 and 5. The places have the pairs of this file; all others are
- * 0. */
+ * Accepted: answer 3 is the axle count, 0 for files 1, 2 and 5; 9 is 1 for file 5 with an idle speed that was entered by
+ * hand, 0 for one that was measured or is empty, and for every other file. The places have the pairs of this file; all
+ * others are 0. */
 uint32_t mctc_read(uint32_t file,
                    const uint8_t *text, size_t text_length,
                    uint32_t *places, size_t places_length,

@@ -5,7 +5,7 @@ use std::io::{self, ErrorKind, Write};
 use std::os::unix::ffi::OsStrExt;
 use std::path::Path;
 
-use mctc::Refusal;
+use mctc::{FileAcceptance, Refusal};
 
 use crate::case::IDENTIFICATION;
 use crate::disk::{read_file, MOST};
@@ -18,7 +18,8 @@ use crate::shown::{self, counted};
 
 pub fn run(input: &Input, new: Option<&Path>, out: &mut Output) -> Result<Status, Trouble> {
     let read = input.read()?;
-    let written = match read.verdict.and_then(|axles| in_table_order(&read, axles)) {
+    let in_order = |acceptance: FileAcceptance| in_table_order(&read, acceptance.axles);
+    let written = match read.verdict.and_then(in_order) {
         Ok(written) => written,
         // Standard output is for the file alone.
         Err(refusal) => {

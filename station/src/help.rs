@@ -48,7 +48,13 @@ the cause where it is known, what is expected there, and what to do.
 With STEM: the verdict on that set. With --json one object: stem, accepted,
 number, file, line (0 for none), name, meaning, text, remark, to_do, cause,
 expected, mend, drift_axles, suspension_axles, drift_mark, suspension_mark,
-gas_mark, empty, notes; or stem and error where a file cannot be read.
+gas_mark, idle_by_hand, empty, notes; or stem and error where a file cannot be
+read.
+
+Of an accepted set it says which files are marked, that is, have CodErrore
+filled; and apart from that, whether gas's idle speed was measured or entered by
+hand, with `#` before the number in NumGiriMotoreMin. Either may pass. In the
+object idle_by_hand is false also where gas is not given or the set is refused.
 
 An accepted set may have notes: values that are near a word that counts, as
 `benzina` is near `BENZINA`, and by which something would be due; and drift and
@@ -73,10 +79,10 @@ files that pass, where the new booking passes. With --json a member further: an
 array of objects with number, file, line, name, meaning, text, remark, to_do,
 cause, expected, mend.
 
-Without STEM: a line for each set, with --all also one for each further finding,
-then how many were accepted, refused and not judged. With --json one object:
-folder, sets (an array of the objects above), accepted, refused, not_judged; or
-folder and error.
+Without STEM: a line for each set, which tells marked files and an idle speed
+entered by hand, with --all also one for each further finding, then how many
+were accepted, refused and not judged. With --json one object: folder, sets (an
+array of the objects above), accepted, refused, not_judged; or folder and error.
 
 Exit status: 0 all accepted; 1 one is refused; 2 bad usage, no set in the
 folder, no file of that stem, or a file cannot be read.
@@ -123,10 +129,11 @@ Exit status: 0 printed; 2 bad usage.
 pub const READ: &str = "\
 mctc read FILE [--file N]
 
-Reads one file alone and prints its axle count and each entry with its value, in
-table order; of an identification answer its ten fields. Or the refusal (3 to 9,
-11 for an empty file, 14 of an identification answer). What is due and the rules
-between files are left to `mctc judge`.
+Reads one file alone and prints its axle count, of gas also that the idle speed
+was entered by hand where it was, and each entry with its value, in table order;
+of an identification answer its ten fields. Or the refusal (3 to 9, 11 for an
+empty file, 14 of an identification answer). What is due and the rules between
+files are left to `mctc judge`.
 
   --file N   the file's number: 1 new booking, 2 old booking, 3 drift,
              4 suspension, 5 gas, 6 identification; without it the ending of

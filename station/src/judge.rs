@@ -6,7 +6,7 @@ use std::path::Path;
 
 use mctc::{Acceptance, Places, Refusal};
 
-use crate::case::Case;
+use crate::case::{Case, GAS};
 use crate::disk::{stem_shown, Folder, SetOnDisk};
 use crate::edit::Edit;
 use crate::explain::{explain, Explained, Subject};
@@ -16,7 +16,7 @@ use crate::json::Object;
 use crate::not_as_due::doubts;
 use crate::output::{Output, Status, Trouble};
 use crate::page::labelled;
-use crate::shown::counted;
+use crate::shown::{counted, IDLE_BY_HAND};
 
 const DRIFT: u32 = 3;
 const SUSPENSION: u32 = 4;
@@ -177,7 +177,8 @@ impl Judged {
     pub fn in_short(&self) -> String {
         let verdict = match &self.verdict {
             Ok(acceptance) => {
-                format!("accepted{}", marks_in_short(acceptance))
+                let (marks, idle) = (marks_in_short(acceptance), idle_in_short(acceptance));
+                format!("accepted{marks}{idle}")
             }
             Err(explained) => {
                 let number = explained.refusal.number;
@@ -213,15 +214,18 @@ impl Judged {
             true => "marked: CodErrore is filled",
             false => "no mark",
         };
-        let measured = |axles: u32, is_set: bool| {
+        let with_axles = |axles: u32, is_set: bool| {
             let axles = counted(axles as usize, "axle");
             format!(", {axles}, {}", mark(is_set))
         };
         match file.number {
             2 if self.places.value(2, 0).is_none() => ", not read with category L".to_string(),
-            DRIFT => measured(acceptance.drift_axles, acceptance.drift_mark),
-            SUSPENSION => measured(acceptance.suspension_axles, acceptance.suspension_mark),
-            5 => format!(", {}", mark(acceptance.gas_mark)),
+            DRIFT => with_axles(acceptance.drift_axles, acceptance.drift_mark),
+            SUSPENSION => with_axles(acceptance.suspension_axles, acceptance.suspension_mark),
+            GAS => {
+                let (mark, idle) = (mark(acceptance.gas_mark), idle(acceptance));
+                format!(", {mark}; {idle}")
+            }
             _ => String::new(),
         }
     }
@@ -230,7 +234,7 @@ impl Judged {
     pub fn json(&self) -> String {
         let (refusal, acceptance) = match &self.verdict {
             Ok(acceptance) => (NO_REFUSAL, *acceptance),
-            Err(explained) => (explained.refusal, NO_ACCEPTANCE),
+            Err(explained) => (explained.refusal, Acceptance::default()),
         };
         let explained = self.verdict.as_ref().err();
         let object = Object::default()
@@ -242,6 +246,7 @@ impl Judged {
             .truth("drift_mark", acceptance.drift_mark)
             .truth("suspension_mark", acceptance.suspension_mark)
             .truth("gas_mark", acceptance.gas_mark)
+            .truth("idle_by_hand", acceptance.idle_by_hand)
             .strings("empty", self.set.empty_files())
             .strings("notes", self.noted.iter().map(String::as_str));
         let object = match &self.further {
@@ -309,14 +314,23 @@ fn marks_in_short(acceptance: &Acceptance) -> String {
     }
 }
 
-/// The numbers of an acceptance where there is a refusal, and the other way round.
-const NO_ACCEPTANCE: Acceptance = Acceptance {
-    drift_axles: 0,
-    suspension_axles: 0,
-    drift_mark: false,
-    suspension_mark: false,
-    gas_mark: false,
-};
+/// Where the idle speed of a given gas file came from. A set whose gas file has none is not accepted.
+fn idle(acceptance: &Acceptance) -> &'static str {
+    match acceptance.idle_by_hand {
+        true => IDLE_BY_HAND,
+        false => "idle speed measured",
+    }
+}
+
+/// What stands behind the marked files of an acceptance; `;`, so that it does not look like one of them.
+fn idle_in_short(acceptance: &Acceptance) -> String {
+    match acceptance.idle_by_hand {
+        true => format!("; {IDLE_BY_HAND}"),
+        false => String::new(),
+    }
+}
+
+/// The numbers of a refusal where there is an acceptance.
 const NO_REFUSAL: Refusal = Refusal {
     number: 0,
     file: 0,

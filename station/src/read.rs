@@ -3,7 +3,7 @@
 use std::os::unix::ffi::OsStrExt;
 use std::path::{Path, PathBuf};
 
-use mctc::{Places, Refusal};
+use mctc::{FileAcceptance, Places, Refusal};
 
 use crate::case::{Case, IDENTIFICATION};
 use crate::disk::{read_file, FileOnDisk};
@@ -11,7 +11,7 @@ use crate::explain::{explain, Subject};
 use crate::file_types::{by_number, split_name};
 use crate::identification;
 use crate::output::{Output, Status, Trouble};
-use crate::shown::{self, counted};
+use crate::shown::{self, counted, IDLE_BY_HAND};
 use crate::table::{self, Section};
 
 /// The file to be read: its path, and its number where the command says it.
@@ -26,8 +26,7 @@ pub struct FileRead {
     pub number: u32,
     pub file: FileOnDisk,
     pub places: Places,
-    /// The axle count.
-    pub verdict: Result<u32, Refusal>,
+    pub verdict: Result<FileAcceptance, Refusal>,
 }
 
 pub fn run(input: &Input, out: &mut Output) -> Result<Status, Trouble> {
@@ -36,8 +35,8 @@ pub fn run(input: &Input, out: &mut Output) -> Result<Status, Trouble> {
         return read.identification(out);
     }
     match read.verdict {
-        Ok(axles) => {
-            out.text(&read.page(axles))?;
+        Ok(acceptance) => {
+            out.text(&read.page(acceptance))?;
             Ok(Status::Accepted)
         }
         Err(refusal) => {
@@ -99,10 +98,13 @@ impl FileRead {
         format!("{}: {title} (file {})", self.file.name, self.number)
     }
 
-    fn page(&self, axles: u32) -> String {
+    fn page(&self, acceptance: FileAcceptance) -> String {
         let mut page = self.title();
-        if axles > 0 {
-            page += &format!(", {}", counted(axles as usize, "axle"));
+        if acceptance.axles > 0 {
+            page += &format!(", {}", counted(acceptance.axles as usize, "axle"));
+        }
+        if acceptance.idle_by_hand {
+            page += &format!(", {IDLE_BY_HAND}");
         }
         page.push('\n');
         let sections = table::sections(self.number);

@@ -6,6 +6,9 @@ use std::os::unix::ffi::OsStrExt;
 /// 01, Lines: no line of right form is longer, so each such line is shown whole.
 const LONGEST_SHOWN: usize = 512;
 
+/// Of a gas file, where the library says so: `#` stands before its NumGiriMotoreMin.
+pub const IDLE_BY_HAND: &str = "idle speed entered by hand";
+
 /// Bytes of 20 to 7E hex as they stand, others as `\xHH`.
 pub fn bytes(bytes: &[u8]) -> String {
     let mut text = String::with_capacity(bytes.len());

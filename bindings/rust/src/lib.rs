@@ -69,8 +69,8 @@ impl fmt::Display for Refusal {
 
 impl std::error::Error for Refusal {}
 
-/// What the acceptance of a set carries.
-#[derive(Clone, Copy, Debug, PartialEq, Eq)]
+/// What the acceptance of a set carries. The default is that of a set whose result files are all not given.
+#[derive(Clone, Copy, Debug, Default, PartialEq, Eq)]
 pub struct Acceptance {
     /// 0 where drift is not given.
     pub drift_axles: u32,
@@ -80,6 +80,18 @@ pub struct Acceptance {
     pub drift_mark: bool,
     pub suspension_mark: bool,
     pub gas_mark: bool,
+    /// Gas is given, and its idle speed NumGiriMotoreMin was entered by hand: `#` stands before the number. False where
+    /// it was measured.
+    pub idle_by_hand: bool,
+}
+
+/// What the acceptance of a file read alone carries.
+#[derive(Clone, Copy, Debug, Default, PartialEq, Eq)]
+pub struct FileAcceptance {
+    /// 0 for files 1, 2 and 5.
+    pub axles: u32,
+    /// The file is gas, with an idle speed that was entered by hand. False where it was measured or is empty.
+    pub idle_by_hand: bool,
 }
 
 /// Start and length of each value in its file.
@@ -387,13 +399,29 @@ pub fn judge(set: &Set, places: &mut Places) -> Result<Acceptance, Refusal> {
             drift_mark: drift == 1,
             suspension_mark: suspension == 1,
             gas_mark: gas == 1,
+            idle_by_hand: idle_by_hand(&values),
         }
     })
 }
 
-/// Reads one file alone. The axle count, 0 for files 1, 2 and 5; the places have the pairs of this file.
-pub fn read(file: u32, text: &[u8], places: &mut Places) -> Result<u32, Refusal> {
-    answered(|answer| lent::read(file, text, &mut places.0, answer)).map(|[axles, ..]| axles)
+/// Reads one file alone; the places have the pairs of this file.
+///
+/// ```
+/// let gas = include_bytes!(concat!(
+///     env!("CARGO_MANIFEST_DIR"),
+///     "/../../samples/accepted-car/AA123456.GAS"
+/// ));
+/// let read = mctc::read(5, gas, &mut mctc::Places::default()).unwrap();
+/// assert_eq!(read.axles, 0);
+/// assert!(read.idle_by_hand, "NumGiriMotoreMin is #850");
+/// ```
+pub fn read(file: u32, text: &[u8], places: &mut Places) -> Result<FileAcceptance, Refusal> {
+    let values = answered(|answer| lent::read(file, text, &mut places.0, answer))?;
+    let [axles, ..] = values;
+    Ok(FileAcceptance {
+        axles,
+        idle_by_hand: idle_by_hand(&values),
+    })
 }
 
 /// Writes one file from a text and the pairs of its values, in the order of its table. The length of what is written.
@@ -493,8 +521,16 @@ fn text_of(output: &[u8], length: u32) -> String {
     String::from_utf8_lossy(bytes).into_owned()
 }
 
-/// Makes a call with an answer array of its own: what an acceptance carries, from number 3 on, or the refusal.
-fn answered(call: impl FnOnce(&mut [u32]) -> u32) -> Result<[u32; ANSWER - 3], Refusal> {
+/// What an acceptance carries: the numbers of the answer from number 3 on.
+type Values = [u32; ANSWER - 3];
+
+/// Number 9 of the answer, where judging and reading alone have it.
+fn idle_by_hand(values: &Values) -> bool {
+    values[9 - 3] == 1
+}
+
+/// Makes a call with an answer array of its own: what an acceptance carries, or the refusal.
+fn answered(call: impl FnOnce(&mut [u32]) -> u32) -> Result<Values, Refusal> {
     let mut answer = [0; ANSWER];
     call(&mut answer);
     let [number, file, line, values @ ..] = answer;

@@ -3,7 +3,7 @@
 use std::fs;
 use std::path::Path;
 
-use mctc::{Acceptance, Due, Places, Refusal, Set};
+use mctc::{Acceptance, Due, FileAcceptance, Places, Refusal, Set};
 
 fn sample(name: &str) -> Vec<u8> {
     let samples = Path::new(env!("CARGO_MANIFEST_DIR")).join("../../samples");
@@ -31,6 +31,7 @@ fn a_set_is_judged() {
         drift_mark: true,
         suspension_mark: false,
         gas_mark: false,
+        idle_by_hand: false,
     };
     assert_eq!(mctc::judge(&set, &mut places), Ok(acceptance));
     let third = places.value(3, 18).expect("the third axle");
@@ -55,20 +56,80 @@ fn a_set_is_judged() {
 fn a_file_is_read_and_written() {
     let text = sample("accepted-car/AA123456.SOS");
     let mut places = Places::default();
-    let axles = mctc::read(4, &text, &mut places).expect("it is read");
-    assert_eq!(axles, 2);
+    let read = FileAcceptance {
+        axles: 2,
+        idle_by_hand: false,
+    };
+    assert_eq!(mctc::read(4, &text, &mut places), Ok(read));
     let mut output = vec![0; text.len()];
     assert_eq!(
-        mctc::write(&text, &places, 4, axles, &mut output),
+        mctc::write(&text, &places, 4, read.axles, &mut output),
         Ok(text.len())
     );
     assert!(output.starts_with(b"[Sospensioni]\r\nMarca="));
     assert_eq!(
-        mctc::write(&text, &places, 4, axles, &mut []),
+        mctc::write(&text, &places, 4, read.axles, &mut []),
         Err(refusal(18, 4, 0))
     );
     assert_eq!(mctc::read(4, &[], &mut places), Err(refusal(11, 4, 0)));
     assert_eq!(mctc::read(6, &text, &mut places), Err(refusal(16, 6, 0)));
+}
+
+/// A gas file with another idle speed than `#850`.
+fn gas_with_idle(speed: &str) -> Vec<u8> {
+    let gas = sample("accepted-car/AA123456.GAS");
+    let gas = String::from_utf8(gas).expect("a text");
+    assert!(gas.contains("NumGiriMotoreMin=#850\r\n"));
+    gas.replace("=#850\r\n", &format!("={speed}\r\n"))
+        .into_bytes()
+}
+
+#[test]
+fn a_set_says_whether_its_idle_speed_was_entered_by_hand() {
+    let [ac2, acc, drift, suspension, identification] = ["AC2", "ACC", "DER", "SOS", "ID"]
+        .map(|end| sample(&format!("accepted-car/AA123456.{end}")));
+    let judge = |gas: &[u8]| {
+        let set = Set {
+            stem: b"AA123456",
+            ac2: &ac2,
+            acc: &acc,
+            drift: &drift,
+            suspension: &suspension,
+            gas,
+            identification: &identification,
+        };
+        mctc::judge(&set, &mut Places::default())
+    };
+    let measured = Acceptance {
+        drift_axles: 2,
+        suspension_axles: 2,
+        ..Acceptance::default()
+    };
+    let by_hand = Acceptance {
+        idle_by_hand: true,
+        ..measured
+    };
+    assert_eq!(judge(&gas_with_idle("#850")), Ok(by_hand));
+    assert_eq!(judge(&gas_with_idle("850")), Ok(measured));
+    assert_eq!(judge(&gas_with_idle("#")), Err(refusal(9, 5, 2)));
+    assert_eq!(judge(&gas_with_idle("")), Err(refusal(10, 5, 2)));
+}
+
+#[test]
+fn a_file_says_whether_its_idle_speed_was_entered_by_hand() {
+    let by_hand = |file, text: &[u8]| {
+        let read = mctc::read(file, text, &mut Places::default()).expect("it is read");
+        assert_eq!(read.axles > 0, matches!(file, 3 | 4));
+        read.idle_by_hand
+    };
+    assert!(by_hand(5, &gas_with_idle("#850")));
+    assert!(by_hand(5, &gas_with_idle("#0")));
+    assert!(!by_hand(5, &gas_with_idle("850")));
+    assert!(!by_hand(5, &gas_with_idle("")), "there is no idle speed");
+    for (file, end) in [(1, "AC2"), (2, "ACC"), (3, "DER"), (4, "SOS")] {
+        let text = sample(&format!("accepted-car/AA123456.{end}"));
+        assert!(!by_hand(file, &text), "{end} has no idle speed");
+    }
 }
 
 #[test]

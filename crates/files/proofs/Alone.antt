@@ -1,15 +1,16 @@
 -- One file read alone: a law for each way out. Assumes nothing.
 use Prim.Native.Nat.{ℕ, zero, suc, _-_, _≤_, _<_}
 use native.Mathlib.Omega.{arith}
-use mathlib.Core.Path.{_≡_, ap, subst, _∙_}
-use mathlib.Core.Bool.{true, false}
-use mathlib.Core.List.{List}
+use mathlib.Core.Path.{_≡_, ap, sym, subst, _∙_}
+use mathlib.Core.Bool.{Bool, true, false}
+use mathlib.Core.List.{List, map}
 use lib.ListN.{length}
 use borrow.Author.Tests.{le-leb, lt-leb, eq-eqb, ne-eqb}
 use Rattle.refusals.specs.declared.RefusalKind.the-variants.{PlacesTooShort, FileOrAxles, SliceNotAsDue}
-use Rattle.places.specs.Places.{cleared}
-use Rattle.tables.specs.File.{fixedSections, leastPlaces, leastSections, ofNumber, isFile, tableOf}
-use Rattle.files.specs.Files.{readNumbered, axlesOf}
+use Rattle.places.specs.Places.{cleared, valueAt}
+use Rattle.tables.specs.File.{File, fileNumber, fixedSections, leastPlaces, leastSections, ofNumber, isFile, tableOf}
+use Rattle.tables.specs.Value.{valuesOf, Held, NumberHeld}
+use Rattle.files.specs.Files.{readNumbered, axlesOf, isByHand, byHandIn}
 use Rattle.files.specs.Steps.{ReadsText}
 use Rattle.files.specs.Alone.{refusedAs, readGiven, readAlone, aloneAnswer, alonePlaces, ReadsCleared, ReadsAlone}
 use Rattle.files.specs.declared.Fault.{Fault}
@@ -18,10 +19,12 @@ use Rattle.files.specs.declared.FileAnswer.the-variants.{Accepted}
 use Rattle.files.specs.declared.TextAnswer.{TextAnswer}
 use Rattle.files.specs.declared.TextAnswer.the-variants.{Sections, Faulty}
 use Rattle.tables.specs.File.{sections, axleSections, axlesFrom}
-use Rattle.tables.proofs.Files.{of-map}
+use Rattle.tables.proofs.Files.{of-number, is-file}
+use Rattle.tables.proofs.Values.{held-number}
 use Rattle.reading.proofs.Tables.{number-distinct}
 use Rattle.reading.proofs.Theorem.{sound}
 use Rattle.files.proofs.Theorem.{by-inv}
+use Rattle.files.proofs.Texts.{text-held, text-values}
 
 module _ (n : ℕ) (s p : List ℕ) where
   pub cleared-empty : length s ≡ 0 → ReadsCleared n s p p (refusedAs SliceNotAsDue n 0)
@@ -39,13 +42,36 @@ module _ (n : ℕ) (s p : List ℕ) where
         let g = filled ∙ v .0 in
         record { answer = rw g; places = rw g (v .1) }
 
-    pub cleared-read : (c : ℕ) → r ≡ Sections c → (a : ℕ) → a ≡ c - ofNumber 0 (λ f. length (fixedSections f)) n → ReadsCleared n s p q (Accepted (record { axles = a }))
-    cleared-read c e a k =
-        let v = subst (λ (y : TextAnswer). ReadsText n s y p q ls) e w in
-        let g = filled ∙ v .1 in
-        let z : c - 0 ≡ c = omega arith in
-        let axles = k ∙ of-map (λ (m : ℕ). c - m) 0 (λ f. length (fixedSections f)) n ∙ ap (λ (m : ℕ). ofNumber m (λ f. axlesOf f c) n) z in
-        record { answer = rw (g, axles); places = rw g (v .2) }
+    module _ (enough : leastPlaces ≤ length p) (is : isFile n ≡ true) (c : ℕ) (e : r ≡ Sections c) (a : ℕ) (k : a ≡ c - ofNumber 0 (λ f. length (fixedSections f)) n) where
+      abbrev v : ReadsText n s (Sections c) p q ls
+      v = subst (λ (y : TextAnswer). ReadsText n s y p q ls) e w
+
+      abbrev file : File
+      file = is-file n is .0
+
+      number : n ≡ fileNumber file
+      number = is-file n is .1
+
+      axles-are : a ≡ axlesOf file c
+      axles-are = k ∙ ap (λ (m : ℕ). c - m) (of-number 0 (λ f. length (fixedSections f)) file n number)
+
+      pub read-held : NumberHeld n a s q
+      read-held = held-number file n a s q number (subst (λ (m : ℕ). Held file m s q) (sym axles-are) (text-held file n number s p q ls c v enough))
+
+      by-hand : byHandIn n (λ f. valuesOf f a s q) ≡ byHandIn n (λ f. map (valueAt s) (v .0))
+      by-hand =
+          of-number false (λ f. isByHand f (valuesOf f a s q)) file n number
+          ∙ ap (λ (m : ℕ). isByHand file (valuesOf file m s q)) axles-are
+          ∙ ap (isByHand file) (text-values file n number s p q ls c v enough)
+          ∙ sym (of-number false (λ f. isByHand f (map (valueAt s) (v .0))) file n number)
+
+      pub cleared-read : (h : Bool) → h ≡ byHandIn n (λ f. valuesOf f a s q) → ReadsCleared n s p q (Accepted (record { axles = a; byhand = h }))
+      cleared-read h i =
+          let g = filled ∙ v .1 in
+          record {
+            answer = rw (g, i ∙ by-hand, axles-are ∙ sym (of-number c (λ f. axlesOf f c) file n number));
+            places = rw g (v .2);
+          }
 
 pub fixed-least : (n : ℕ) → ofNumber 0 (λ f. length (fixedSections f)) n ≤ ofNumber 0 leastSections n
 unfolding ofNumber leastSections sections fixedSections axleSections axlesFrom

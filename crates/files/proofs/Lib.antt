@@ -4,5 +4,6 @@ pub mod Numbers
 pub mod Steps
 pub mod Theorem
 pub mod Texts
+pub mod ByHand
 pub mod Alone
 pub mod Pairs

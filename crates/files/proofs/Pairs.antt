@@ -4,7 +4,7 @@ use native.Mathlib.Omega.{arith}
 use mathlib.Core.Path.{_≡_, refl, ap, sym, subst, _∙_}
 use mathlib.Core.Bool.{Bool, true, false, cond}
 use mathlib.Core.Option.{some}
-use mathlib.Core.List.{List}
+use mathlib.Core.List.{List, map}
 use lib.Dec.{eqb, leb}
 use lib.ListN.{length}
 use borrow.Author.Tests.{leb-true, le-leb, lt-leb, ne-eqb}
@@ -12,7 +12,7 @@ use Rattle.lines.proofs.Bools.{clash}
 use Rattle.refusals.specs.Refusals.{numberOf}
 use Rattle.refusals.specs.Answer.{Answer, refusal, acceptance, refusalOf}
 use Rattle.refusals.specs.declared.Refusal.{Refusal}
-use Rattle.places.specs.Places.{Pair, setPairs, pairsAt, valuesAt, cleared, Within}
+use Rattle.places.specs.Places.{Pair, setPairs, pairsAt, valueAt, valuesAt, cleared, Within}
 use Rattle.places.proofs.Laws.{set-length, drop-pairs, cleared-length, cleared-drop}
 use Rattle.tables.specs.File.{File, ac2, acc, drift, suspension, gas, fileNumber, fileOf, isFile, ofNumber, hasAxles, fixedSections, sections, allSections, leastSections, entries, firstPair, leastPlaces, tableOf, mostAxles}
 use Rattle.tables.proofs.Files.{of-file, of-number, table-of, file-of, is-file}
@@ -21,7 +21,7 @@ use Rattle.reading.specs.Tables.{tableLength}
 use Rattle.reading.proofs.Tables.{tables-distinct}
 use Rattle.reading.proofs.Formed.{text-length}
 use Rattle.reading.proofs.Theorem.{sound}
-use Rattle.files.specs.Files.{readFile, readNumbered, axlesOf, IsFile}
+use Rattle.files.specs.Files.{readFile, readNumbered, axlesOf, IsFile, isByHand, byHandIn}
 use Rattle.files.specs.Alone.{accepted, answerIs, answerOf, pairsSet, readGiven, readAlone, aloneAnswer, alonePlaces, ReadsAlone}
 use Rattle.files.specs.declared.FileAcceptance.{FileAcceptance}
 use Rattle.files.specs.declared.FileAnswer.{FileAnswer}
@@ -70,8 +70,8 @@ axles-in (refusal k f l) = 0
 axles-in (acceptance a) = a .axles
 
 module _ (n : ℕ) (s p q : List ℕ) (axles : ℕ) (l : leastPlaces ≤ length p) (c : ℕ) (ps : List Pair) (ls : List ℕ) where
-  alone-read : readAlone n s ≡ read c ps ls → acceptance (accepted axles) ≡ answerOf n (read c ps ls) → q ≡ pairsSet n (read c ps ls) (cleared leastPlaces p) → AloneRead n s p q axles
-  alone-read e a d =
+  alone-read : (byhand : Bool) → readAlone n s ≡ read c ps ls → acceptance (accepted axles byhand) ≡ answerOf n s (read c ps ls) → q ≡ pairsSet n (read c ps ls) (cleared leastPlaces p) → AloneRead n s p q axles
+  alone-read byhand e a d =
       let v = alone-inv n s c ps ls e in
       let f : File = is-file n (v .0) .0 in
       let g : n ≡ fileNumber f = is-file n (v .0) .1 in
@@ -100,11 +100,11 @@ module _ {n : ℕ} {s p q : List ℕ} {r : FileAnswer} (w : ReadsAlone n s p q r
   unfolding aloneAnswer alonePlaces
   accepted-inv x e = go (leb leastPlaces (length p)) refl (sym (ap answerIs e) ∙ w .answer) (w .places)
     where
-      given : leastPlaces ≤ length p → (v : Reading) → readAlone n s ≡ v → acceptance x ≡ answerOf n v → q ≡ pairsSet n v (cleared leastPlaces p) → AloneRead n s p q (x .axles)
+      given : leastPlaces ≤ length p → (v : Reading) → readAlone n s ≡ v → acceptance x ≡ answerOf n s v → q ≡ pairsSet n v (cleared leastPlaces p) → AloneRead n s p q (x .axles)
       given l (refused k i) h a d = clash (cc)
-      given l (read c ps ls) h a d = alone-read n s p q (x .axles) l c ps ls h a d
+      given l (read c ps ls) h a d = alone-read n s p q (x .axles) l c ps ls (x .byhand) h a d
 
-      go : (b : Bool) → leb leastPlaces (length p) ≡ b → acceptance x ≡ cond b (answerOf n (readAlone n s)) (refusal 1 0 0)
+      go : (b : Bool) → leb leastPlaces (length p) ≡ b → acceptance x ≡ cond b (answerOf n s (readAlone n s)) (refusal 1 0 0)
           → q ≡ cond b (pairsSet n (readAlone n s) (cleared leastPlaces p)) p → AloneRead n s p q (x .axles)
       go true h a d = given (leb-true leastPlaces (length p) h) (readAlone n s) refl a d
       go false h a d = clash (cc)
@@ -117,7 +117,7 @@ module _ {n : ℕ} {s p q : List ℕ} {r : FileAnswer} (w : ReadsAlone n s p q r
       let b = le-leb leastPlaces (length p) l in
       given (readAlone n s) refl (rw b at (sym (ap answerIs e) ∙ w .answer)) (rw b at (w .places))
     where
-      given : (v : Reading) → readAlone n s ≡ v → refusalOf {A = FileAcceptance} x ≡ answerOf n v → q ≡ pairsSet n v (cleared leastPlaces p)
+      given : (v : Reading) → readAlone n s ≡ v → refusalOf {A = FileAcceptance} x ≡ answerOf n s v → q ≡ pairsSet n v (cleared leastPlaces p)
           → (readAlone n s ≡ refused (numberOf (x .kind)) (x .line)) × (n ≡ x .file) × (q ≡ cleared leastPlaces p)
       given (refused k i) h a d = (cc, cc, d)
       given (read c ps ls) h a d = clash (cc)
@@ -170,9 +170,9 @@ some-bytes drift n = omega arith
 some-bytes suspension n = omega arith
 some-bytes gas n = omega arith
 
--- it is accepted with its axle count, and at its pairs stand its values
+-- it is accepted with its axle count and its mark, and at its pairs stand its values
 pub alone-complete : (f : File) (n : ℕ) (vs : List (List ℕ)) (s : List ℕ) → IsFile f n vs s → (p : List ℕ) → leastPlaces ≤ length p
-    → (aloneAnswer (fileNumber f) s p ≡ acceptance (accepted n)) × (valuesAt s (alonePlaces (fileNumber f) s p) (firstPair f) (length (entries f n)) ≡ vs)
+    → (aloneAnswer (fileNumber f) s p ≡ acceptance (accepted n (isByHand f vs))) × (valuesAt s (alonePlaces (fileNumber f) s p) (firstPair f) (length (entries f n)) ≡ vs)
 unfolding aloneAnswer alonePlaces readAlone readGiven
 alone-complete f n vs s h p l =
     let r = read-complete f n vs s h in
@@ -184,7 +184,8 @@ alone-complete f n vs s h p l =
     let file : isFile (fileNumber f) ≡ true = of-file false (λ g. true) f in
     let e : readNumbered (fileNumber f) s ≡ read c ps (r .2) = sym (read-numbered f (fileNumber f) s refl) ∙ r .3 in
     let axles : ofNumber c (λ g. axlesOf g c) (fileNumber f) ≡ axlesOf f c = of-file c (λ g. axlesOf g c) f in
+    let mark : byHandIn (fileNumber f) (λ g. map (valueAt s) ps) ≡ isByHand f (map (valueAt s) ps) = of-file false (λ g. isByHand g (map (valueAt s) ps)) f in
     let first : ofNumber 0 firstPair (fileNumber f) ≡ firstPair f = of-file 0 firstPair f in
     let m : length ps ≡ length (entries f n) = k .many ∙ ap (λ (i : ℕ). length (entries f i)) (r .4) in
     let there = own-pairs f n ps (cleared leastPlaces p) m (pairs-fit f s c ps k) (omega (arith, cleared-length leastPlaces p l)) in
-    (rw (b, file, full, e, axles, r .4), rw (b, file, full, e, first, there) (r .5))
+    (rw (b, file, full, e, axles, mark, r .4, r .5), rw (b, file, full, e, first, there) (r .5))

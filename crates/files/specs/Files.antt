@@ -1,12 +1,15 @@
 -- One file by its table (01, Judging): 3 to 9, and what it is to be the lines of values.
 use Prim.Native.Nat.{ℕ, _-_, _≤_}
 use mathlib.Core.Path.{_≡_}
-use mathlib.Core.Bool.{Bool, true, false, cond}
+use Prim.Native.String.{String}
+use mathlib.Core.Bool.{Bool, true, false, cond, _&&_}
 use mathlib.Core.List.{List}
 use lib.Dec.{leb}
 use lib.ListN.{length}
+use Rattle.kinds.specs.Meaning.{revs}
 use Rattle.tables.specs.Section.{Section}
 use Rattle.tables.specs.File.{File, hasAxles, mostAxles, leastAxles, fixedSections, sections, allSections, leastSections, entries, ofNumber, tableOf}
+use Rattle.tables.specs.Value.{isEntry, of}
 use Rattle.reading.specs.Tables.{mostBytes}
 use Rattle.reading.specs.Fitting.{FitsText, EachKept}
 use Rattle.reading.specs.Reading.{Reading, refused, readText}
@@ -36,3 +39,17 @@ pub record IsFile (f : File) (n : ℕ) (values : List (List ℕ)) (s : List ℕ)
   pub count : AxleCount (hasAxles f) n
   pub fits : FitsText (sections f n) values s
   pub kept : EachKept (entries f n) values
+
+-- ---- 02, 1/14: "which idle speeds came from a person"
+
+-- the entry of the idle speed: gas has it
+abbrev pub idleSpeed : String
+idleSpeed = "NumGiriMotoreMin"
+
+-- "whether `#` stood before it", of a file with these values; "unset where no revs value stands in it"
+unfoldable pub isByHand : File → List (List ℕ) → Bool
+isByHand f vs = isEntry f idleSpeed && revs (of f vs idleSpeed) .byhand
+
+-- the same of the file of a number
+abbrev pub byHandIn : ℕ → (File → List (List ℕ)) → Bool
+byHandIn n values = ofNumber false (λ f. isByHand f (values f)) n

@@ -7,11 +7,13 @@ ghost use Rattle.lines.specs.Bytes.{allPrintable};
 ghost use Rattle.places.specs.Places.{valueAt};
 ghost use mathlib.Core.Bool.{true};
 ghost use Rattle.tables.specs.File.{tableOf, isFile, ofNumber, leastSections, leastPlaces};
+ghost use Rattle.tables.specs.Value.{valuesOf, NumberHeld};
 ghost use Rattle.tables.specs.Row.{names as namesOf, rowCount, mostRows, rowKind};
 ghost use Rattle.tables.specs.Groups.{groupOf, Lent};
 ghost use Rattle.reading.specs.Tables.{mostBytes};
 ghost use Rattle.reading.specs.Reading.{slots, sectionsFound, checkGap, checkAbsent, checkKinds, keptRow, ownerRow};
 ghost use Rattle.reading.specs.Scanning.{Took, Ready};
+ghost use Rattle.files.specs.Files.{byHandIn};
 ghost use Rattle.files.specs.Steps.{KindsOf, ScansFile, SlotsEmpty, ValuesReady, RowsReady, WritesRows, failure, checkIs, JudgesSlots, WriteReady, WritesRead, ReadsSlots, ReadsText};
 ghost use Rattle.files.specs.Alone.{refusedAs, ReadsCleared, ReadsAlone};
 use kinds::numbers::KIND_COUNT;
@@ -22,15 +24,17 @@ use refusals::RefusalKind;
 use tables::MOST_ROWS;
 use tables::groups;
 use tables::groups::Row;
+use tables::pairs;
 use tables::row_kinds;
 use tables::row_kinds::HEADING;
 
 // As many bytes as a file has at most (01, Lines).
 const MOST_BYTES: usize = 16384;
 
-// What an accepted file says: its axle count, 0 for a file without axles.
+// What an accepted file says: its axle count, 0 for a file without axles, and whether its idle speed was entered by hand.
 pub struct FileAcceptance {
     pub axles: u32,
+    pub byhand: bool,
 }
 
 pub enum FileAnswer {
@@ -511,6 +515,17 @@ fn refused(kind: RefusalKind, file: u32, line: u32) -> FileAnswer
     })
 }
 
+// Whether the idle speed of a file whose pairs are in the places was entered by hand (02, 1/14). Only gas has one.
+pub fn is_by_hand(file: u32, axles: usize, text: &[u8], places: &[u32]) -> bool
+    requires { ⌜ NumberHeld file axles (now text) (now places) ⌝ }
+    ensures { λ r. ⌜ r ≡ byHandIn file (λ f. valuesOf f axles (now (text .entry)) (now (places .entry))) ⌝ }
+{
+    if file != tables::GAS {
+        return false;
+    }
+    kinds::is_by_hand(places::value_of(text, places, pairs::GAS_NUM_GIRI_MOTORE_MIN))
+}
+
 // One file alone, whose places are cleared: 11, then 3 to 9.
 fn read_cleared(file: u32, text: &[u8], places: &mut [u32]) -> FileAnswer
     requires { ⌜ (leastPlaces ≤ length (now places)) × (isFile file ≡ true) ⌝ }
@@ -528,8 +543,10 @@ fn read_cleared(file: u32, text: &[u8], places: &mut [u32]) -> FileAnswer
         }
         TextAnswer::Sections(count) => {
             let axles = count - tables::fixed_section_count(file);
+            let byhand = is_by_hand(file, axles, text, places);
             FileAnswer::Accepted(FileAcceptance {
                 axles: axles as u32,
+                byhand: byhand,
             })
         }
     }

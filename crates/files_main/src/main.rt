@@ -114,6 +114,9 @@ fn show_file_answer(answer: FileAnswer) {
         FileAnswer::Accepted(acceptance) => {
             io::write_all(1, b"accepted");
             print_number(acceptance.axles);
+            if acceptance.byhand {
+                io::write_all(1, b" by hand");
+            }
             io::write_all(1, b"\n");
         }
         FileAnswer::Refused(refusal) => show_refusal(refusal),

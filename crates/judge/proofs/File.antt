@@ -16,6 +16,7 @@ use Rattle.rules.specs.Marks.{isMarked}
 use Rattle.rules.specs.declared.Stated.{Stated}
 use Rattle.sets.specs.Records.{isGiven}
 use Rattle.sets.specs.Judge.{FileRead, notRead, judgeFile}
+use Rattle.files.proofs.ByHand.{unread-by-hand}
 use Rattle.judge.specs.Steps.{fileNumbered, noFigures, FileReady, JudgesFile, textJudged, fileJudged}
 use Rattle.judge.specs.declared.Step.{Step}
 use Rattle.judge.specs.declared.Step.the-variants.{Stop, Go}
@@ -47,7 +48,7 @@ module _ (file : ℕ) (stated : Stated) (b : Booking) (s t p : List ℕ) (d : Fi
   module _ (r : Bool) (e : r ≡ ofNumber true (λ f. sliceRight f stated b (isGiven t)) file) (q : r ≡ true) (u : Bool) (eu : u ≡ ofNumber (isGiven t) (λ f. isRead f b (isGiven t)) file) where
     pub file-unread : u ≡ false → JudgesFile f (fileJudged file stated s t p) (Go noFigures) p p
     unfolding setPairs isMarked
-    file-unread k = (notRead, chain true false (right-is r true e q) (read-is u false eu k), refl, refl)
+    file-unread k = (notRead, chain true false (right-is r true e q) (read-is u false eu k), rw (unread-by-hand f) refl, refl)
 
     pub file-read : u ≡ true → (y : Step) (v : List ℕ) → JudgesFile f (textJudged file s t p) y p v → JudgesFile f (fileJudged file stated s t p) y p v
     file-read k y v w = subst (λ (x : Answer FileRead). JudgesFile f x y p v) (sym (chain true true (right-is r true e q) (read-is u true eu k))) w

@@ -40,7 +40,7 @@ abbrev pub figuresOf : File → FileRead → Figures
 figuresOf f g = figuresFrom f (g .axles) (g .values)
 
 abbrev pub noFigures : Figures
-noFigures = record { axles = 0; mark = false }
+noFigures = record { axles = 0; mark = false; byhand = false }
 
 -- by a step; after a refusal nothing
 abbrev pub figuresIn : Step → Figures

@@ -31,6 +31,7 @@ use tables::SUSPENSION;
 const NO_FIGURES: Figures = Figures {
     axles: 0,
     mark: false,
+    byhand: false,
 };
 
 // A slice that was judged.
@@ -64,9 +65,11 @@ fn figures_of(file: u32, axles: usize, text: &[u8], places: &[u32]) -> Figures
         (valuesOf (fileNumbered file) axles (now (text .entry)) (now (places .entry))) ⌝ }
 {
     let mark = rules::is_marked(file, axles, text, places);
+    let byhand = files::is_by_hand(file, axles, text, places);
     Figures {
         axles: axles as u32,
         mark: mark,
+        byhand: byhand,
     }
 }
 
@@ -313,6 +316,7 @@ fn acceptance_with(drift: Step, suspension: Step, gas: Step) -> Acceptance
         driftmark: d.mark,
         suspensionmark: u.mark,
         gasmark: g.mark,
+        gasbyhand: g.byhand,
     }
 }
 

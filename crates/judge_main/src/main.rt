@@ -44,6 +44,7 @@ fn print_accepted(a: Acceptance) {
     print_mark(a.driftmark);
     print_mark(a.suspensionmark);
     print_mark(a.gasmark);
+    print_mark(a.gasbyhand);
 }
 
 fn print_refused(x: refusals::Refusal) {

@@ -57,8 +57,9 @@ module _ (a b : List ℕ) (r : ℕ) where
   pub read-refused : (y : FileAnswer) (x : Refusal) → y ≡ FileAnswer.Refused x → Filled (refusalNumbers x) a b r → Filled (readNumbers (F.answerIs y)) a b r
   read-refused y x e h = rw e h
 
-  pub read-accepted : (y : FileAnswer) (x : FileAcceptance) → y ≡ FileAnswer.Accepted x → Filled (0 ∷ 0 ∷ 0 ∷ x .axles ∷ []) a b r → Filled (readNumbers (F.answerIs y)) a b r
-  read-accepted y x e h = rw e h
+  pub read-accepted : (y : FileAnswer) (x : FileAcceptance) → y ≡ FileAnswer.Accepted x → (m : ℕ) → m ≡ markNumber (x .byhand) →
+      Filled (0 ∷ 0 ∷ 0 ∷ x .axles ∷ 0 ∷ 0 ∷ 0 ∷ 0 ∷ 0 ∷ m ∷ []) a b r → Filled (readNumbers (F.answerIs y)) a b r
+  read-accepted y x e m i h = rw (e, ← i) h
 
   pub write-refused : (y : WriteAnswer) (x : Refusal) → y ≡ WriteAnswer.Refused x → Filled (refusalNumbers x) a b r → Filled (writeNumbers (W.answerIs y)) a b r
   write-refused y x e h = rw e h
@@ -82,10 +83,10 @@ module _ (a b : List ℕ) (r : ℕ) where
   pub set-refused : (y : SetAnswer) (x : Refusal) → y ≡ SetAnswer.Refused x → Filled (refusalNumbers x) a b r → Filled (setNumbers (J.answerIs y)) a b r
   set-refused y x e h = rw e h
 
-  pub set-accepted : (y : SetAnswer) (x : Acceptance) → y ≡ SetAnswer.Accepted x → (d u g : ℕ) →
-      d ≡ markNumber (x .driftmark) → u ≡ markNumber (x .suspensionmark) → g ≡ markNumber (x .gasmark) →
-      Filled (0 ∷ 0 ∷ 0 ∷ x .driftaxles ∷ x .suspensionaxles ∷ d ∷ u ∷ g ∷ []) a b r → Filled (setNumbers (J.answerIs y)) a b r
-  set-accepted y x e d u g i j k h = rw (e, ← i, ← j, ← k) h
+  pub set-accepted : (y : SetAnswer) (x : Acceptance) → y ≡ SetAnswer.Accepted x → (d u g m : ℕ) →
+      d ≡ markNumber (x .driftmark) → u ≡ markNumber (x .suspensionmark) → g ≡ markNumber (x .gasmark) → m ≡ markNumber (x .gasbyhand) →
+      Filled (0 ∷ 0 ∷ 0 ∷ x .driftaxles ∷ x .suspensionaxles ∷ d ∷ u ∷ g ∷ 0 ∷ m ∷ []) a b r → Filled (setNumbers (J.answerIs y)) a b r
+  set-accepted y x e d u g m i j k o h = rw (e, ← i, ← j, ← k, ← o) h
 
   pub column-refused : (y : ColumnAnswer) (x : Refusal) → y ≡ ColumnAnswer.Refused x → Filled (refusalNumbers x) a b r → Filled (dueNumbers (C.answerIs y)) a b r
   column-refused y x e h = rw e h

@@ -31,9 +31,13 @@ abbrev pub numbersOf : {A : Type 0} → (A → List ℕ) → Answer A → List �
 numbersOf carried (refusal k f l) = k ∷ f ∷ l ∷ []
 numbersOf carried (acceptance a) = 0 ∷ 0 ∷ 0 ∷ carried a
 
--- a file read alone (01, Writing): "the same places and axle count"
+-- a mark that is set is 1
+abbrev pub markNumber : Bool → ℕ
+markNumber b = cond b 1 0
+
+-- a file read alone (01, Writing): "the same places and axle count"; in number 9, as of a set, whether the idle speed was entered by hand (02, 1/14)
 abbrev pub readNumbers : Answer FileAcceptance → List ℕ
-readNumbers = numbersOf (λ a. a .axles ∷ [])
+readNumbers = numbersOf (λ a. a .axles ∷ 0 ∷ 0 ∷ 0 ∷ 0 ∷ 0 ∷ markNumber (a .byhand) ∷ [])
 
 -- a written file (01, Writing): "the answer is its length"
 abbrev pub writeNumbers : Answer WriteAcceptance → List ℕ
@@ -51,13 +55,9 @@ kindNumbers = numbersOf (λ a. a .form ∷ a .most ∷ a .decimals ∷ a .words 
 abbrev pub dueNumbers : Answer ColumnAcceptance → List ℕ
 dueNumbers = numbersOf (λ a. a .axles ∷ a .count ∷ [])
 
--- a mark that is set is 1
-abbrev pub markNumber : Bool → ℕ
-markNumber b = cond b 1 0
-
--- a judged set (01, Judging): "two axle counts .. and a mark per result file"
+-- a judged set (01, Judging): "two axle counts .. and a mark per result file"; in number 9 whether gas's idle speed was entered by hand (02, 1/14)
 abbrev pub setNumbers : Answer Acceptance → List ℕ
-setNumbers = numbersOf (λ a. a .driftaxles ∷ a .suspensionaxles ∷ markNumber (a .driftmark) ∷ markNumber (a .suspensionmark) ∷ markNumber (a .gasmark) ∷ [])
+setNumbers = numbersOf (λ a. a .driftaxles ∷ a .suspensionaxles ∷ markNumber (a .driftmark) ∷ markNumber (a .suspensionmark) ∷ markNumber (a .gasmark) ∷ 0 ∷ markNumber (a .gasbyhand) ∷ [])
 
 -- there are numbers, and the array has room for them
 pub record Room (ns lent : List ℕ) : Type 0 where

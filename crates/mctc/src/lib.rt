@@ -54,6 +54,13 @@ fn fill_refusal(answer: &mut [u32], refusal: Refusal) -> u32
     fill(answer, &[number, file, line])
 }
 
+// A mark that is set is 1.
+fn mark_number(mark: bool) -> u32
+    ensures { λ r. ⌜ r ≡ markNumber mark ⌝ }
+{
+    if mark { 1 } else { 0 }
+}
+
 // What reading a file alone says.
 fn fill_read(answer: &mut [u32], read: FileAnswer) -> u32
     requires { ⌜ answerSize ≤ length (now answer) ⌝ }
@@ -63,7 +70,8 @@ fn fill_read(answer: &mut [u32], read: FileAnswer) -> u32
         FileAnswer::Refused(x) => fill_refusal(answer, x),
         FileAnswer::Accepted(a) => {
             let axles = a.axles;
-            fill(answer, &[0, 0, 0, axles])
+            let byhand = mark_number(a.byhand);
+            fill(answer, &[0, 0, 0, axles, 0, 0, 0, 0, 0, byhand])
         }
     }
 }
@@ -82,13 +90,6 @@ fn fill_written(answer: &mut [u32], written: WriteAnswer) -> u32
     }
 }
 
-// A mark that is set is 1.
-fn mark_number(mark: bool) -> u32
-    ensures { λ r. ⌜ r ≡ markNumber mark ⌝ }
-{
-    if mark { 1 } else { 0 }
-}
-
 // What judging a set says.
 fn fill_judged(answer: &mut [u32], judged: SetAnswer) -> u32
     requires { ⌜ answerSize ≤ length (now answer) ⌝ }
@@ -102,9 +103,21 @@ fn fill_judged(answer: &mut [u32], judged: SetAnswer) -> u32
             let gas = mark_number(a.gasmark);
             let driftaxles = a.driftaxles;
             let suspensionaxles = a.suspensionaxles;
+            let byhand = mark_number(a.gasbyhand);
             fill(
                 answer,
-                &[0, 0, 0, driftaxles, suspensionaxles, drift, suspension, gas],
+                &[
+                    0,
+                    0,
+                    0,
+                    driftaxles,
+                    suspensionaxles,
+                    drift,
+                    suspension,
+                    gas,
+                    0,
+                    byhand,
+                ],
             )
         }
     }

@@ -4,4 +4,5 @@ pub mod Identification
 pub mod Places
 pub mod Set
 pub mod Theorem
+pub mod Speeds
 pub mod Examples

@@ -13,8 +13,9 @@ use Rattle.places.proofs.Laws.{cleared-length, cleared-drop, cleared-zero}
 use Rattle.tables.specs.File.{File, ac2, files, hasAxles, sections, room, firstPair, leastPlaces}
 use Rattle.tables.proofs.Axles.{entries-most}
 use Rattle.reading.specs.Fitting.{StartOf}
-use Rattle.files.specs.Files.{AxleCount}
+use Rattle.files.specs.Files.{AxleCount, isByHand}
 use Rattle.files.proofs.Texts.{few-axles}
+use Rattle.files.proofs.ByHand.{unread-by-hand}
 use Rattle.due.specs.Booking.{bookingIn}
 use Rattle.places.proofs.Values.{value-length}
 use Rattle.rules.specs.Slices.{goodStem, isRead}
@@ -28,13 +29,14 @@ use Rattle.sets.proofs.Steps.{require-inv}
 use Rattle.sets.proofs.Places.{pairAt, within-get, used-pair, unused-pair, places-beyond, places-length}
 use Rattle.sets.proofs.Set.{recordOf, not-read, no-axles, SetPassed, slices-sound, no-values, passed-lawful, passed-fits, slices-complete}
 
--- of a file that is not given the record has no axles and no values, and so no mark is set
-pub not-given : (st : Stated) (r : Record) → Lawful st r → (f : File) → r .given f ≡ false → (r .axles f ≡ 0) × (r .values f ≡ []) × (isMarked f (r .values f) ≡ false)
+-- of a file that is not given the record has no axles and no values, and so neither mark is set
+pub not-given : (st : Stated) (r : Record) → Lawful st r → (f : File) → r .given f ≡ false
+    → (r .axles f ≡ 0) × (r .values f ≡ []) × (isMarked f (r .values f) ≡ false) × (isByHand f (r .values f) ≡ false)
 unfolding isMarked
 not-given st r l f g =
     let q : NotRead r f = not-read f (bookingIn (r .values ac2)) (r .given f) g in
     let v : r .values f ≡ [] = l .unread f q in
-    (subst (λ (b : Bool). AxleCount b (r .axles f)) (no-axles f (bookingIn (r .values ac2)) (r .given f) q) (l .counts f), v, rw v refl)
+    (subst (λ (b : Bool). AxleCount b (r .axles f)) (no-axles f (bookingIn (r .values ac2)) (r .given f) q) (l .counts f), v, rw v refl, rw v (unread-by-hand f))
 
 -- ---- what is returned
 

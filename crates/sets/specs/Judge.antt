@@ -9,7 +9,7 @@ use Rattle.refusals.specs.Refusals.{numberOf}
 use Rattle.refusals.specs.Answer.{Answer, refusal, acceptance, refusalOf, require, followed, givenBy}
 use Rattle.tables.specs.File.{File, ac2, acc, drift, suspension, gas, files, fileNumber, identificationNumber, firstPair, leastPlaces}
 use Rattle.reading.specs.Reading.{Reading, refused, read}
-use Rattle.files.specs.Files.{readFile, axlesOf}
+use Rattle.files.specs.Files.{readFile, axlesOf, isByHand}
 use Rattle.due.specs.Booking.{bookingIn}
 use Rattle.due.specs.Conditions.{conditionsOf}
 use Rattle.due.specs.Due.{firstNotAsDue}
@@ -38,12 +38,13 @@ abbrev pub answerIs : SetAnswer → Answer Acceptance
 answerIs (Accepted a) = acceptance a
 answerIs (Refused x) = refusalOf x
 
--- what acceptance takes from a file of n axles with these values: "a mark .., set exactly when it is given with CodErrore filled".
--- Of a file that is not given no value is there, so no mark is set (`not-given`).
+-- what acceptance takes from a file of n axles with these values: "a mark .., set exactly when it is given with CodErrore filled";
+-- 02, 1/14: whether its idle speed was entered by hand. Of a file that is not given no value is there, so none is set (`not-given`).
 abbrev pub figuresFrom : File → ℕ → List (List ℕ) → Figures
-figuresFrom f n vs = record { axles = n; mark = isMarked f vs }
+figuresFrom f n vs = record { axles = n; mark = isMarked f vs; byhand = isByHand f vs }
 
--- "acceptance, with two axle counts (0 for a file not given) and a mark per result file": of drift, suspension and gas
+-- "acceptance, with two axle counts (0 for a file not given) and a mark per result file": of drift, suspension and gas;
+-- 02, 1/14: "acceptance carries that mark for the gas file"
 abbrev pub acceptanceWith : Figures → Figures → Figures → Acceptance
 acceptanceWith d u g = record {
   driftaxles = d .axles;
@@ -51,6 +52,7 @@ acceptanceWith d u g = record {
   driftmark = d .mark;
   suspensionmark = u .mark;
   gasmark = g .mark;
+  gasbyhand = g .byhand;
 }
 
 -- from the files' axle counts and values

@@ -33,14 +33,16 @@ suspension-pairs = (refl, λ k. let e = entries-length suspension k in (omega ar
 
 pub gas-pairs : map (pairOf gas) (
     "MarcaAnalizzatore" ∷ "TipoAnalizzatore" ∷ "NumOmologaAnalizzatore" ∷ "NumSerieAnalizzatore" ∷ "NumVersSoftwareAnalizzatore" ∷ "DataScadenzaAnalizzatore" ∷
-    "TipoCollegamentoContagiri" ∷ "NumVersioneProtocolloContagiri" ∷ "NumVersioneProtocolloProvaVelocita" ∷ "NumVersioneProtocollo" ∷ "TipoCollegamento" ∷ "CodErrore" ∷ [])
-    ≡ 86 ∷ 87 ∷ 88 ∷ 89 ∷ 90 ∷ 91 ∷ 98 ∷ 99 ∷ 105 ∷ 108 ∷ 110 ∷ 127 ∷ []
+    "TipoCollegamentoContagiri" ∷ "NumVersioneProtocolloContagiri" ∷ "NumVersioneProtocolloProvaVelocita" ∷ "NumVersioneProtocollo" ∷ "TipoCollegamento" ∷ "CodErrore" ∷ "NumGiriMotoreMin" ∷ [])
+    ≡ 86 ∷ 87 ∷ 88 ∷ 89 ∷ 90 ∷ 91 ∷ 98 ∷ 99 ∷ 105 ∷ 108 ∷ 110 ∷ 127 ∷ 137 ∷ []
 unfolding placeOf wordIndex sameBytes entries sections fixedSections axleSections axlesFrom axleEntries entriesOf newBooking oldBooking sixteen tester protocol measurement driftAxle suspensionAxle analysis analyser counter speedTest allKeyDates allKeyBodies fuelAnalysis firstPair rooms room
 gas-pairs = refl
 
--- the last of gas's
 pub gas-code : pairOf gas "CodErrore" ≡ 127
 gas-code = ap (λ (l : List ℕ). getD l 11 0) gas-pairs
+
+pub gas-speed : pairOf gas "NumGiriMotoreMin" ≡ 137
+gas-speed = ap (λ (l : List ℕ). getD l 12 0) gas-pairs
 
 -- ---- how many entries a file has
 

@@ -79,3 +79,5 @@ pub const GAS_NUM_VERSIONE_PROTOCOLLO: usize = 108;
 pub const GAS_TIPO_COLLEGAMENTO: usize = 110;
 
 pub const GAS_COD_ERRORE: usize = 127;
+
+pub const GAS_NUM_GIRI_MOTORE_MIN: usize = 137;

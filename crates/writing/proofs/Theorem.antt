@@ -15,7 +15,7 @@ use Rattle.tables.specs.Section.{entriesOf}
 use Rattle.tables.specs.File.{fileNumber, hasAxles, sections, entries}
 use Rattle.reading.specs.Writing.{writeText}
 use Rattle.reading.proofs.Written.{written as written-fits, kept-length}
-use Rattle.files.specs.Files.{AxleCount, IsFile}
+use Rattle.files.specs.Files.{AxleCount, IsFile, isByHand, byHandIn}
 use Rattle.refusals.specs.Answer.{acceptance}
 use Rattle.files.specs.Alone.{accepted as accepted-with, aloneAnswer, alonePlaces}
 use Rattle.files.proofs.Pairs.{alone-complete}
@@ -101,7 +101,8 @@ reads-back file n s p out m e q l =
     let t : take m (outputAfter file n s p out) ≡ bytesOf file n s p = written-output file n s p out m e .0 in
     let b = bytesOf file n s p in
     let a = alone-complete (r .of) n (valuesOf (r .of) n s p) b (is-file file n s p m (w .0)) q l in
-    let x : aloneAnswer file b q ≡ acceptance (accepted-with n) = ap (λ (i : ℕ). aloneAnswer i b q) (r .number-is) ∙ a .0 in
+    let x : aloneAnswer file b q ≡ acceptance (accepted-with n (byHandIn file (λ f. valuesOf f n s p)))
+    = ap (λ (i : ℕ). aloneAnswer i b q) (r .number-is) ∙ a .0 ∙ ap (λ (h : Bool). acceptance (accepted-with n h)) (sym (of-right r false (λ f. isByHand f (valuesOf f n s p)))) in
     let y : alonePlaces file b q ≡ alonePlaces (fileNumber (r .of)) b q = ap (λ (i : ℕ). alonePlaces i b q) (r .number-is) in
     let v : valuesNumbered file n b (alonePlaces file b q) ≡ valuesNumbered file n s p
     = of-right r [] (λ f. valuesOf f n b (alonePlaces file b q)) ∙ ap (valuesOf (r .of) n b) y ∙ a .1 ∙ sym (of-right r [] (λ f. valuesOf f n s p)) in

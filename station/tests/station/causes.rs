@@ -1,21 +1,19 @@
 //! Refusals 10 and 11, and those of 12 that come from the same values: each names the values that decide.
 
-use std::fs;
 use std::path::Path;
 
-use crate::broken::files;
-use crate::common::{empty_folder, put, repository};
+use crate::common::{changed, empty_folder, put, Change};
 use crate::transcripts::check;
 
-/// A set made from a sample: what stands in one of its files instead of something else, and which files go.
+/// A set made from a sample: what is changed, and which files go.
 struct Made {
     name: &'static str,
     sample: &'static str,
-    changes: &'static [(&'static str, &'static str, &'static str)],
+    changes: &'static [Change],
     gone: &'static [&'static str],
 }
 
-const fn moped(name: &'static str, changes: &'static [(&str, &str, &str)]) -> Made {
+const fn moped(name: &'static str, changes: &'static [Change]) -> Made {
     Made {
         name,
         sample: "accepted-moped",
@@ -24,11 +22,7 @@ const fn moped(name: &'static str, changes: &'static [(&str, &str, &str)]) -> Ma
     }
 }
 
-const fn car(
-    name: &'static str,
-    changes: &'static [(&str, &str, &str)],
-    gone: &'static [&str],
-) -> Made {
+const fn car(name: &'static str, changes: &'static [Change], gone: &'static [&str]) -> Made {
     Made {
         name,
         sample: "accepted-car",
@@ -37,9 +31,9 @@ const fn car(
     }
 }
 
-const FUEL: (&str, &str, &str) = ("AC2", "=BENZINA\r", "=benzina\r");
-const OLD_WORD: (&str, &str, &str) = ("AC2", "=BENZINA\r", "=BENZINA CAT\r");
-const DIRECTIVE: (&str, &str, &str) = ("AC2", "=98/69/CE", "=");
+const FUEL: Change = ("AC2", "=BENZINA\r", "=benzina\r");
+const OLD_WORD: Change = ("AC2", "=BENZINA\r", "=BENZINA CAT\r");
+const DIRECTIVE: Change = ("AC2", "=98/69/CE", "=");
 
 const SETS: [Made; 25] = [
     moped("category", &[("AC2", "=L1e", "=L3e")]),
@@ -126,18 +120,11 @@ const SETS: [Made; 25] = [
 impl Made {
     fn put(&self, root: &Path) {
         let folder = root.join(self.name);
-        for path in files(&repository().join("samples").join(self.sample)) {
-            let ending = path.extension().expect("an ending");
-            if self.gone.iter().any(|gone| ending == *gone) {
-                continue;
+        for (name, text) in changed(self.sample, self.changes) {
+            let ending = name.extension().expect("an ending");
+            if !self.gone.iter().any(|gone| ending == *gone) {
+                put(folder.join(name), text);
             }
-            let mut text = fs::read(&path).expect("a sample");
-            for (_, old, new) in self.changes.iter().filter(|(file, ..)| ending == *file) {
-                let before = String::from_utf8(text).expect("a text");
-                assert!(before.contains(old), "{}: {old}", self.name);
-                text = before.replace(old, new).into_bytes();
-            }
-            put(folder.join(path.file_name().expect("a name")), text);
         }
     }
 }

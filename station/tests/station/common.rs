@@ -33,6 +33,26 @@ pub fn empty_folder(name: &str) -> PathBuf {
     folder
 }
 
+/// A change to a sample: in the file with this ending, what stands there, and what stands instead.
+pub type Change = (&'static str, &'static str, &'static str);
+
+/// The files of a sample with changes, each with its name.
+pub fn changed(sample: &str, changes: &[Change]) -> Vec<(PathBuf, Vec<u8>)> {
+    let files = fs::read_dir(repository().join("samples").join(sample)).expect("a sample");
+    let changed = files.map(|file| {
+        let path = file.expect("a file").path();
+        let ending = path.extension().expect("an ending");
+        let mut text = fs::read(&path).expect("a file");
+        for (_, old, new) in changes.iter().filter(|(file, ..)| ending == *file) {
+            let before = String::from_utf8(text).expect("a text");
+            assert!(before.contains(old), "{}: {old}", path.display());
+            text = before.replace(old, new).into_bytes();
+        }
+        (PathBuf::from(path.file_name().expect("a name")), text)
+    });
+    changed.collect()
+}
+
 /// Writes a file, and the folders above it.
 pub fn put(path: impl AsRef<Path>, bytes: impl AsRef<[u8]>) {
     let path = path.as_ref();

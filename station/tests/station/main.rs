@@ -3,6 +3,7 @@
 mod broken;
 mod causes;
 mod common;
+mod idle;
 mod obeyed;
 mod readme;
 mod reference;

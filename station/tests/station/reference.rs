@@ -1,5 +1,5 @@
 //! The program against the implementation in `tests/outside`, which shares nothing with the library: number, file and
-//! line of the samples and of generated sets on disk.
+//! line, or what acceptance carries, of the samples and of generated sets on disk.
 
 use std::fs;
 use std::path::Path;
@@ -14,12 +14,28 @@ const ENDINGS: [&str; 6] = ["AC2", "ACC", "DER", "SOS", "GAS", "ID"];
 const GENERATED: u64 = 1000;
 const FIRST_SEED: u64 = 9 << 40;
 
-/// Number, file, line, and the five values of an acceptance.
-type Answer = [u32; 8];
+/// The members of the JSON that are numbers of the answer, and which.
+const MEMBERS: [(&str, usize); 9] = [
+    ("number", 0),
+    ("file", 1),
+    ("line", 2),
+    ("drift_axles", 3),
+    ("suspension_axles", 4),
+    ("drift_mark", 5),
+    ("suspension_mark", 6),
+    ("gas_mark", 7),
+    ("idle_by_hand", 9),
+];
+
+/// The place of idle_by_hand among them.
+const IDLE_BY_HAND: usize = 8;
+
+/// Those numbers, in this order.
+type Answer = [u32; MEMBERS.len()];
 
 fn right(set: &Set) -> Answer {
     let answer = Reference.judge(set).answer;
-    std::array::from_fn(|at| answer[at])
+    MEMBERS.map(|(_, at)| answer[at])
 }
 
 /// The answers of `mctc judge FOLDER --json`, with their stems.
@@ -35,17 +51,7 @@ fn found(folder: &Path) -> Vec<(String, Answer)> {
 }
 
 fn answer_in(object: &str) -> Answer {
-    [
-        "number",
-        "file",
-        "line",
-        "drift_axles",
-        "suspension_axles",
-        "drift_mark",
-        "suspension_mark",
-        "gas_mark",
-    ]
-    .map(|key| {
+    MEMBERS.map(|(key, _)| {
         let (_, value) = object.split_once(&format!("\"{key}\":")).expect(key);
         let value = value.split([',', '}']).next().expect("a value");
         match value {
@@ -128,6 +134,10 @@ fn generated_sets() {
             "number {number} was never reached"
         );
     }
+    assert!(
+        answers.iter().any(|(_, answer)| answer[IDLE_BY_HAND] == 1),
+        "no idle speed was entered by hand"
+    );
     let tried = answers
         .iter()
         .filter(|(_, answer)| matches!(answer[0], 0 | 10));

@@ -4,7 +4,7 @@
 use crate::generator::{self, Record};
 use crate::judge::{
     answer_before, column_before, make, make_with_answer, places_before, Call, Judge, Outcome,
-    Reference, ANSWER, OUTPUT_BEFORE, SHORT_ANSWER,
+    Reference, ANSWER, BY_HAND, OUTPUT_BEFORE, SHORT_ANSWER,
 };
 use crate::mutator;
 use crate::random::Random;
@@ -14,6 +14,7 @@ use crate::reference::tables::{
 use crate::reference::PLACES;
 use crate::replay::to_text;
 use crate::report::Report;
+use crate::speeds::{idle_speed, JUDGED_AGAIN, READ_BACK};
 
 /// How many calls of each sort are generated.
 #[derive(Clone, Copy)]
@@ -65,9 +66,10 @@ pub struct Case {
     pub known: Option<Outcome>,
 }
 
-fn accepted(values: &[u32], places: Vec<u32>, output: Vec<u8>) -> Outcome {
+fn accepted(values: &[u32], by_hand: bool, places: Vec<u32>, output: Vec<u8>) -> Outcome {
     let mut answer = vec![0; ANSWER];
     answer[3..3 + values.len()].copy_from_slice(values);
+    answer[BY_HAND] = u32::from(by_hand);
     Outcome {
         answer,
         places,
@@ -92,7 +94,8 @@ fn known_of_record(record: &Record, before: &[u32]) -> Outcome {
         marks[1],
         marks[2],
     ];
-    accepted(&values, places_after(before, &record.places), Vec::new())
+    let places = places_after(before, &record.places);
+    accepted(&values, record.by_hand(), places, Vec::new())
 }
 
 /// A whole set, lawful or changed.
@@ -126,7 +129,8 @@ pub fn read_case(seed: u64) -> Case {
             let at = values.first_place();
             first[at..at + pairs.len()].copy_from_slice(pairs);
             let after = places_after(&places, &first);
-            Some(accepted(&[values.axles as u32], after, Vec::new()))
+            let axles = values.axles as u32;
+            Some(accepted(&[axles], values.by_hand(), after, Vec::new()))
         }
         _ => None,
     };
@@ -155,7 +159,7 @@ pub fn write_case(seed: u64) -> Case {
         let mut after = output.clone();
         after[..written.len()].copy_from_slice(&written);
         let length = written.len() as u32;
-        Some(accepted(&[length], writing.places.clone(), after))
+        Some(accepted(&[length], false, writing.places.clone(), after))
     });
     Case {
         seed,
@@ -364,8 +368,14 @@ fn compare_other_answers(subject: &dyn Judge, case: &Case) -> Result<(), String>
     Ok(())
 }
 
-/// 01, Writing: "By this call a written file reads back", with the same values.
-fn compare_read_back(subject: &dyn Judge, case: &Case, outcome: &Outcome) -> Result<(), String> {
+/// 01, Writing: "By this call a written file reads back", with the same values and so with the
+/// mark of the idle speed that was written (02, 1/14).
+fn compare_read_back(
+    subject: &dyn Judge,
+    report: &mut Report,
+    case: &Case,
+    outcome: &Outcome,
+) -> Result<(), String> {
     let Call::Write {
         text,
         places,
@@ -407,12 +417,23 @@ fn compare_read_back(subject: &dyn Judge, case: &Case, outcome: &Outcome) -> Res
             return wrong("a value read back differs");
         }
     }
+    let by_hand = *file == GAS && idle_speed(text, places).starts_with(b"#");
+    if read.answer[BY_HAND] != u32::from(by_hand) {
+        return wrong("the mark of an idle speed read back differs");
+    }
+    report.speeds.add(READ_BACK, &again.call, &read);
+    report.read_back += 1;
     Ok(())
 }
 
 /// The files of an accepted set written from its places: the set of the written files is
-/// accepted with the same answer.
-fn compare_rewritten(subject: &dyn Judge, case: &Case, outcome: &Outcome) -> Result<(), String> {
+/// accepted with the same answer, all marks included.
+fn compare_rewritten(
+    subject: &dyn Judge,
+    report: &mut Report,
+    case: &Case,
+    outcome: &Outcome,
+) -> Result<(), String> {
     let Call::Judge { set, .. } = &case.call else {
         return Ok(());
     };
@@ -462,6 +483,8 @@ fn compare_rewritten(subject: &dyn Judge, case: &Case, outcome: &Outcome) -> Res
             (name, outcome),
         ));
     }
+    report.speeds.add(JUDGED_AGAIN, &again.call, &judged);
+    report.rewritten += 1;
     Ok(())
 }
 
@@ -497,6 +520,7 @@ fn run_sort(
     for (case, at) in cases.zip(0..) {
         let outcome = compare(subject, &case)?;
         report.add(&case.call, outcome.refusal());
+        report.add_hashes(&case.call, &outcome);
         then(report, &case, &outcome)?;
         if at < OTHER_ANSWERS {
             compare_other_answers(subject, &case)?;
@@ -512,8 +536,7 @@ pub fn run_of(subject: &dyn Judge, amounts: Amounts) -> Result<Report, String> {
     let mut at = 0;
     run_sort(subject, &mut report, sets, |report, case, outcome| {
         if outcome.accepted() && at % REWRITTEN == 0 {
-            compare_rewritten(subject, case, outcome)?;
-            report.rewritten += 1;
+            compare_rewritten(subject, report, case, outcome)?;
         }
         at += 1;
         Ok(())
@@ -523,8 +546,7 @@ pub fn run_of(subject: &dyn Judge, amounts: Amounts) -> Result<Report, String> {
     let writes = (0..amounts.writes).map(|at| write_case(FIRST_WRITE + at));
     run_sort(subject, &mut report, writes, |report, case, outcome| {
         if outcome.accepted() {
-            compare_read_back(subject, case, outcome)?;
-            report.read_back += 1;
+            compare_read_back(subject, report, case, outcome)?;
         }
         Ok(())
     })?;

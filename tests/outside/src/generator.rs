@@ -38,18 +38,23 @@ impl Size {
     }
 }
 
-/// Bytes of 20 to 7E hex: plain ones, any, or those with a meaning in a line.
+/// Bytes of 20 to 7E hex: plain ones, any, or those with a meaning in a line. Some begin with
+/// `#`, which has a meaning in an idle speed alone.
 pub fn printable(random: &mut Random, count: usize) -> Vec<u8> {
     const PLAIN: &[u8] = b"ABCDEFGHIJKLMNOPQRSTUVWXYZ0123456789 -./";
     const MARKS: &[u8] = b"=[]# ~";
     let choice = random.below(8);
-    (0..count)
+    let mut bytes: Vec<u8> = (0..count)
         .map(|_| match choice {
             0..=4 => PLAIN[random.below(PLAIN.len())],
             5 => MARKS[random.below(MARKS.len())],
             _ => random.between(0x20, 0x7E) as u8,
         })
-        .collect()
+        .collect();
+    if let (true, Some(first)) = (random.chance(8), bytes.first_mut()) {
+        *first = b'#';
+    }
+    bytes
 }
 
 fn days_in_month(month: usize, year: usize) -> usize {
@@ -326,6 +331,11 @@ impl Values {
         2 * self.table().first_pair
     }
 
+    /// 02, 1/14: whether the idle speed was entered by hand.
+    pub fn by_hand(&self) -> bool {
+        self.file == GAS && self.get("NumGiriMotoreMin").starts_with(b"#")
+    }
+
     /// All values in entry order.
     pub fn all(&self) -> impl Iterator<Item = &Vec<u8>> {
         self.sections.iter().flatten()
@@ -385,6 +395,10 @@ impl Record {
     pub fn mark(&self, file: u32) -> bool {
         self.file(file)
             .is_some_and(|values| !values.get("CodErrore").is_empty())
+    }
+
+    pub fn by_hand(&self) -> bool {
+        self.file(GAS).is_some_and(Values::by_hand)
     }
 }
 

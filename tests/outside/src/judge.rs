@@ -9,6 +9,9 @@ use crate::reference::{Refusal, PLACES};
 /// The answer array holds at least this many numbers.
 pub const ANSWER: usize = 16;
 
+/// The number of the answer, from 0, that is 1 where gas's idle speed was entered by hand (02, 1/14).
+pub const BY_HAND: usize = 9;
+
 /// The value of a call whose answer array is too short; it touches nothing.
 pub const SHORT_ANSWER: u32 = u32::MAX;
 
@@ -55,8 +58,8 @@ pub trait Judge {
     /// acceptance, from [3] on: axle counts of drift and suspension and the marks of drift,
     /// suspension and gas (judge), the axle count (read), the length (write), the axle count
     /// and the number of entries (due), the length and the number of the section (names,
-    /// words), form, most bytes, decimals and words (kind); else 0. What comes back is the
-    /// number.
+    /// words), form, most bytes, decimals and words (kind); in [9] whether gas's idle speed was
+    /// entered by hand (judge, read); else 0. What comes back is the number.
     fn answer(&self, call: &Call, lent: Arrays) -> u32;
 }
 
@@ -111,15 +114,18 @@ fn reference_result(
 ) -> Result<Vec<u32>, Refusal> {
     match call {
         Call::Judge { set, .. } => judge_set(set.as_slices(), places).map(|acceptance| {
-            vec![
+            let values = [
                 acceptance.drift_axles,
                 acceptance.suspension_axles,
                 u32::from(acceptance.drift_mark),
                 u32::from(acceptance.suspension_mark),
                 u32::from(acceptance.gas_mark),
-            ]
+            ];
+            with_by_hand(&values, acceptance.by_hand)
         }),
-        Call::Read { file, text, .. } => read_alone(*file, text, places).map(|axles| vec![axles]),
+        Call::Read { file, text, .. } => {
+            read_alone(*file, text, places).map(|read| with_by_hand(&[read.axles], read.by_hand))
+        }
         Call::Write {
             text, file, axles, ..
         } => write_file(text, places, *file, *axles, output).map(|length| vec![length as u32]),
@@ -139,6 +145,14 @@ fn reference_result(
             file, entry, word, ..
         } => copy_name(*file, entry_word(*file, *entry, *word), output),
     }
+}
+
+/// The values from [3] on, and the mark of the idle speed at its number.
+fn with_by_hand(values: &[u32], by_hand: bool) -> Vec<u32> {
+    let mut values = values.to_vec();
+    values.resize(BY_HAND - 3, 0);
+    values.push(u32::from(by_hand));
+    values
 }
 
 /// A name or a word into the output; its length and the number of its section. 16 where there is none, 18 where the output is too

@@ -1,6 +1,7 @@
 //! Tests from outside for the judge of MCTCNet2 test sets.
 //!
-//! "01" is document 01, "MCTCNet2 test sets: booking, drift, suspension and gas".
+//! "01" is document 01, "MCTCNet2 test sets: booking, drift, suspension and gas"; "02" is document 02, the change
+//! requests, cited by their number.
 
 pub mod comparison;
 pub mod generator;
@@ -13,4 +14,5 @@ pub mod random;
 pub mod reference;
 pub mod replay;
 pub mod report;
+pub mod speeds;
 pub mod vectors;

@@ -1,10 +1,12 @@
-//! What a run reached: refusal numbers by call, and entries at which they were reached.
+//! What a run reached: refusal numbers by call, entries at which they were reached, and idle speeds.
 
 use std::collections::BTreeMap;
 
-use crate::judge::{Call, Outcome};
-use crate::reference::tables::{table, AC2, ACC, GAS, SUSPENSION};
+use crate::judge::{Call, Outcome, BY_HAND};
+use crate::reference::kinds::Kind;
+use crate::reference::tables::{table, Entry, Section, AC2, ACC, GAS, SUSPENSION};
 use crate::reference::Refusal;
+use crate::speeds::{Speeds, JUDGED, JUDGE_REFUSED, READ, READ_REFUSED};
 
 /// Numbers 0 (acceptance) to 18.
 const NUMBERS: usize = 19;
@@ -24,6 +26,9 @@ const WRITE_17: &str = "write 17";
 const COLUMN_DUE: &str = "column, due";
 const COLUMN_NOT_DUE: &str = "column, not due";
 const COLUMN_FREE: &str = "column, free";
+/// Accepted without the mark of 02, 1/14, although a value other than the idle speed begins with `#`.
+const JUDGE_HASH: &str = "judge 0, `#` first and no mark";
+const READ_HASH: &str = "read 0, `#` first and no mark";
 
 /// The calls and the numbers that each must reach.
 const CALLS: [(&str, &[usize]); 8] = [
@@ -46,14 +51,16 @@ pub struct Report {
     counts: [[u64; NUMBERS]; 8],
     /// How often each noted refusal was reached at each entry.
     reached: BTreeMap<&'static str, BTreeMap<EntryOf, u64>>,
+    /// Idle speeds that were met.
+    pub speeds: Speeds,
     /// Written files that were read back.
     pub read_back: u64,
     /// Accepted sets whose files were written and judged again.
     pub rewritten: u64,
 }
 
-/// The entry at a line of a text, with whether its value is empty.
-fn entry_at(file: u32, text: &[u8], line: u32) -> Option<(EntryOf, bool)> {
+/// The entry at a line of a text, with its value.
+fn entry_at(file: u32, text: &[u8], line: u32) -> Option<(EntryOf, String)> {
     let mut heading = String::new();
     let mut last = String::new();
     for bytes in text.split(|byte| *byte == b'\n').take(line as usize) {
@@ -63,7 +70,7 @@ fn entry_at(file: u32, text: &[u8], line: u32) -> Option<(EntryOf, bool)> {
         }
     }
     let (name, value) = last.split_once('=')?;
-    Some(((file, heading, name.to_string()), value.is_empty()))
+    Some(((file, heading, name.to_string()), value.to_string()))
 }
 
 /// All entries of all files, in table order.
@@ -72,13 +79,18 @@ fn all_entries() -> Vec<EntryOf> {
 }
 
 fn entries_of(file: u32) -> Vec<EntryOf> {
-    let mut entries = Vec::new();
-    for section in &table(file).sections {
-        for entry in &section.entries {
-            entries.push((file, section.heading.clone(), entry.name.clone()));
-        }
-    }
-    entries
+    let named = |(section, entry)| named(file, section, entry);
+    listed(file).map(named).collect()
+}
+
+/// The entries of a file in table order, each with its section.
+fn listed(file: u32) -> impl Iterator<Item = (&'static Section, &'static Entry)> {
+    let sections = table(file).sections.iter();
+    sections.flat_map(|section| section.entries.iter().map(move |entry| (section, entry)))
+}
+
+fn named(file: u32, section: &Section, entry: &Entry) -> EntryOf {
+    (file, section.heading.clone(), entry.name.clone())
 }
 
 /// The entry at a line of a file in table order.
@@ -87,7 +99,7 @@ fn entry_in_table(file: u32, line: u32) -> Option<EntryOf> {
     for section in &table(file).sections {
         lines.push(None);
         for entry in &section.entries {
-            lines.push(Some((file, section.heading.clone(), entry.name.clone())));
+            lines.push(Some(named(file, section, entry)));
         }
     }
     lines.into_iter().nth(line as usize - 1)?
@@ -134,6 +146,19 @@ fn has_booking_rule(entry: &EntryOf) -> bool {
     }
 }
 
+/// Whether `#` may stand first in a value of this entry, which is no idle speed.
+fn may_begin_with_hash(entry: &EntryOf) -> bool {
+    let same = |(section, other): &(&Section, &Entry)| named(entry.0, section, other) == *entry;
+    let found = listed(entry.0).find(same);
+    found.is_some_and(|(_, entry)| matches!(entry.kind, Kind::Text(_) | Kind::Exact(_)))
+}
+
+/// Likewise in an accepted set, where ACC's texts are words of the booking rules, but for other fuels.
+fn may_begin_with_hash_in_set(entry: &EntryOf) -> bool {
+    let (file, _, name) = entry;
+    may_begin_with_hash(entry) && (*file != ACC || name == "Alimentazione_1")
+}
+
 /// The entries at which each noted refusal can be reached.
 fn reachable() -> Vec<(&'static str, Vec<EntryOf>)> {
     let fitting =
@@ -153,6 +178,8 @@ fn reachable() -> Vec<(&'static str, Vec<EntryOf>)> {
         (COLUMN_DUE, fitting(&|entry| !is_free(entry))),
         (COLUMN_NOT_DUE, fitting(&is_conditional)),
         (COLUMN_FREE, fitting(&is_free)),
+        (JUDGE_HASH, fitting(&may_begin_with_hash_in_set)),
+        (READ_HASH, fitting(&may_begin_with_hash)),
     ]
 }
 
@@ -173,12 +200,15 @@ impl Report {
         let (file, line) = (refusal.file, refusal.line);
         let noted = match (call, refusal.number) {
             (Call::Judge { set, .. }, number @ (9 | 10 | 12 | 13)) => {
-                entry_at(file, set.slice(file), line).map(|(entry, empty)| match (number, empty) {
-                    (9, _) => (JUDGE_9, entry),
-                    (10, true) => (JUDGE_10_EMPTY, entry),
-                    (10, false) => (JUDGE_10_FILLED, entry),
-                    (12, _) => (JUDGE_12, entry),
-                    _ => (JUDGE_13, entry),
+                entry_at(file, set.slice(file), line).map(|(entry, value)| {
+                    let what = match (number, value.is_empty()) {
+                        (9, _) => JUDGE_9,
+                        (10, true) => JUDGE_10_EMPTY,
+                        (10, false) => JUDGE_10_FILLED,
+                        (12, _) => JUDGE_12,
+                        _ => JUDGE_13,
+                    };
+                    (what, entry)
                 })
             }
             (Call::Read { text, .. }, 9) => {
@@ -190,6 +220,48 @@ impl Report {
         };
         if let Some((what, entry)) = noted {
             self.note(what, entry);
+        }
+    }
+
+    /// Notes idle speeds, and in acceptances other values that begin with `#`.
+    pub fn add_hashes(&mut self, call: &Call, outcome: &Outcome) {
+        let refusal = outcome.refusal();
+        match (call, refusal.number) {
+            (Call::Judge { set, .. }, 0) => {
+                self.speeds.add(JUDGED, call, outcome);
+                for file in AC2..=GAS {
+                    self.note_hashes(JUDGE_HASH, file, set.slice(file), outcome);
+                }
+            }
+            (Call::Read { file, text, .. }, 0) => {
+                self.speeds.add(READ, call, outcome);
+                self.note_hashes(READ_HASH, *file, text, outcome);
+            }
+            (Call::Judge { set, .. }, 9) => {
+                self.note_refused(JUDGE_REFUSED, set.slice(refusal.file), refusal);
+            }
+            (Call::Read { text, .. }, 9) => self.note_refused(READ_REFUSED, text, refusal),
+            _ => {}
+        }
+    }
+
+    /// Notes the values of an accepted file that begin with `#`, where the answer has no mark.
+    fn note_hashes(&mut self, what: &'static str, file: u32, text: &[u8], outcome: &Outcome) {
+        if outcome.answer[BY_HAND] != 0 {
+            return;
+        }
+        let pairs = outcome.places[2 * table(file).first_pair..].chunks(2);
+        for ((section, entry), pair) in listed(file).zip(pairs) {
+            let (start, length) = (pair[0] as usize, pair[1] as usize);
+            if text[start..start + length].starts_with(b"#") {
+                self.note(what, named(file, section, entry));
+            }
+        }
+    }
+
+    fn note_refused(&mut self, what: &'static str, text: &[u8], refusal: Refusal) {
+        if let Some(((_, _, name), value)) = entry_at(refusal.file, text, refusal.line) {
+            self.speeds.add_refused(what, &name, &value);
         }
     }
 
@@ -249,6 +321,7 @@ impl Report {
                 }
             }
         }
+        missing.extend(self.speeds.missing());
         missing
     }
 
@@ -273,5 +346,6 @@ impl Report {
                 times.iter().min().unwrap_or(&0)
             );
         }
+        self.speeds.print();
     }
 }

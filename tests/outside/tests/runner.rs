@@ -4,7 +4,8 @@ use outside::comparison::{
     column_case, kind_cases, name_cases, read_case, run_of, set_case, word_cases, write_case,
     Amounts,
 };
-use outside::judge::{Arrays, Call, Judge, Reference};
+use outside::judge::{Arrays, Call, Judge, Reference, BY_HAND};
+use outside::reference::tables::GAS;
 use outside::replay;
 
 /// The fault of a wrong judge.
@@ -26,6 +27,76 @@ enum Fault {
     HeadingOfFirstSection,
     WiderByOne,
     WordsFirstByte,
+    Mark(Mark),
+}
+
+/// A fault in the mark of the idle speed (02, 1/14): where it is set, or whence it is taken.
+#[derive(Clone, Copy, Debug)]
+enum Mark {
+    Never,
+    NeverAlone,
+    AlwaysWithGas,
+    AlwaysWithoutGas,
+    OfAnyValue,
+    OfEntry(&'static str),
+    OfEmptySpeed,
+    OfOtherFilesAlone,
+    OfWriting,
+    OfColumn,
+    OfRefusal,
+    InNumber8,
+}
+
+const MARKS: [Mark; 15] = [
+    Mark::Never,
+    Mark::NeverAlone,
+    Mark::AlwaysWithGas,
+    Mark::AlwaysWithoutGas,
+    Mark::OfAnyValue,
+    Mark::OfEntry("MarcaAnalizzatore"),
+    Mark::OfEntry("Note"),
+    Mark::OfEntry("CodErrore"),
+    Mark::OfEntry("Operatore"),
+    Mark::OfEmptySpeed,
+    Mark::OfOtherFilesAlone,
+    Mark::OfWriting,
+    Mark::OfColumn,
+    Mark::OfRefusal,
+    Mark::InNumber8,
+];
+
+impl Mark {
+    /// Spoils the answer to a call.
+    fn spoil(self, call: &Call, answer: &mut [u32]) {
+        let refused = answer[0] != 0;
+        let holds = |text: &[u8], part: &str| String::from_utf8_lossy(text).contains(part);
+        let gas: &[u8] = match call {
+            Call::Judge { set, .. } => set.slice(GAS),
+            Call::Read {
+                file: GAS, text, ..
+            } => text,
+            _ => &[],
+        };
+        let mark = match (self, call) {
+            (Mark::OfRefusal, _) if refused => true,
+            _ if refused => return,
+            (Mark::Never, _) => false,
+            (Mark::NeverAlone, Call::Read { .. }) => false,
+            (Mark::AlwaysWithGas, _) if !gas.is_empty() => true,
+            (Mark::AlwaysWithoutGas, Call::Judge { .. }) if gas.is_empty() => true,
+            (Mark::OfAnyValue, _) if !gas.is_empty() => holds(gas, "=#"),
+            (Mark::OfEntry(name), _) if !gas.is_empty() => holds(gas, &format!("\n{name}=#")),
+            (Mark::OfEmptySpeed, _) if holds(gas, "\nNumGiriMotoreMin=\r") => true,
+            (Mark::OfOtherFilesAlone, Call::Read { text, .. }) if gas.is_empty() => {
+                holds(text, "=#")
+            }
+            (Mark::OfWriting, Call::Write { text, .. }) => text.contains(&b'#'),
+            (Mark::OfColumn, Call::Due { text, .. }) => text.contains(&b'#'),
+            (Mark::InNumber8, _) => return answer.swap(8, BY_HAND),
+            _ => return,
+        };
+        answer[BY_HAND] = u32::from(mark);
+    }
 }
 
 /// Enough to find each fault.
@@ -89,6 +160,7 @@ impl Judge for Wrong {
             (Fault::HeadingOfFirstSection, Call::HeadingName { .. }) => answer[4] = 0,
             (Fault::WiderByOne, Call::Kind { .. }) if accepted => answer[4] += 1,
             (Fault::WordsFirstByte, Call::Word { .. }) if accepted => output[0] = b'M',
+            (Fault::Mark(mark), call) => mark.spoil(call, answer),
             _ => {}
         }
         answer[0]
@@ -118,7 +190,7 @@ fn the_library_agrees_with_the_reference() {
 
 #[test]
 fn faults_are_found() {
-    for fault in [
+    let faults = [
         Fault::RefusesAll,
         Fault::AcceptsAll,
         Fault::ZeroPlaces,
@@ -135,7 +207,8 @@ fn faults_are_found() {
         Fault::HeadingOfFirstSection,
         Fault::WiderByOne,
         Fault::WordsFirstByte,
-    ] {
+    ];
+    for fault in faults.into_iter().chain(MARKS.map(Fault::Mark)) {
         match run_of(&Wrong(fault), FEW) {
             Ok(_) => panic!("{fault:?} was not found"),
             Err(text) => {

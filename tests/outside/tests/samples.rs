@@ -1,12 +1,12 @@
 //! The reference against the samples of document 01: the table's rows, the established
-//! samples, the misreadings and the settled readings.
+//! samples, the misreadings and the settled readings; then those of document 02.
 
 use outside::generator::{record, value, Size};
 use outside::judge::{make, places_before, Call, Outcome, Reference, Set};
 use outside::random::Random;
 use outside::reference::bookings::old_fuel;
 use outside::reference::identification::{answer, checksum, fields, SEVEN_ENTRIES};
-use outside::reference::kinds::{drift_hundredths, fits, Kind};
+use outside::reference::kinds::{drift_hundredths, fits, revs, Kind, Revs};
 use outside::reference::tables::{table, AC2, ACC, DRIFT, GAS, SUSPENSION};
 
 const AC2_TEXT: &str = "[DatiLibrettoVeicolo]
@@ -227,9 +227,9 @@ fn written(text: &[u8], places: &[u32], file: u32, axles: u32, output: usize) ->
 fn the_sample_is_accepted() {
     let outcome = judged_with(&sample(), places_before(300));
     assert_eq!(outcome.returned, 0);
-    // Axle counts 2 and 1, drift marked.
-    assert_eq!(outcome.answer[..8], [0, 0, 0, 2, 1, 1, 0, 0]);
-    assert!(outcome.answer[8..].iter().all(|number| *number == 0));
+    // Axle counts 2 and 1, drift marked, the idle speed entered by hand.
+    let right = [0, 0, 0, 2, 1, 1, 0, 0, 0, 1, 0, 0, 0, 0, 0, 0];
+    assert_eq!(outcome.answer, right);
     assert_eq!(outcome.places[278..], places_before(300)[278..]);
     // TargaNominale, the start after `=`; CodiceCIC, empty.
     assert_eq!(outcome.places[..2], [37, 7]);
@@ -394,6 +394,8 @@ fn row_11_slices() {
     assert_refused(&other_fuel, (11, 6, 0));
     other_fuel.slices[5].clear();
     assert_accepted(&other_fuel);
+    // 02, 1/14: the mark is unset where gas is not given.
+    assert_eq!(judged(&other_fuel).answer[9], 0);
 }
 
 /// The sample's AC2 as that of a category L with ACC given.
@@ -758,4 +760,68 @@ fn the_reference_reads_the_answer_that_it_makes() {
         assert_eq!(&answer(address, seven), bytes);
     }
     assert!(given > 10);
+}
+
+/// The sample's gas with this idle speed.
+fn with_speed(speed: &str) -> Set {
+    let entry = "NumGiriMotoreMin=";
+    changed(GAS, &format!("{entry}#850"), &format!("{entry}{speed}"))
+}
+
+#[test]
+fn a_revs_value_is_read_with_its_mark() {
+    let read = |number, by_hand| Some(Revs { number, by_hand });
+    assert_eq!(revs(b"00850"), read(850, false));
+    assert_eq!(revs(b"#00850"), read(850, true));
+    assert_eq!(revs(b"#99999"), read(99_999, true));
+    assert_eq!(revs(b"0"), read(0, false));
+    for wrong in ["", "#", "##850", "850#", "#123456", "# 850"] {
+        assert_eq!(revs(wrong.as_bytes()), None, "{wrong}");
+    }
+}
+
+#[test]
+fn the_mark_of_the_idle_speed() {
+    for (speed, mark) in [("850", 0), ("00850", 0), ("#0", 1), ("#00850", 1)] {
+        let set = with_speed(speed);
+        let alone = read(GAS, set.slice(GAS), 278);
+        assert_eq!(judged(&set).answer[8..], [0, mark, 0, 0, 0, 0, 0, 0]);
+        assert_eq!(
+            alone.answer[3..],
+            [0, 0, 0, 0, 0, 0, mark, 0, 0, 0, 0, 0, 0]
+        );
+        // Writing has no mark; what it wrote has.
+        let outcome = written(set.slice(GAS), &alone.places, GAS, 0, 4000);
+        assert!(outcome.answer[4..].iter().all(|number| *number == 0));
+        let length = outcome.answer[3] as usize;
+        let again = read(GAS, &outcome.output[..length], 278);
+        assert_eq!(again.answer, alone.answer);
+    }
+    for speed in ["##850", "#"] {
+        assert_refused(&with_speed(speed), (9, 5, 54));
+    }
+    // Empty: due in a set, and no mark where gas is read alone.
+    let empty = with_speed("");
+    assert_refused(&empty, (10, 5, 54));
+    assert_eq!(read(GAS, empty.slice(GAS), 278).answer, [0; 16]);
+}
+
+#[test]
+fn no_other_value_has_the_mark() {
+    for (file, entry) in [
+        (AC2, "TargaNominale="),
+        (ACC, "DescrizioneVeicolo="),
+        (DRIFT, "Note="),
+        (SUSPENSION, "Operatore="),
+    ] {
+        let set = changed(file, entry, &format!("{entry}#"));
+        let outcome = read(file, set.slice(file), 278);
+        assert_eq!((outcome.returned, outcome.answer[9]), (0, 0), "{entry}");
+    }
+    let mut set = with_speed("850");
+    for entry in ["MarcaContagiri=", "Note=", "ChecksumRS=", "Operatore="] {
+        replace(&mut set, GAS, entry, &format!("{entry}#"));
+        assert_accepted(&set);
+        assert_eq!(judged(&set).answer[9], 0, "{entry}");
+    }
 }

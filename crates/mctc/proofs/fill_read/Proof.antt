@@ -1,4 +1,4 @@
--- `mctc::fill_read` meets its contract: the refusal, or the axle count. Assumes nothing.
+-- `mctc::fill_read` meets its contract: the refusal, or the axle count and the mark. Assumes nothing.
 use borrow.Author.Needs.{needs}
 use denote.Ref.{now}
 use Rattle.mctc.proofs.Answers.{read-refused, read-accepted}
@@ -13,6 +13,9 @@ fill-refusal-requires c κs = search needs
 
 enum-known-read-2 : tie.Need-enum-known-read-2
 enum-known-read-2 c = search needs
+
+mark-number-requires : tie.Need-mark-number-requires
+mark-number-requires c κs = search needs
 
 slice-aggregate-fill : tie.Need-slice-aggregate-fill
 slice-aggregate-fill c = search needs
@@ -33,8 +36,8 @@ same-length-2 c = search needs
 
 returns-2 : tie.Need-returns-2
 returns-2 c =
-    let x = c .before .before .before .before .before .before .before .before .before .args in
-    read-accepted (now (x .answer)) _ _ (x .read) _ (c .before .before .before .before .before .before .read2 .given .1) (c .before .before .fill .ensures)
+    let x = c .before .before .before .before .before .before .before .before .before .before .args in
+    read-accepted (now (x .answer)) _ _ (x .read) _ (c .before .before .before .before .before .before .before .read2 .given .1) _ (c .before .before .before .before .before .mark-number .ensures) (c .before .before .fill .ensures)
 
 pub fill-read-spec : {M : Type 1} → statement M
 fill-read-spec =
@@ -43,6 +46,7 @@ fill-read-spec =
     enum-known-read
     fill-refusal-requires
     enum-known-read-2
+    mark-number-requires
     slice-aggregate-fill
     fill-requires
     same-length

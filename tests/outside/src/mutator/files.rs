@@ -122,6 +122,7 @@ const CHANGES: &[(&str, usize, Change)] = &[
     ("entry before any heading", 2, ByLines(entry_before_heading)),
     ("name changed", 4, ByLines(change_name)),
     ("values at their edges", 16, ByLines(values_at_edges)),
+    ("# before a value", 6, ByLines(change_hash)),
     ("empty filled", 6, ByLines(fill_empty)),
     ("filled emptied", 10, ByLines(empty_filled)),
     ("value of another entry", 2, ByLines(other_value)),
@@ -397,6 +398,26 @@ fn values_at_edges(random: &mut Random, file: u32, lines: &mut Lines) -> Option<
         let kind = kind_of(file, &lines[at])?;
         lines[at] = with_value(&lines[at], &edge_value(random, kind));
     }
+    Some(())
+}
+
+/// `#` put before a value, in gas most often the idle speed, or taken away; put twice; alone.
+fn change_hash(random: &mut Random, file: u32, lines: &mut Lines) -> Option<()> {
+    let speed = |line: &[u8]| kind_of(file, line) == Some(Kind::Revs);
+    let at = match pick_line(random, lines, speed) {
+        Some(at) if random.chance(60) => at,
+        _ => pick_entry(random, lines)?,
+    };
+    let value = value_of(&lines[at]);
+    let hashes = value.iter().take_while(|byte| **byte == b'#').count();
+    let bare = &value[hashes..];
+    let value = match random.below(5) {
+        0..=1 => [b"#", bare].concat(),
+        2 => bare.to_vec(),
+        3 => [b"##", bare].concat(),
+        _ => b"#".to_vec(),
+    };
+    lines[at] = with_value(&lines[at], &value);
     Some(())
 }
 

@@ -23,7 +23,7 @@ const CHANGES: &[(&str, usize, Change)] = &[
     ("differences", 8, change_differences),
     ("axle entry emptied", 8, empty_axle),
     ("gas link or version", 8, change_gas),
-    ("gas entry emptied", 6, empty_gas),
+    ("gas entry emptied", 14, empty_gas),
     ("identification", 26, change_identification),
 ];
 

@@ -4,9 +4,9 @@ use super::bookings::{judge_ac2, judge_acc};
 use super::due::{due_column, is_l, judge_due};
 use super::files::{read_file, FileRead};
 use super::identification::judge_identification;
-use super::kinds::number;
+use super::kinds::{number, revs};
 use super::tables::{AC2, ACC, DRIFT, GAS, IDENTIFICATION, SUSPENSION};
-use super::{Acceptance, Refusal, PLACES};
+use super::{Acceptance, FileAcceptance, Refusal, PLACES};
 
 /// 01: "A set is a stem (the files' common name) and six lent byte slices".
 #[derive(Clone, Copy)]
@@ -52,7 +52,13 @@ pub fn judge_set(set: Slices, places: &mut [u32]) -> Result<Acceptance, Refusal>
         drift_mark: mark(&read.drift),
         suspension_mark: mark(&read.suspension),
         gas_mark: mark(&read.gas),
+        by_hand: read.gas.as_ref().is_some_and(speed_by_hand),
     })
+}
+
+/// 02, 1/14: whether `#` stood before gas's idle speed; no other file has the mark.
+fn speed_by_hand(read: &FileRead) -> bool {
+    read.table.file == GAS && revs(read.value("NumGiriMotoreMin")).is_some_and(|revs| revs.by_hand)
 }
 
 /// 01, row 2: "stem not two capitals, six digits (file 0)".
@@ -180,12 +186,15 @@ fn judge_slice_6(bytes: &[u8], gas: Option<&FileRead>) -> Result<(), Refusal> {
 
 /// 01, Writing: "One file can also be read alone, by its number: 1, 16 for the file, 11
 /// where it is empty, then 3 to 9 as above, with the same places and axle count; other
-/// files' pairs hold 0, after a refusal but 1 all pairs do". The axle count.
-pub fn read_alone(file: u32, text: &[u8], places: &mut [u32]) -> Result<u32, Refusal> {
+/// files' pairs hold 0, after a refusal but 1 all pairs do".
+pub fn read_alone(file: u32, text: &[u8], places: &mut [u32]) -> Result<FileAcceptance, Refusal> {
     clear_places(places)?;
     let read = read_by_number(file, text)?;
     read.fill_places(places);
-    Ok(read.axles as u32)
+    Ok(FileAcceptance {
+        axles: read.axles as u32,
+        by_hand: speed_by_hand(&read),
+    })
 }
 
 /// 01, row 1: "places too short; they stay (file 0)"; otherwise all pairs are 0 at first.

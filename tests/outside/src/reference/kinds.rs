@@ -42,7 +42,7 @@ pub fn fits(kind: Kind, value: &[u8]) -> bool {
         Kind::Time => is_time(value),
         Kind::Word(words) => words.iter().any(|word| word.as_bytes() == value),
         Kind::Drift => drift_hundredths(value).is_some(),
-        Kind::Revs => is_number(value.strip_prefix(b"#").unwrap_or(value), 5),
+        Kind::Revs => revs(value).is_some(),
         Kind::FirstRegistration => is_first_registration(value),
         Kind::Axles => value.len() == 9 && value.iter().all(|b| *b == b'S' || *b == b'N'),
         Kind::Year => value.len() == 4 && all_digits(value),
@@ -173,6 +173,25 @@ pub fn drift_hundredths(value: &[u8]) -> Option<i32> {
     }
     let digits: Vec<u8> = rest.iter().copied().filter(|byte| *byte != b'.').collect();
     Some(sign * number(&digits) as i32)
+}
+
+/// 02, 1/14: "The reading of a revs value now gives the number and whether `#` stood before it".
+#[derive(Clone, Copy, Debug, PartialEq, Eq)]
+pub struct Revs {
+    pub number: u32,
+    pub by_hand: bool,
+}
+
+/// 01, Kinds of value: "revs: N 5, with `#` before it where entered by hand."
+pub fn revs(value: &[u8]) -> Option<Revs> {
+    let (by_hand, digits) = match value.strip_prefix(b"#") {
+        Some(digits) => (true, digits),
+        None => (false, value),
+    };
+    is_number(digits, 5).then(|| Revs {
+        number: number(digits),
+        by_hand,
+    })
 }
 
 /// 01, Bookings: "Dates compare as the number yyyymmdd, zeros included."

@@ -1,4 +1,4 @@
-//! Document 01 as a program, in the order of the paper.
+//! Document 01 as a program, in the order of the paper, with the requests of document 02 that have landed: 1/14.
 //!
 //! - `lines`: line form. - `kinds`: kinds of value. - `tables`: headings and entries.
 //! - `files`: one file, 3 to 9. - `due`: due entries. - `bookings`: rules of AC2 and ACC.
@@ -43,4 +43,14 @@ pub struct Acceptance {
     pub drift_mark: bool,
     pub suspension_mark: bool,
     pub gas_mark: bool,
+    /// 02, 1/14: "acceptance carries that mark for the gas file, unset where none is given".
+    pub by_hand: bool,
+}
+
+/// 01, Writing: a file read alone has an axle count.
+#[derive(Clone, Copy, Debug, PartialEq, Eq)]
+pub struct FileAcceptance {
+    pub axles: u32,
+    /// 02, 1/14: "A file read alone gives it likewise, unset where no revs value stands in it".
+    pub by_hand: bool,
 }
