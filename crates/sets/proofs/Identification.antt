@@ -1,31 +1,25 @@
 -- Slice 6: the judge lets through exactly the identification answer of an address and gas's seven values. Assumes nothing.
-use Prim.Native.Nat.{ℕ, zero, suc, _<_, _≤_}
+use Prim.Native.Nat.{ℕ, _≤_}
 use Prim.Native.String.{String}
 use native.Mathlib.Omega.{arith}
 use mathlib.Core.Path.{_≡_, refl, ap, sym, _∙_, subst}
 use mathlib.Core.Bool.{Bool, true, false, cond, true≢false}
-use mathlib.Core.List.{List, [], _∷_}
+use mathlib.Core.List.{List, []}
 use lib.Dec.{leb}
-use lib.ListN.{length, getD}
-use borrow.Author.Tests.{leb-true, le-leb, ltb-true, ne-eqb}
+use lib.ListN.{length}
+use borrow.Author.Tests.{leb-true, le-leb}
 use Rattle.lines.specs.Bytes.{sameBytes}
 use Rattle.lines.proofs.Bools.{clash}
 use Rattle.kinds.specs.Kind.{Kind, S, N, D}
-use Rattle.kinds.specs.Value.{kindKept, wordIndex, width}
+use Rattle.kinds.specs.Value.{kindOk, wordIndex, width}
 use Rattle.kinds.proofs.Values.{Filled, filled}
 use Rattle.refusals.specs.Answer.{Answer, acceptance}
-use Rattle.tables.specs.Section.{Entry, entriesOf}
+use Rattle.tables.specs.Section.{entriesOf}
 use Rattle.tables.specs.Entries.{protocol, measurement, analysis, analyser, counter, speedTest, allKeyDates, allKeyBodies, fuelAnalysis}
-use Rattle.tables.specs.Row.{noEntry}
 use Rattle.tables.specs.File.{gas, entries, sections, fixedSections, axleSections, identificationNumber}
-use Rattle.tables.specs.Value.{placeOf, isEntry, of}
+use Rattle.tables.specs.Value.{placeOf, of}
 use Rattle.reading.specs.Fitting.{EachKept}
-use Rattle.reading.proofs.Written.{kept-length}
-use Rattle.due.specs.Conditions.{conditionsOf}
-use Rattle.due.specs.Due as U
 use Rattle.due.specs.Due.{conditionAt, conditionOf, exceptions}
-use Rattle.due.specs.declared.Condition.the-variants.{Always}
-use Rattle.due.proofs.FirstNotAsDue.{always-filled}
 use Rattle.rules.specs.Slices.{identificationRight}
 use Rattle.rules.specs.Identification.{sevenOf, sameFields}
 use Rattle.rules.proofs.Laws.{fields-same, fields-refl}
@@ -36,29 +30,22 @@ use Rattle.serial.specs.declared.IdentificationRead.the-variants.{Malformed, Fi
 use Rattle.serial.proofs.Exact.{Written, read-sound, Found, read-complete}
 use Rattle.sets.specs.Records.{isGiven, Address, EachAsDue}
 use Rattle.sets.specs.Judge.{judgeFields, judgeIdentification}
+use Rattle.sets.proofs.Always.{AlwaysDue, due-kind}
 use Rattle.sets.proofs.Steps.{require-inv}
 
 -- ---- gas's seven values, where kinds and due entries are kept, are fields of an answer
 
-kept-at : (es : List Entry) (vs : List (List ℕ)) → EachKept es vs → (i : ℕ) → i < length es → kindKept (getD es i noEntry .kind) (getD vs i []) ≡ true
-kept-at [] vs k i h = absurd (omega arith)
-kept-at (e ∷ es) [] k i h = absurd k
-kept-at (e ∷ es) (v ∷ vs) k zero h = k .0
-kept-at (e ∷ es) (v ∷ vs) k (suc i) h = kept-at es vs (k .1) i (omega arith)
-
--- a filled value of a kind of at most 64 bytes
-field-of : (k : Kind) (v : List ℕ) → leb (width k) 64 ≡ true → U.filled v ≡ true → kindKept k v ≡ true → fieldOk v ≡ true
-unfolding fieldOk kindKept
-field-of k v w e q =
-    let l : 0 < length v = ltb-true 0 (length v) e in
-    let f : Filled (width k) v = filled k v (rw (ne-eqb (length v) 0 (λ z. omega arith)) at q) in
+-- a value of a kind of at most 64 bytes
+field-of : (k : Kind) (v : List ℕ) → leb (width k) 64 ≡ true → kindOk k v ≡ true → fieldOk v ≡ true
+unfolding fieldOk
+field-of k v w e =
+    let f : Filled (width k) v = filled k v e in
     let m : width k ≤ 64 = leb-true (width k) 64 w in
-    rw (le-leb 1 (length v) (omega arith), le-leb (length v) 64 (omega (arith, f)), f .printable) refl
+    rw (le-leb 1 (length v) (omega (arith, f)), le-leb (length v) 64 (omega (arith, f)), f .printable) refl
 
 -- an entry of gas that is always due and of a kind of at most 64 bytes
 abbrev IsField : String → Kind → Type 0
-IsField n k =
-    (isEntry gas n ≡ true) × (getD (entries gas 0) (placeOf gas n) noEntry .kind ≡ k) × (conditionAt gas (placeOf gas n) ≡ Always) × (leb (width k) 64 ≡ true)
+IsField n k = AlwaysDue n k × (leb (width k) 64 ≡ true)
 
 the-fields :
     IsField "MarcaAnalizzatore" (S 64)
@@ -70,25 +57,18 @@ the-fields :
     × IsField "NumVersioneProtocollo" (N 3)
 unfolding placeOf wordIndex sameBytes width exceptions conditionOf conditionAt entries entriesOf sections fixedSections axleSections protocol measurement analysis analyser counter speedTest allKeyDates allKeyBodies fuelAnalysis
 the-fields = (
-  (refl, refl, refl, refl),
-  (refl, refl, refl, refl),
-  (refl, refl, refl, refl),
-  (refl, refl, refl, refl),
-  (refl, refl, refl, refl),
-  (refl, refl, refl, refl),
-  (refl, refl, refl, refl),
+  ((refl, refl, refl), refl),
+  ((refl, refl, refl), refl),
+  ((refl, refl, refl), refl),
+  ((refl, refl, refl), refl),
+  ((refl, refl, refl), refl),
+  ((refl, refl, refl), refl),
+  ((refl, refl, refl), refl),
 )
 
 module _ (a vs : List (List ℕ)) (kinds : EachKept (entries gas 0) vs) (dues : EachAsDue gas a vs) where
   field : (n : String) (k : Kind) → IsField n k → fieldOk (of gas vs n) ≡ true
-  field n k w =
-      let i : ℕ = placeOf gas n in
-      let h : i < length (entries gas 0) = ltb-true i (length (entries gas 0)) (w .0) in
-      let q : kindKept (getD (entries gas 0) i noEntry .kind) (getD vs i []) ≡ true = kept-at (entries gas 0) vs kinds i h in
-      let d = dues i (omega (arith, kept-length (entries gas 0) vs kinds)) in
-      field-of k (getD vs i []) (w .3)
-      (sym (always-filled gas (conditionsOf gas a vs) i (getD vs i []) (w .2)) ∙ d)
-      (ap (λ (k : Kind). kindKept k (getD vs i [])) (sym (w .1)) ∙ q)
+  field n k w = field-of k (of gas vs n) (w .1) (due-kind a vs kinds dues n k (w .0))
 
   pub seven-fields : sevenOk (sevenOf vs) ≡ true
   unfolding sevenOf sevenOk allFieldsOk

@@ -1,5 +1,6 @@
 pub mod Steps
 pub mod File
+pub mod Always
 pub mod Identification
 pub mod Places
 pub mod Set
