@@ -282,7 +282,7 @@ fn odd_files() -> PathBuf {
         car("DER").trim_end().to_string() + "\x1A",
     );
 
-    let values = [
+    let drift_values = [
         ("day", "=30062027", "=31041999"),
         ("month", "=30062027", "=01132027"),
         ("year", "=30062027", "=30062100"),
@@ -295,16 +295,7 @@ fn odd_files() -> PathBuf {
         ("link", "=RETE", "=SERIALE"),
         ("whole", "=0.40", "=40"),
     ];
-    for (name, old, new) in values {
-        let text = car("DER");
-        assert!(text.contains(old), "{name}");
-        put(
-            folder.join(format!("values/{name}.DER")),
-            text.replace(old, new),
-        );
-    }
-
-    let values = [
+    let gas_values = [
         ("gas-long", "=14.50", "=1400.50"),
         ("gas-revs", "=#850", "=123456"),
         ("gas-sign", "=118", "=-118"),
@@ -312,13 +303,15 @@ fn odd_files() -> PathBuf {
         ("revs", "=#850", "=#85O"),
         ("days", "=118", "=1l8"),
     ];
-    for (name, old, new) in values {
-        let text = car("GAS");
-        assert!(text.contains(old), "{name}");
-        put(
-            folder.join(format!("values/{name}.GAS")),
-            text.replace(old, new),
-        );
+    for (ending, values) in [("DER", &drift_values[..]), ("GAS", &gas_values[..])] {
+        for (name, old, new) in values {
+            let text = car(ending);
+            assert!(text.contains(old), "{name}");
+            put(
+                folder.join(format!("values/{name}.{ending}")),
+                text.replace(old, new),
+            );
+        }
     }
 
     let month = car("AC2").replace("=15032004", "=15002004");
