@@ -42,7 +42,7 @@ booked category plate fuel car motorcycle =
 
 -- with all versions this one
 abbrev judged : Version → Booking → Conditions
-judged v b = withLinks b (record { serial = true; external = false; analyser = v; counter = v; speedtest = v })
+judged v b = withLinks b (record { serial = true; external = false; device = v; counter = v; speedtest = v })
 
 abbrev dueNamed : File → String → Conditions → Due
 dueNamed f n c = dueOf f (placeOf f n) c

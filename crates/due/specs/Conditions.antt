@@ -47,7 +47,7 @@ unfoldable pub linksIn : File → List (List ℕ) → Links
 linksIn f own = record {
   serial = isSerial f own;
   external = isExternalLink (of f own "TipoCollegamentoContagiri");
-  analyser = versionIn (of f own "NumVersioneProtocollo");
+  device = versionIn (of f own "NumVersioneProtocollo");
   counter = versionIn (of f own "NumVersioneProtocolloContagiri");
   speedtest = versionIn (of f own "NumVersioneProtocolloProvaVelocita");
 }
@@ -61,7 +61,7 @@ hasLinks suspension = false
 hasLinks gas = true
 
 abbrev pub noLinks : Links
-noLinks = record { serial = false; external = false; analyser = OtherVersion; counter = OtherVersion; speedtest = OtherVersion }
+noLinks = record { serial = false; external = false; device = OtherVersion; counter = OtherVersion; speedtest = OtherVersion }
 
 abbrev pub linksOf : File → List (List ℕ) → Links
 linksOf f own = cond (hasLinks f) (linksIn f own) noLinks
@@ -78,7 +78,7 @@ withLinks b l = record {
   nessuna = b .nessuna;
   serial = l .serial;
   external = l .external;
-  analyser = l .analyser;
+  device = l .device;
   counter = l .counter;
   speedtest = l .speedtest;
 }
@@ -94,7 +94,7 @@ abbrev pub linksAt : LinkPairs → Version → List ℕ → List ℕ → Links
 linksAt k v t p = record {
   serial = isSerialLink (valueOf t p (k .link));
   external = isExternalLink (valueOf t p (k .counterlink));
-  analyser = versionIn (valueOf t p (k .version));
+  device = versionIn (valueOf t p (k .version));
   counter = versionIn (valueOf t p (k .counterversion));
   speedtest = v;
 }

@@ -28,8 +28,8 @@ use Rattle.due.specs.declared.Condition.the-variants.{
   COMinAcc,
   ExternalCounter,
   SpeedTest,
-  AnalyserKey,
-  AnalyserChecksum,
+  DeviceKey,
+  DeviceChecksum,
   CounterKey,
   CounterChecksum,
   SpeedTestKey,
@@ -74,7 +74,7 @@ exceptions gas =
     ++ (named "COMinAcc" COMinAcc ∷
     named "NumVersioneProtocolloContagiri" ExternalCounter ∷
     (map (λ n. (n, SpeedTest)) (names speedTest)
-    ++ (keyEntries "" AnalyserKey AnalyserChecksum
+    ++ (keyEntries "" DeviceKey DeviceChecksum
     ++ (keyEntries "Contagiri" CounterKey CounterChecksum
     ++ keyEntries "ProvaVelocita" SpeedTestKey SpeedTestChecksum))))
 
@@ -130,8 +130,8 @@ holdsIn MotorcycleDirective c = when (isPetrol (c .fuel) && isMotorcycle (c .cat
 holdsIn COMinAcc c = when (c .late)
 holdsIn ExternalCounter c = when (c .external)
 holdsIn SpeedTest c = when (conditionP c)
-holdsIn AnalyserKey c = when (is210 (c .analyser) && c .serial)
-holdsIn AnalyserChecksum c = when (is200 (c .analyser) && c .serial)
+holdsIn DeviceKey c = when (is210 (c .device) && c .serial)
+holdsIn DeviceChecksum c = when (is200 (c .device) && c .serial)
 holdsIn CounterKey c = when (is210 (c .counter) && c .external)
 holdsIn CounterChecksum c = when (is200 (c .counter) && c .external)
 holdsIn SpeedTestKey c = when (is210 (c .speedtest) && conditionP c)

@@ -49,7 +49,7 @@ pub enum Version {
 pub struct Links {
     pub serial: bool,
     pub external: bool,
-    pub analyser: Version,
+    pub device: Version,
     pub counter: Version,
     pub speedtest: Version,
 }
@@ -73,7 +73,7 @@ const GAS_LINKS: LinkPairs = LinkPairs {
 const NO_LINKS: Links = Links {
     serial: false,
     external: false,
-    analyser: Version::OtherVersion,
+    device: Version::OtherVersion,
     counter: Version::OtherVersion,
     speedtest: Version::OtherVersion,
 };
@@ -87,7 +87,7 @@ pub struct Conditions {
     pub nessuna: bool,
     pub serial: bool,
     pub external: bool,
-    pub analyser: Version,
+    pub device: Version,
     pub counter: Version,
     pub speedtest: Version,
 }
@@ -112,104 +112,104 @@ pub enum Condition {
     COMinAcc,
     ExternalCounter,
     SpeedTest,
-    AnalyserKey,
-    AnalyserChecksum,
+    DeviceKey,
+    DeviceChecksum,
     CounterKey,
     CounterChecksum,
     SpeedTestKey,
     SpeedTestChecksum,
 }
 
-// What the entries of the fixed sections hang on, in entry order: the 12 of AC2, the 6 of ACC, the 16 of drift and of
-// suspension, the 53 of gas. One array, so that a loop over the entries of any file lays it out once, before it begins.
+// What the entries of the fixed sections hang on, in entry order; suspension has drift's. One array, so that a loop over
+// the entries of any file lays it out once, before it begins.
 const CONDITIONS: [Condition; 87] = [
-    Condition::Always,
-    Condition::Always,
-    Condition::Always,
-    Condition::CodiceCIC,
-    Condition::Always,
-    Condition::Alimentazione,
-    Condition::DieselEntry,
-    Condition::DieselEntry,
-    Condition::CarDirective,
-    Condition::MotorcycleDirective,
-    Condition::Always,
-    Condition::Always,
-    Condition::Always,
-    Condition::Always,
-    Condition::Always,
-    Condition::Free,
-    Condition::Always,
-    Condition::Always,
-    Condition::Always,
-    Condition::Always,
-    Condition::Always,
-    Condition::Always,
-    Condition::Always,
-    Condition::Always,
-    Condition::Free,
-    Condition::Always,
-    Condition::Always,
-    Condition::Always,
-    Condition::Always,
-    Condition::Free,
-    Condition::Always,
-    Condition::Always,
-    Condition::Always,
-    Condition::Always,
-    Condition::Always,
-    Condition::Always,
-    Condition::Always,
-    Condition::Always,
-    Condition::Always,
-    Condition::Always,
-    Condition::Always,
-    Condition::Always,
-    Condition::Always,
-    Condition::Always,
-    Condition::Always,
-    Condition::Always,
-    Condition::Always,
-    Condition::ExternalCounter,
-    Condition::SpeedTest,
-    Condition::SpeedTest,
-    Condition::SpeedTest,
-    Condition::SpeedTest,
-    Condition::SpeedTest,
-    Condition::SpeedTest,
-    Condition::SpeedTest,
-    Condition::Free,
-    Condition::Always,
-    Condition::Always,
-    Condition::Always,
-    Condition::Always,
-    Condition::AnalyserKey,
-    Condition::AnalyserKey,
-    Condition::CounterKey,
-    Condition::CounterKey,
-    Condition::SpeedTestKey,
-    Condition::SpeedTestKey,
-    Condition::AnalyserChecksum,
-    Condition::AnalyserKey,
-    Condition::AnalyserKey,
-    Condition::CounterChecksum,
-    Condition::CounterKey,
-    Condition::CounterKey,
-    Condition::SpeedTestChecksum,
-    Condition::SpeedTestKey,
-    Condition::SpeedTestKey,
-    Condition::Free,
-    Condition::Always,
-    Condition::Always,
-    Condition::Always,
-    Condition::Always,
-    Condition::Always,
-    Condition::Always,
-    Condition::Always,
-    Condition::Always,
-    Condition::Always,
-    Condition::Always,
-    Condition::COMinAcc,
+    Condition::Always, // AC2: TargaNominale
+    Condition::Always, // AC2: TipoVeicolo
+    Condition::Always, // AC2: CategoriaInternazionale
+    Condition::CodiceCIC, // AC2: CodiceCIC
+    Condition::Always, // AC2: DataPrimaImm
+    Condition::Alimentazione, // AC2: Alimentazione_1
+    Condition::DieselEntry, // AC2: Turbo
+    Condition::DieselEntry, // AC2: CorrettorePressione
+    Condition::CarDirective, // AC2: DirettivaEmissioniGasBenzinaAuto
+    Condition::MotorcycleDirective, // AC2: DirettivaEmissioniGasMotociclo
+    Condition::Always, // AC2: AzionamentoFrenoStazionamento
+    Condition::Always, // AC2: PosAssiStaz
+    Condition::Always, // ACC: TipoVeicolo
+    Condition::Always, // ACC: DescrizioneVeicolo
+    Condition::Always, // ACC: AnnoPrimaImm
+    Condition::Free, // ACC: Alimentazione_1
+    Condition::Always, // ACC: FrenoStazionamento
+    Condition::Always, // ACC: NumAssiStazionamento
+    Condition::Always, // drift, suspension: Marca
+    Condition::Always, // drift, suspension: Tipo
+    Condition::Always, // drift, suspension: NumOmologa
+    Condition::Always, // drift, suspension: NumSerie
+    Condition::Always, // drift, suspension: DataScadenza
+    Condition::Always, // drift, suspension: NumVersioneSoftware
+    Condition::Free, // drift, suspension: Note
+    Condition::Always, // drift, suspension: NumVersioneProtocollo
+    Condition::Always, // drift, suspension: DataVersioneProtocollo
+    Condition::Always, // drift, suspension: TipoCollegamento
+    Condition::Always, // drift, suspension: CircolareApplicata
+    Condition::Free, // drift, suspension: CodErrore
+    Condition::Always, // drift, suspension: DataMisura
+    Condition::Always, // drift, suspension: InizioMisura
+    Condition::Always, // drift, suspension: FineMisura
+    Condition::Always, // drift, suspension: Operatore
+    Condition::Always, // gas: MarcaAnalizzatore
+    Condition::Always, // gas: TipoAnalizzatore
+    Condition::Always, // gas: NumOmologaAnalizzatore
+    Condition::Always, // gas: NumSerieAnalizzatore
+    Condition::Always, // gas: NumVersSoftwareAnalizzatore
+    Condition::Always, // gas: DataScadenzaAnalizzatore
+    Condition::Always, // gas: MarcaContagiri
+    Condition::Always, // gas: TipoContagiri
+    Condition::Always, // gas: NumOmologaContagiri
+    Condition::Always, // gas: NumSerieContagiri
+    Condition::Always, // gas: NumVersioneSoftwareContagiri
+    Condition::Always, // gas: DataScadenzaContagiri
+    Condition::Always, // gas: TipoCollegamentoContagiri
+    Condition::ExternalCounter, // gas: NumVersioneProtocolloContagiri
+    Condition::SpeedTest, // gas: MarcaProvaVelocita
+    Condition::SpeedTest, // gas: TipoProvaVelocita
+    Condition::SpeedTest, // gas: NumOmologaProvaVelocita
+    Condition::SpeedTest, // gas: NumSerieProvaVelocita
+    Condition::SpeedTest, // gas: NumVersioneSoftwareProvaVelocita
+    Condition::SpeedTest, // gas: NumVersioneProtocolloProvaVelocita
+    Condition::SpeedTest, // gas: DataScadenzaProvaVelocita
+    Condition::Free, // gas: Note
+    Condition::Always, // gas: NumVersioneProtocollo
+    Condition::Always, // gas: DataVersioneProtocollo
+    Condition::Always, // gas: TipoCollegamento
+    Condition::Always, // gas: CircolareApplicata
+    Condition::DeviceKey, // gas: IDChiaveRS
+    Condition::DeviceKey, // gas: DataRegChiaveRS
+    Condition::CounterKey, // gas: IDChiaveContagiriRS
+    Condition::CounterKey, // gas: DataRegChiaveContagiriRS
+    Condition::SpeedTestKey, // gas: IDChiaveProvaVelocitaRS
+    Condition::SpeedTestKey, // gas: DataRegChiaveProvaVelocitaRS
+    Condition::DeviceChecksum, // gas: ChecksumRS
+    Condition::DeviceKey, // gas: ModuloChiaveRS
+    Condition::DeviceKey, // gas: EsponenteChiaveRS
+    Condition::CounterChecksum, // gas: ChecksumContagiriRS
+    Condition::CounterKey, // gas: ModuloChiaveContagiriRS
+    Condition::CounterKey, // gas: EsponenteChiaveContagiriRS
+    Condition::SpeedTestChecksum, // gas: ChecksumProvaVelocitaRS
+    Condition::SpeedTestKey, // gas: ModuloChiaveProvaVelocitaRS
+    Condition::SpeedTestKey, // gas: EsponenteChiaveProvaVelocitaRS
+    Condition::Free, // gas: CodErrore
+    Condition::Always, // gas: DataMisura
+    Condition::Always, // gas: InizioMisura
+    Condition::Always, // gas: FineMisura
+    Condition::Always, // gas: Operatore
+    Condition::Always, // gas: COMin
+    Condition::Always, // gas: COCorrettoMin
+    Condition::Always, // gas: CO2Min
+    Condition::Always, // gas: HCMin
+    Condition::Always, // gas: O2Min
+    Condition::Always, // gas: NumGiriMotoreMin
+    Condition::COMinAcc, // gas: COMinAcc
 ];
 
 // Where a file's conditions begin among these.
@@ -369,7 +369,7 @@ fn holds_in(condition: Condition, c: Conditions) -> Due
     ensures { λ r. ⌜ r ≡ holdsIn condition c ⌝ }
 {
     let fuel = c.fuel;
-    let analyser = c.analyser;
+    let device = c.device;
     let counter = c.counter;
     let speedtest = c.speedtest;
     match condition {
@@ -383,8 +383,8 @@ fn holds_in(condition: Condition, c: Conditions) -> Due
         Condition::COMinAcc => due_when(c.late),
         Condition::ExternalCounter => due_when(c.external),
         Condition::SpeedTest => due_when(condition_p(c)),
-        Condition::AnalyserKey => key_due(analyser, c.serial),
-        Condition::AnalyserChecksum => checksum_due(analyser, c.serial),
+        Condition::DeviceKey => key_due(device, c.serial),
+        Condition::DeviceChecksum => checksum_due(device, c.serial),
         Condition::CounterKey => key_due(counter, c.external),
         Condition::CounterChecksum => checksum_due(counter, c.external),
         Condition::SpeedTestKey => key_due(speedtest, condition_p(c)),
@@ -541,13 +541,13 @@ fn links_at(k: LinkPairs, speedtest: Version, text: &[u8], places: &[u32]) -> Li
     ensures { λ r. ⌜ r ≡ linksAt k speedtest (now (text .entry)) (now (places .entry)) ⌝ }
 {
     let serial = is_serial(places::value_of(text, places, k.link));
-    let analyser = version_of(places::value_of(text, places, k.version));
+    let device = version_of(places::value_of(text, places, k.version));
     let external = is_external(places::value_of(text, places, k.counterlink));
     let counter = version_of(places::value_of(text, places, k.counterversion));
     Links {
         serial,
         external,
-        analyser,
+        device,
         counter,
         speedtest,
     }
@@ -576,7 +576,7 @@ fn with_links(booking: Booking, links: Links) -> Conditions
     ensures { λ r. ⌜ r ≡ withLinks booking links ⌝ }
 {
     let fuel = booking.fuel;
-    let analyser = links.analyser;
+    let device = links.device;
     let counter = links.counter;
     let speedtest = links.speedtest;
     Conditions {
@@ -587,7 +587,7 @@ fn with_links(booking: Booking, links: Links) -> Conditions
         nessuna: booking.nessuna,
         serial: links.serial,
         external: links.external,
-        analyser,
+        device,
         counter,
         speedtest,
     }

@@ -1,7 +1,7 @@
--- Every line of kept values is well formed, and the length of their text is known, by the tests of the table alone. Assumes nothing.
+-- Every line of kept values is well formed and not too long, and the length of their text is known, by the tests of the table alone. Assumes nothing.
 use Prim.Native.Nat.{ℕ, zero, suc, _+_, _≤_}
 use mathlib.Core.Path.{_≡_, refl, ap, sym, _∙_}
-use mathlib.Core.Bool.{true, _&&_}
+use mathlib.Core.Bool.{Bool, true, _&&_}
 use mathlib.Core.Option.{Option, none, some}
 use mathlib.Core.List.{List, [], _∷_, _++_, map, List·Permᴰ·nil, List·Permᴰ·cons, List·Permᴰ·swap, List·Permᴰ·trans, Permᴰ·symm}
 use native.Mathlib.Omega.{arith}
@@ -13,7 +13,7 @@ use Rattle.lines.specs.Line.{Line, heading, entry, lineBytes, writtenLine, writ
 use Rattle.lines.proofs.Bools.{and-left, and-right}
 use Rattle.lines.proofs.Bytes.{printable-append}
 use Rattle.lines.proofs.Writing.{written-length}
-use Rattle.kinds.specs.Value.{width}
+use Rattle.kinds.specs.Value.{kindKept, width}
 use Rattle.kinds.proofs.Values.{kept}
 use Rattle.tables.specs.Section.{Entry, Section, entriesOf}
 use Rattle.tables.specs.Row.{names}
@@ -22,7 +22,7 @@ use Rattle.orders.specs.Rows.{Row, headingRow, entryRow, rowValues}
 use Rattle.orders.proofs.Items.{Item, items, All, all-perm, all-join}
 use Rattle.orders.proofs.Complete.{entryItem, zip-section, order-items}
 use Rattle.reading.specs.Fitting.{joined, nameTable, FitsText, EachKept}
-use Rattle.reading.specs.Tables.{cleanEntries, cleanTable, entriesLength, tableLength, valuesLength, widths, mostBytes, shortTable}
+use Rattle.reading.specs.Tables.{lineMost, cleanEntries, cleanTable, entriesLength, tableLength, valuesLength, widths, mostBytes, shortTable}
 use Rattle.reading.proofs.Lookup.{tableRows}
 
 -- ---- as many values as entries
@@ -67,55 +67,126 @@ entry-formed n v w g l p h =
     rw (le-leb 1 (length (n ++ 61 ∷ v)) (omega arith), le-leb (length (n ++ 61 ∷ v)) 512 (omega arith), printable-append n (61 ∷ v) y q)
     (rw (opens-alike n v []) f)
 
--- ---- every line of kept values
+-- ---- what each row of a table has with every kept value, each line has
+
+-- of the entries under the heading h, and of a table: row and value have P
+abbrev OfEntries : (Row → Value → Type 0) → Name → List Entry → Type 0
+OfEntries P h [] = Unit {0}
+OfEntries P h (e ∷ es) = ((v : Value) → kindKept (e .kind) v ≡ true → P (entryRow (some h) (e .name)) v) × OfEntries P h es
+
+abbrev OfTable : (Row → Value → Type 0) → List Section → Type 0
+OfTable P [] = Unit {0}
+OfTable P (x ∷ t) = ((v : Value) → P (headingRow (x .heading)) v) × OfEntries P (x .heading) (x .entries) × OfTable P t
+
+module _ (P : Row → Value → Type 0) where
+  abbrev Has : Item → Type 0
+  Has i = P (i .0) (i .1)
+
+  of-entries : (h : Name) (es : List Entry) (vs : List Value) → OfEntries P h es → EachKept es vs → All Has (map (entryItem h) (zip (names es) vs))
+  of-entries h [] vs p k = tt
+  of-entries h (e ∷ es) [] p k = absurd k
+  of-entries h (e ∷ es) (v ∷ vs) p k = (p .0 v (k .0), of-entries h es vs (p .1) (k .1))
+
+  of-table : (t : List Section) (v : Values) → SameShape (nameTable t) v → OfTable P t → EachKept (entriesOf t) (joined v) → All Has (zip (tableRows t) (rowValues v))
+  unfolding entriesOf joined
+  of-table [] v z p k = tt
+  of-table (x ∷ t) [] z p k = absurd z
+  of-table (x ∷ t) (vs ∷ v) z p k =
+      let h = x .heading in
+      let ns = names (x .entries) in
+      let n : length vs ≡ length (x .entries) = z .0 ∙ length-map (x .entries) (λ e. e .name) in
+      let q = kept-split (x .entries) (entriesOf t) vs (joined v) n k in (
+        p .0 [],
+        rw (zip-section h ns vs (tableRows t) (rowValues v) (z .0)) (all-join Has (map (entryItem h) (zip ns vs)) (zip (tableRows t) (rowValues v))
+            (of-entries h (x .entries) vs (p .1) (q .0))
+            (of-table t v (z .1) (p .2) (q .1))),
+      )
+
+  of-lines : (t : List Section) (vs : List Value) (s : List ℕ) → OfTable P t → (f : FitsText t vs s) → EachKept (entriesOf t) vs → All Has (items none (f .lines))
+  of-lines t vs s p f k =
+      let o = f .in-any-order in
+      all-perm Has (Permᴰ·symm (order-items o)) (of-table t (f .parts) (each-shape (o .each)) p (rw (f .values-are) at k))
+
+-- ---- every line of kept values is well formed
 
 abbrev FormedRow : Row → Value → Type 0
 FormedRow (headingRow h) v = wellFormed (heading h) ≡ true
 FormedRow (entryRow g n) v = wellFormed (entry n v) ≡ true
 
-abbrev Formed : Item → Type 0
-Formed i = FormedRow (i .0) (i .1)
-
-entries-formed : (h : Name) (es : List Entry) (vs : List Value) → cleanEntries es ≡ true → EachKept es vs → All Formed (map (entryItem h) (zip (names es) vs))
+entries-formed : (h : Name) (es : List Entry) → cleanEntries es ≡ true → OfEntries FormedRow h es
 unfolding cleanEntries
-entries-formed h [] vs c k = tt
-entries-formed h (e ∷ es) [] c k = absurd k
-entries-formed h (e ∷ es) (v ∷ vs) c k =
-    let here = wellFormed (entry (e .name) []) && leb (length (e .name) + 1 + width (e .kind)) 512 in
+entries-formed h [] c = tt
+entries-formed h (e ∷ es) c =
+    let formedEmpty = wellFormed (entry (e .name) []) in
+    let here = formedEmpty && leb (lineMost e) 512 in
     let a = and-left here (cleanEntries es) c in
-    let l = leb-true (length (e .name) + 1 + width (e .kind)) 512 (and-right (wellFormed (entry (e .name) [])) _ a) in
-    let p = kept (e .kind) v (k .0) in
-    (entry-formed (e .name) v (width (e .kind)) (and-left (wellFormed (entry (e .name) [])) _ a) l (p .0) (p .1), entries-formed h es vs (and-right here (cleanEntries es) c) (k .1))
+    let l = leb-true (lineMost e) 512 (and-right formedEmpty _ a) in
+    (λ v k. let p = kept (e .kind) v k in entry-formed (e .name) v (width (e .kind)) (and-left formedEmpty _ a) l (p .0) (p .1), entries-formed h es (and-right here (cleanEntries es) c))
 
-table-formed : (t : List Section) (v : Values) → SameShape (nameTable t) v → cleanTable t ≡ true → EachKept (entriesOf t) (joined v) → All Formed (zip (tableRows t) (rowValues v))
-unfolding cleanTable entriesOf joined
-table-formed [] v z c k = tt
-table-formed (x ∷ t) [] z c k = absurd z
-table-formed (x ∷ t) (vs ∷ v) z c k =
-    let h = x .heading in
-    let ns = names (x .entries) in
-    let here = wellFormed (heading h) && cleanEntries (x .entries) in
-    let a = and-left here (cleanTable t) c in
-    let n : length vs ≡ length (x .entries) = z .0 ∙ length-map (x .entries) (λ e. e .name) in
-    let q = kept-split (x .entries) (entriesOf t) vs (joined v) n k in (
-      and-left (wellFormed (heading h)) (cleanEntries (x .entries)) a,
-      rw (zip-section h ns vs (tableRows t) (rowValues v) (z .0)) (all-join Formed (map (entryItem h) (zip ns vs)) (zip (tableRows t) (rowValues v))
-          (entries-formed h (x .entries) vs (and-right (wellFormed (heading h)) (cleanEntries (x .entries)) a) (q .0))
-          (table-formed t v (z .1) (and-right here (cleanTable t) c) (q .1))),
+table-formed : (t : List Section) → cleanTable t ≡ true → OfTable FormedRow t
+unfolding cleanTable
+table-formed [] c = tt
+table-formed (x ∷ t) c =
+    let here = wellFormed (heading (x .heading)) && cleanEntries (x .entries) in
+    let a = and-left here (cleanTable t) c in (
+      λ v. and-left (wellFormed (heading (x .heading))) (cleanEntries (x .entries)) a,
+      entries-formed (x .heading) (x .entries) (and-right (wellFormed (heading (x .heading))) (cleanEntries (x .entries)) a),
+      table-formed t (and-right here (cleanTable t) c),
     )
 
-lines-formed : (cur : Option Name) (ls : List Line) → All Formed (items cur ls) → allWellFormed ls ≡ true
+lines-formed : (cur : Option Name) (ls : List Line) → All (Has FormedRow) (items cur ls) → allWellFormed ls ≡ true
 unfolding allWellFormed
 lines-formed cur [] a = refl
 lines-formed cur (heading h ∷ ls) a = rw (a .0) (lines-formed (some h) ls (a .1))
 lines-formed cur (entry n v ∷ ls) a = rw (a .0) (lines-formed cur ls (a .1))
 
--- every line of a text that fits kept values is well formed
 pub all-formed : (t : List Section) (vs : List Value) (s : List ℕ) → cleanTable t ≡ true → (f : FitsText t vs s) → EachKept (entriesOf t) vs → allWellFormed (f .lines) ≡ true
-all-formed t vs s c f k =
-    let o = f .in-any-order in
-    lines-formed none (f .lines)
-    (all-perm Formed (Permᴰ·symm (order-items o)) (table-formed t (f .parts) (each-shape (o .each)) c (rw (f .values-are) at k)))
+all-formed t vs s c f k = lines-formed none (f .lines) (of-lines FormedRow t vs s (table-formed t c) f k)
+
+-- ---- no line of kept values is above m bytes, its CR LF not counted
+
+-- the test, computed for a table
+unfoldable pub entriesWithin : ℕ → List Entry → Bool
+entriesWithin m [] = true
+entriesWithin m (e ∷ es) = leb (lineMost e) m && entriesWithin m es
+
+unfoldable pub tableWithin : ℕ → List Section → Bool
+tableWithin m [] = true
+tableWithin m (x ∷ t) = leb (length (x .heading)) m && (entriesWithin m (x .entries) && tableWithin m t)
+
+abbrev ShortRow : ℕ → Row → Value → Type 0
+ShortRow m (headingRow h) v = length (lineBytes (heading h)) ≤ m
+ShortRow m (entryRow g n) v = length (lineBytes (entry n v)) ≤ m
+
+entries-within : (m : ℕ) (h : Name) (es : List Entry) → entriesWithin m es ≡ true → OfEntries (ShortRow m) h es
+unfolding entriesWithin
+entries-within m h [] c = tt
+entries-within m h (e ∷ es) c =
+    let l = leb-true (lineMost e) m (and-left _ (entriesWithin m es) c) in
+    (λ v k. omega (arith, l, kept (e .kind) v k .1, length-append (e .name) (61 ∷ v)), entries-within m h es (and-right (leb (lineMost e) m) _ c))
+
+table-within : (m : ℕ) (t : List Section) → tableWithin m t ≡ true → OfTable (ShortRow m) t
+unfolding tableWithin
+table-within m [] c = tt
+table-within m (x ∷ t) c =
+    let rest = and-right (leb (length (x .heading)) m) _ c in (
+      λ v. leb-true (length (x .heading)) m (and-left _ (entriesWithin m (x .entries) && tableWithin m t) c),
+      entries-within m (x .heading) (x .entries) (and-left _ (tableWithin m t) rest),
+      table-within m t (and-right (entriesWithin m (x .entries)) _ rest),
+    )
+
+-- each of these lines has at most m bytes
+abbrev pub EachWithin : ℕ → List Line → Type 0
+EachWithin m [] = Unit {0}
+EachWithin m (l ∷ ls) = (length (lineBytes l) ≤ m) × EachWithin m ls
+
+lines-within : (m : ℕ) (cur : Option Name) (ls : List Line) → All (Has (ShortRow m)) (items cur ls) → EachWithin m ls
+lines-within m cur [] a = tt
+lines-within m cur (heading h ∷ ls) a = (a .0, lines-within m (some h) ls (a .1))
+lines-within m cur (entry n v ∷ ls) a = (a .0, lines-within m cur ls (a .1))
+
+pub all-within : (m : ℕ) (t : List Section) (vs : List Value) (s : List ℕ) → tableWithin m t ≡ true → (f : FitsText t vs s) → EachKept (entriesOf t) vs → EachWithin m (f .lines)
+all-within m t vs s c f k = lines-within m none (f .lines) (of-lines (ShortRow m) t vs s (table-within m t c) f k)
 
 pub clean-take : (t : List Section) (c : ℕ) → cleanTable t ≡ true → cleanTable (take c t) ≡ true
 unfolding cleanTable
@@ -208,14 +279,11 @@ first-shorter [] (suc c) = omega arith
 first-shorter (x ∷ t) (suc c) =
     omega (arith, first-shorter t c, widths-append (x .entries) (entriesOf (take c t)), widths-append (x .entries) (entriesOf t))
 
--- 01, Lines: a text that fits kept values is never too long
+-- a text that fits kept values is no longer than the table with values as long as their kinds let them be
+pub text-bound : (t : List Section) (c : ℕ) (vs : List Value) (s : List ℕ) → FitsText (take c t) vs s → EachKept (entriesOf (take c t)) vs → length s ≤ tableLength t + widths (entriesOf t)
+text-bound t c vs s f k = omega (arith, first-shorter t c, text-length (take c t) vs s f, values-bound (entriesOf (take c t)) vs k)
+
+-- 01, Lines: so it is never too long
 pub short-text : (t : List Section) (c : ℕ) (vs : List Value) (s : List ℕ) → shortTable t ≡ true → FitsText (take c t) vs s → EachKept (entriesOf (take c t)) vs → length s ≤ mostBytes
 unfolding shortTable
-short-text t c vs s e f k =
-    omega (
-      arith,
-      leb-true (tableLength t + widths (entriesOf t)) mostBytes e,
-      first-shorter t c,
-      text-length (take c t) vs s f,
-      values-bound (entriesOf (take c t)) vs k,
-    )
+short-text t c vs s e f k = omega (arith, leb-true (tableLength t + widths (entriesOf t)) mostBytes e, text-bound t c vs s f k)

@@ -1,4 +1,4 @@
--- Tests of a table, computed for each of the five: its rows can be told apart, its lines have form, its texts are not too long.
+-- Tests of a table, computed for each file: its rows can be told apart, its lines have form, its texts are not too long.
 use Prim.Native.Nat.{ℕ, _+_}
 use mathlib.Core.Bool.{Bool, true, _&&_}
 use mathlib.Core.List.{List, [], _∷_}
@@ -14,10 +14,14 @@ use Rattle.reading.specs.Fitting.{nameTable}
 unfoldable pub distinctRows : List Section → Bool
 distinctRows t = O.distinctRows (nameTable t)
 
+-- the most bytes of an entry's line: name, `=`, value
+abbrev pub lineMost : Entry → ℕ
+lineMost e = length (e .name) + 1 + width (e .kind)
+
 -- an entry's line has form with every value of its kind
 unfoldable pub cleanEntries : List Entry → Bool
 cleanEntries [] = true
-cleanEntries (e ∷ es) = (wellFormed (entry (e .name) []) && leb (length (e .name) + 1 + width (e .kind)) 512) && cleanEntries es
+cleanEntries (e ∷ es) = (wellFormed (entry (e .name) []) && leb (lineMost e) 512) && cleanEntries es
 
 unfoldable pub cleanTable : List Section → Bool
 cleanTable [] = true

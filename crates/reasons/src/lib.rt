@@ -176,8 +176,8 @@ fn asked_number(condition: Condition) -> u32
         Condition::COMinAcc => WHEN,
         Condition::ExternalCounter => WHEN,
         Condition::SpeedTest => WHEN,
-        Condition::AnalyserKey => WHEN,
-        Condition::AnalyserChecksum => WHEN,
+        Condition::DeviceKey => WHEN,
+        Condition::DeviceChecksum => WHEN,
         Condition::CounterKey => WHEN,
         Condition::CounterChecksum => WHEN,
         Condition::SpeedTestKey => WHEN,
@@ -294,7 +294,7 @@ fn condition_reasons(condition: Condition) -> [u32; 12]
             0,
             0,
         ],
-        Condition::AnalyserKey => [
+        Condition::DeviceKey => [
             VERSION_210,
             GAS,
             VERSION,
@@ -308,7 +308,7 @@ fn condition_reasons(condition: Condition) -> [u32; 12]
             0,
             0,
         ],
-        Condition::AnalyserChecksum => [
+        Condition::DeviceChecksum => [
             VERSION_200,
             GAS,
             VERSION,

@@ -38,9 +38,9 @@ rowSize = 34
 unfoldable pub inRow : List ℕ → List ℕ
 inRow n = n ++ replicate (rowSize - length n) 32
 
--- the tag of a name: one byte from its length and its first byte, which tells nearly all names of a section apart
+-- the tag of a name: one byte from its length, its first and its last byte, which tells nearly all names of a section apart
 unfoldable pub tagOf : List ℕ → ℕ
-tagOf s = (length s % 32 * 8 + getD s 0 0) % 256
+tagOf s = (length s % 64 * 4 + getD s 0 0 + getD s (length s - 1) 0 % 32 * 8) % 256
 
 -- the one section that a heading can be: that of the digit before its last byte (an axle's number; in gas the fuel's), else the first
 abbrev pub sectionDigit : ℕ → ℕ

@@ -42,18 +42,18 @@ const NEW_BOOKING_LENGTHS: [u8; 12] = [
 ];
 
 const NEW_BOOKING_TAGS: [u8; 12] = [
-    188, // TargaNominale
-    172, // TipoVeicolo
-    251, // CategoriaInternazionale
-    139, // CodiceCIC
-    164, // DataPrimaImm
-    185, // Alimentazione_1
-    124, // Turbo
-    219, // CorrettorePressione
-    68, // DirettivaEmissioniGasBenzinaAuto
+    176, // TargaNominale
+    248, // TipoVeicolo
+    199, // CategoriaInternazionale
+    127, // CodiceCIC
+    220, // DataPrimaImm
+    5, // Alimentazione_1
+    224, // Turbo
+    183, // CorrettorePressione
+    60, // DirettivaEmissioniGasBenzinaAuto
     52, // DirettivaEmissioniGasMotociclo
-    41, // AzionamentoFrenoStazionamento
-    168, // PosAssiStaz
+    45, // AzionamentoFrenoStazionamento
+    76, // PosAssiStaz
 ];
 
 const OLD_BOOKING_ROWS: [Row; 6] = [
@@ -75,12 +75,12 @@ const OLD_BOOKING_LENGTHS: [u8; 6] = [
 ];
 
 const OLD_BOOKING_TAGS: [u8; 6] = [
-    172, // TipoVeicolo
-    212, // DescrizioneVeicolo
-    161, // AnnoPrimaImm
-    185, // Alimentazione_1
-    214, // FrenoStazionamento
-    238, // NumAssiStazionamento
+    248, // TipoVeicolo
+    4, // DescrizioneVeicolo
+    217, // AnnoPrimaImm
+    5, // Alimentazione_1
+    6, // FrenoStazionamento
+    22, // NumAssiStazionamento
 ];
 
 const TESTER_ROWS: [Row; 20] = [
@@ -130,26 +130,26 @@ const TESTER_LENGTHS: [u8; 20] = [
 ];
 
 const TESTER_TAGS: [u8; 20] = [
-    117, // Marca
-    116, // Tipo
-    158, // NumOmologa
-    142, // NumSerie
-    164, // DataScadenza
-    230, // NumVersioneSoftware
-    110, // Note
-    246, // NumVersioneProtocollo
-    244, // DataVersioneProtocollo
-    212, // TipoCollegamento
-    211, // CircolareApplicata
-    139, // CodErrore
-    148, // DataMisura
-    169, // InizioMisura
-    150, // FineMisura
-    151, // Operatore
-    116, // Deriva
-    153, // Aderenza%Sx
-    153, // Aderenza%Dx
-    156, // Differenza%
+    105, // Marca
+    220, // Tipo
+    126, // NumOmologa
+    150, // NumSerie
+    124, // DataScadenza
+    194, // NumVersioneSoftware
+    134, // Note
+    26, // NumVersioneProtocollo
+    20, // DataVersioneProtocollo
+    12, // TipoCollegamento
+    147, // CircolareApplicata
+    143, // CodErrore
+    116, // DataMisura
+    129, // InizioMisura
+    118, // FineMisura
+    155, // Operatore
+    100, // Deriva
+    45, // Aderenza%Sx
+    45, // Aderenza%Dx
+    152, // Differenza%
 ];
 
 const GAS_ROWS: [Row; 53] = [
@@ -265,59 +265,59 @@ const GAS_LENGTHS: [u8; 53] = [
 ];
 
 const GAS_TAGS: [u8; 53] = [
-    213, // MarcaAnalizzatore
-    212, // TipoAnalizzatore
-    254, // NumOmologaAnalizzatore
-    238, // NumSerieAnalizzatore
-    38, // NumVersSoftwareAnalizzatore
-    4, // DataScadenzaAnalizzatore
-    189, // MarcaContagiri
-    188, // TipoContagiri
-    230, // NumOmologaContagiri
-    214, // NumSerieContagiri
-    46, // NumVersioneSoftwareContagiri
-    236, // DataScadenzaContagiri
-    28, // TipoCollegamentoContagiri
-    62, // NumVersioneProtocolloContagiri
-    221, // MarcaProvaVelocita
-    220, // TipoProvaVelocita
-    6, // NumOmologaProvaVelocita
-    246, // NumSerieProvaVelocita
-    78, // NumVersioneSoftwareProvaVelocita
-    94, // NumVersioneProtocolloProvaVelocita
-    12, // DataScadenzaProvaVelocita
-    110, // Note
-    246, // NumVersioneProtocollo
-    244, // DataVersioneProtocollo
-    212, // TipoCollegamento
-    211, // CircolareApplicata
-    153, // IDChiaveRS
-    188, // DataRegChiaveRS
-    225, // IDChiaveContagiriRS
-    4, // DataRegChiaveContagiriRS
-    1, // IDChiaveProvaVelocitaRS
-    36, // DataRegChiaveProvaVelocitaRS
-    147, // ChecksumRS
-    189, // ModuloChiaveRS
-    205, // EsponenteChiaveRS
-    219, // ChecksumContagiriRS
-    5, // ModuloChiaveContagiriRS
-    21, // EsponenteChiaveContagiriRS
-    251, // ChecksumProvaVelocitaRS
-    37, // ModuloChiaveProvaVelocitaRS
-    53, // EsponenteChiaveProvaVelocitaRS
-    139, // CodErrore
-    148, // DataMisura
-    169, // InizioMisura
-    150, // FineMisura
-    151, // Operatore
-    107, // COMin
-    171, // COCorrettoMin
-    115, // CO2Min
-    112, // HCMin
-    119, // O2Min
-    206, // NumGiriMotoreMin
-    131, // COMinAcc
+    185, // MarcaAnalizzatore
+    188, // TipoAnalizzatore
+    206, // NumOmologaAnalizzatore
+    198, // NumSerieAnalizzatore
+    226, // NumVersSoftwareAnalizzatore
+    204, // DataScadenzaAnalizzatore
+    205, // MarcaContagiri
+    208, // TipoContagiri
+    226, // NumOmologaContagiri
+    218, // NumSerieContagiri
+    6, // NumVersioneSoftwareContagiri
+    224, // DataScadenzaContagiri
+    0, // TipoCollegamentoContagiri
+    14, // NumVersioneProtocolloContagiri
+    157, // MarcaProvaVelocita
+    160, // TipoProvaVelocita
+    178, // NumOmologaProvaVelocita
+    170, // NumSerieProvaVelocita
+    214, // NumVersioneSoftwareProvaVelocita
+    222, // NumVersioneProtocolloProvaVelocita
+    176, // DataScadenzaProvaVelocita
+    134, // Note
+    26, // NumVersioneProtocollo
+    20, // DataVersioneProtocollo
+    12, // TipoCollegamento
+    147, // CircolareApplicata
+    9, // IDChiaveRS
+    24, // DataRegChiaveRS
+    45, // IDChiaveContagiriRS
+    60, // DataRegChiaveContagiriRS
+    61, // IDChiaveProvaVelocitaRS
+    76, // DataRegChiaveProvaVelocitaRS
+    3, // ChecksumRS
+    29, // ModuloChiaveRS
+    33, // EsponenteChiaveRS
+    39, // ChecksumContagiriRS
+    65, // ModuloChiaveContagiriRS
+    69, // EsponenteChiaveContagiriRS
+    55, // ChecksumProvaVelocitaRS
+    81, // ModuloChiaveProvaVelocitaRS
+    85, // EsponenteChiaveProvaVelocitaRS
+    143, // CodErrore
+    116, // DataMisura
+    129, // InizioMisura
+    118, // FineMisura
+    155, // Operatore
+    199, // COMin
+    231, // COCorrettoMin
+    203, // CO2Min
+    204, // HCMin
+    211, // O2Min
+    254, // NumGiriMotoreMin
+    123, // COMinAcc
 ];
 
 pub fn new_booking_rows() -> [Row; 12]

@@ -242,10 +242,11 @@ pub fn find_section(file: u32, part: &[u8]) -> usize
 fn tag_of(part: &[u8]) -> u8
     ensures { λ r. ⌜ r ≡ tagOf (now (part .entry)) ⌝ }
 {
-    if part.len() == 0 {
+    let size = part.len();
+    if size == 0 {
         return 0;
     }
-    ((part.len() % 32 * 8 + part[0] as usize) % 256) as u8
+    ((size % 64 * 4 + part[0] as usize + part[size - 1] as usize % 32 * 8) % 256) as u8
 }
 
 // Whether the name in a row is that part.
