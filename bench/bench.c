@@ -6,12 +6,13 @@
  *     bench time WHAT SET      prints the nanoseconds of one call, the least of ROUNDS averages
  *     bench count WHAT SET     makes one call as warm-up, then one in the function `measured`, for callgrind
  *
- * SET is a folder with the files stem, ac2, acc, drift, suspension, gas, identification. WHAT:
+ * SET is a folder with the files stem, ac2, acc, drift, suspension, gas, identification, opacity. WHAT:
  *
  *     judge          mctc_judge on the whole set
- *     read           mctc_read on the gas file alone
- *     inih           ini_parse_string on the five files, inih-gas on the gas file alone
- *     gkeyfile       GKeyFile made, loaded and freed for each of the five files, gkeyfile-gas for the gas file alone
+ *     inih           ini_parse_string on each file that is given, but the identification answer
+ *     gkeyfile       GKeyFile made, loaded and freed for each of these
+ *
+ * and with -gas or -opacity behind it that file alone: mctc_read in place of judging.
  */
 #include <glib.h>
 #include <ini.h>
@@ -34,9 +35,11 @@ struct text {
     size_t length;
 };
 
-enum { STEM, AC2, ACC, DRIFT, SUSPENSION, GAS, IDENTIFICATION, TEXTS };
+/* The number of each is that of its slice. */
+enum { STEM, AC2, ACC, DRIFT, SUSPENSION, GAS, IDENTIFICATION, OPACITY, TEXTS };
 
-static const char *const names[TEXTS] = {"stem", "ac2", "acc", "drift", "suspension", "gas", "identification"};
+static const char *const names[TEXTS] = {"stem", "ac2",            "acc",    "drift", "suspension",
+                                         "gas",  "identification", "opacity"};
 
 static struct text texts[TEXTS];
 static uint32_t places[MCTC_PLACES_SIZE];
@@ -81,12 +84,29 @@ static void judge(void)
                bytes(SUSPENSION), texts[SUSPENSION].length,
                bytes(GAS), texts[GAS].length,
                bytes(IDENTIFICATION), texts[IDENTIFICATION].length,
+               bytes(OPACITY), texts[OPACITY].length,
                places, MCTC_PLACES_SIZE, answer, MCTC_ANSWER_SIZE);
+}
+
+/* Whether a text is a file of sections and entries. */
+static int is_file(int i)
+{
+    return i != STEM && i != IDENTIFICATION;
+}
+
+static void read_text(int i)
+{
+    mctc_read(i, bytes(i), texts[i].length, places, MCTC_PLACES_SIZE, answer, MCTC_ANSWER_SIZE);
 }
 
 static void read_gas(void)
 {
-    mctc_read(5, bytes(GAS), texts[GAS].length, places, MCTC_PLACES_SIZE, answer, MCTC_ANSWER_SIZE);
+    read_text(GAS);
+}
+
+static void read_opacity(void)
+{
+    read_text(OPACITY);
 }
 
 /* The least that inih lets a caller do with an entry. */
@@ -107,10 +127,17 @@ static void inih_gas(void)
     inih_text(GAS);
 }
 
+static void inih_opacity(void)
+{
+    inih_text(OPACITY);
+}
+
+/* A file that is not given is left out, here and below. */
 static void inih(void)
 {
-    for (int i = AC2; i <= GAS; i++)
-        inih_text(i);
+    for (int i = 0; i < TEXTS; i++)
+        if (is_file(i) && texts[i].length > 0)
+            inih_text(i);
 }
 
 static gboolean gkeyfile_text(int i)
@@ -126,11 +153,15 @@ static void gkeyfile_gas(void)
     gkeyfile_text(GAS);
 }
 
-/* A file that is not given is left out. */
+static void gkeyfile_opacity(void)
+{
+    gkeyfile_text(OPACITY);
+}
+
 static void gkeyfile(void)
 {
-    for (int i = AC2; i <= GAS; i++)
-        if (texts[i].length > 0)
+    for (int i = 0; i < TEXTS; i++)
+        if (is_file(i) && texts[i].length > 0)
             gkeyfile_text(i);
 }
 
@@ -141,8 +172,15 @@ static call *call_of(const char *what)
     static const struct {
         const char *what;
         call *call;
-    } calls[] = {{"judge", judge},       {"read", read_gas},         {"inih", inih}, {"inih-gas", inih_gas},
-                 {"gkeyfile", gkeyfile}, {"gkeyfile-gas", gkeyfile_gas}};
+    } calls[] = {{"judge", judge},
+                 {"read-gas", read_gas},
+                 {"read-opacity", read_opacity},
+                 {"inih", inih},
+                 {"inih-gas", inih_gas},
+                 {"inih-opacity", inih_opacity},
+                 {"gkeyfile", gkeyfile},
+                 {"gkeyfile-gas", gkeyfile_gas},
+                 {"gkeyfile-opacity", gkeyfile_opacity}};
     for (size_t i = 0; i < sizeof calls / sizeof *calls; i++)
         if (strcmp(what, calls[i].what) == 0)
             return calls[i].call;
@@ -204,10 +242,12 @@ int main(int count, char **words)
         print_answer();
     } else if (count == 3 && strcmp(words[1], "parsers") == 0) {
         load(words[2]);
-        for (int i = AC2; i <= GAS; i++)
-            printf("%d ", inih_text(i));
-        for (int i = AC2; i <= GAS; i++)
-            printf("%d%c", gkeyfile_text(i), i < GAS ? ' ' : '\n');
+        for (int i = 0; i < TEXTS; i++)
+            if (is_file(i))
+                printf("%d ", inih_text(i));
+        for (int i = 0; i < TEXTS; i++)
+            if (is_file(i))
+                printf("%d%c", gkeyfile_text(i), i < OPACITY ? ' ' : '\n');
     } else if (count == 4 && strcmp(words[1], "time") == 0) {
         load(words[3]);
         print_time(call_of(words[2]));

@@ -8,9 +8,10 @@
  * The pointer of an empty array is not null, and is aligned for its elements. No array that a call writes to (places of
  * mctc_judge, mctc_read and mctc_due, output, column, answer) overlaps another array of the same call.
  *
- * Files: 1 new booking (AC2), 2 old booking (ACC), 3 drift, 4 suspension, 5 gas, 6 the analyser's identification answer.
+ * Files: 1 new booking (AC2), 2 old booking (ACC), 3 drift, 4 suspension, 5 gas, 6 the analyser's identification answer,
+ * 7 opacity. All but 6 have entries.
  *
- * Places: at least 278 numbers, that is 139 pairs. Numbers 2 k and 2 k + 1 are pair k: start and length of one value in
+ * Places: at least 388 numbers, that is 194 pairs. Numbers 2 k and 2 k + 1 are pair k: start and length of one value in
  * its file, both counted in bytes, the start from 0 and for an empty value too the place after `=`. Pairs stand in the
  * order of the file's table, axles by number. A file's first pair:
  *
@@ -20,9 +21,10 @@
  *     3      18           16, then 1 for each axle
  *     4      43           16, then 3 for each axle
  *     5      86           53
+ *     7      139          55
  *
  * Pairs of a file that is not read, and of an axle that is not there, are 0. After a refusal but 1 all pairs are 0. With
- * refusal 1 the places stay. Numbers past the first 278 stay.
+ * refusal 1 the places stay. Numbers past the first 388 stay.
  *
  * Names: a file's entries are numbered from 0 in the order of its pairs, all nine axles counted, so that entry k has
  * the pair k past the file's first. Its headings are numbered from 0 in the order of its table; axle n has heading n.
@@ -33,6 +35,7 @@
  *     3      16, then 1 for each axle: 25   1, then 1 for each axle: 10
  *     4      16, then 3 for each axle: 43   1, then 1 for each axle: 10
  *     5      46, then 7: 53                 2
+ *     7      55                             1
  *
  * Answer: at least 16 numbers, of which the first 16 are all set.
  *
@@ -48,11 +51,13 @@
  *     5        judge: mark of drift, 0 or 1       0
  *     6        judge: mark of suspension          0
  *     7        judge: mark of gas                 0
+ *     8        judge: mark of opacity             0
  *     9        judge, read: 1 where the idle      0
  *              speed was entered by hand, else 0
  *     others   0                                  0
  *
- * The idle speed is NumGiriMotoreMin of gas, entered by hand where its value begins with `#`.
+ * The idle speed is NumGiriMotoreMin of gas, entered by hand where its value begins with `#`. Number 9 says nothing of
+ * the speeds in opacity.
  *
  * The calls that say what the judge goes by:
  *
@@ -78,7 +83,7 @@ extern "C" {
 #endif
 
 /* How many numbers places and answer have at least. */
-#define MCTC_PLACES_SIZE 278
+#define MCTC_PLACES_SIZE 388
 #define MCTC_ANSWER_SIZE 16
 
 /* How many bytes the longest name of an entry, the longest heading and the longest word have: room for any of them. */
@@ -124,20 +129,21 @@ extern "C" {
 #define MCTC_ANSWER_FORM 14
 /* The identification answer differs from gas: file 6, line 0. */
 #define MCTC_ANSWER_DIFFERS 15
-/* The file number is not 1 to 5 (mctc_file_condition: 1 to 6), the axle count is not one that the file can have, or there
- * is no entry, heading, word, test or field of that number: line 0. */
+/* The file number is not 1 to 5 or 7 (mctc_file_condition: 1 to 7), the axle count is not one that the file can have, or
+ * there is no entry, heading, word, test or field of that number: line 0. */
 #define MCTC_FILE_OR_AXLES 16
 /* Start plus length of a pair is above the text's length: the line that the entry would have. */
 #define MCTC_PAIR_OUTSIDE 17
 /* The output is too short, or the column: line 0. */
 #define MCTC_OUTPUT_TOO_SHORT 18
 
-/* Judges a whole set: the stem of its files and six slices, each empty where it is not given. Refuses with 1 to 15.
+/* Judges a whole set: the stem of its files and seven slices, each empty where it is not given, in the order of the
+ * files' numbers. Refuses with 1 to 15.
  *
- * Accepted: answer 3 and 4 are the axle counts of drift and suspension, 0 for a file that is not given; 5, 6 and 7 are
- * the marks of drift, suspension and gas, 1 where the file is given with CodErrore filled, else 0; 9 is 1 where gas is
- * given and its idle speed was entered by hand, 0 where it was measured or gas is not given. Which sets pass does not
- * hang on 9. The places have the pairs of all files that were read. */
+ * Accepted: answer 3 and 4 are the axle counts of drift and suspension, 0 for a file that is not given; 5, 6, 7 and 8
+ * are the marks of drift, suspension, gas and opacity, 1 where the file is given with CodErrore filled, else 0; 9 is 1
+ * where gas is given and its idle speed was entered by hand, 0 where it was measured or gas is not given. Which sets
+ * pass does not hang on 9. The places have the pairs of all files that were read. */
 uint32_t mctc_judge(const uint8_t *stem, size_t stem_length,
                     const uint8_t *ac2, size_t ac2_length,
                     const uint8_t *acc, size_t acc_length,
@@ -145,15 +151,16 @@ uint32_t mctc_judge(const uint8_t *stem, size_t stem_length,
                     const uint8_t *suspension, size_t suspension_length,
                     const uint8_t *gas, size_t gas_length,
                     const uint8_t *identification, size_t identification_length,
+                    const uint8_t *opacity, size_t opacity_length,
                     uint32_t *places, size_t places_length,
                     uint32_t *answer, size_t answer_length);
 
-/* Reads one file alone, by its number. Refuses, in this order, with 1, 16 where the number is not 1 to 5, 11 where the
- * text is empty, then 3 to 9. A refusal carries the file as handed in, 0 with 1.
+/* Reads one file alone, by its number. Refuses, in this order, with 1, 16 where the number is not 1 to 5 or 7, 11 where
+ * the text is empty, then 3 to 9. A refusal carries the file as handed in, 0 with 1.
  *
- * Accepted: answer 3 is the axle count, 0 for files 1, 2 and 5; 9 is 1 for file 5 with an idle speed that was entered by
- * hand, 0 for one that was measured or is empty, and for every other file. The places have the pairs of this file; all
- * others are 0. */
+ * Accepted: answer 3 is the axle count, 0 for all files but 3 and 4; 9 is 1 for file 5 with an idle speed that was
+ * entered by hand, 0 for one that was measured or is empty, and for every other file. The places have the pairs of this
+ * file; all others are 0. */
 uint32_t mctc_read(uint32_t file,
                    const uint8_t *text, size_t text_length,
                    uint32_t *places, size_t places_length,
@@ -205,8 +212,8 @@ uint32_t mctc_heading_name(uint32_t file, uint32_t heading,
 #define MCTC_FORM_H 6
 /* Deriva: optional `-`, one or two digits, a point, two digits. */
 #define MCTC_FORM_DERIVA 7
-/* revs: 1 to 5 digits, with `#` before them where entered by hand. */
-#define MCTC_FORM_REVS 8
+/* N, with `#` before it where entered by hand: revs and others. `most` counts the `#`. */
+#define MCTC_FORM_N_BY_HAND 8
 /* DataPrimaImm: D, with day 00 allowed, and month 00 only with day 00. */
 #define MCTC_FORM_DATA_PRIMA_IMM 9
 /* AnnoPrimaImm: four digits. */
@@ -215,13 +222,20 @@ uint32_t mctc_heading_name(uint32_t file, uint32_t heading,
 #define MCTC_FORM_POS_ASSI_STAZ 11
 /* A word: one of those that mctc_word copies. */
 #define MCTC_FORM_WORD 12
+/* Targa of opacity: 4 to `most` bytes, each 20 to 7E hex. */
+#define MCTC_FORM_TARGA 13
+/* N(d), with `#` before it where entered by hand. `most` counts the `#`. */
+#define MCTC_FORM_FIXED_BY_HAND 14
+/* TempAmbiente: 1 to 3 digits, or `-` and 1 or 2 digits; with `#` before them where entered by hand. `most` counts the
+ * `#`. */
+#define MCTC_FORM_TEMP_AMBIENTE 15
 
 /* Says what a filled value of a file's entry must look like, by the entry's number. Refuses with 16 where there is no
  * such file or entry. The refusal carries the file as handed in and line 0.
  *
- * Accepted: answer 3 is the form, MCTC_FORM_S to MCTC_FORM_WORD; answer 4 is how many bytes a value has at most; answer
- * 5 is how many digits stand behind the point, 0 where there is none; answer 6 is how many words the entry has, 0 where
- * it is no word. Whether an entry must be filled at all, mctc_due says. */
+ * Accepted: answer 3 is the form, MCTC_FORM_S to MCTC_FORM_TEMP_AMBIENTE; answer 4 is how many bytes a value has at most;
+ * answer 5 is how many digits stand behind the point, 0 where there is none; answer 6 is how many words the entry has, 0
+ * where it is no word. Whether an entry must be filled at all, mctc_due says. */
 uint32_t mctc_kind(uint32_t file, uint32_t entry,
                    uint32_t *answer, size_t answer_length);
 
@@ -241,16 +255,17 @@ uint32_t mctc_word(uint32_t file, uint32_t entry, uint32_t word,
 #define MCTC_FREE 3
 
 /* Gives the due column of one file, by its number: for each of its entries, in the order of its pairs, MCTC_DUE,
- * MCTC_NOT_DUE or MCTC_FREE. AC2's values decide, and for gas its own too. No entry is held to its column, so that it
- * serves sets that mctc_judge refuses, where AC2 and this file pass 3 to 9. For file 1 the text is AC2 once more.
+ * MCTC_NOT_DUE or MCTC_FREE. AC2's values decide, and for gas and opacity their own too. No entry is held to its column,
+ * so that it serves sets that mctc_judge refuses, where AC2 and this file pass 3 to 9. For file 1 the text is AC2 once
+ * more.
  *
  * Refuses, in this order, with 1; for AC2 with 11 where it is empty, then 3 to 9; for the file with 16 where the number
- * is not 1 to 5, 11 where the text is empty, then 3 to 9; with 18 where the column has fewer numbers than the file has
- * entries. A refusal carries the file as handed in, 1 where it is AC2's, 0 with 1. Refused: the column stays.
+ * is not 1 to 5 or 7, 11 where the text is empty, then 3 to 9; with 18 where the column has fewer numbers than the file
+ * has entries. A refusal carries the file as handed in, 1 where it is AC2's, 0 with 1. Refused: the column stays.
  *
- * Accepted: answer 3 is the axle count, 0 for files 1, 2 and 5; answer 4 is how many entries the column has, at most
- * 53. Column numbers past them stay. The places have the pairs of this file; all others are 0. With a category L, ACC is
- * not read, whatever its text: its column has no entries. */
+ * Accepted: answer 3 is the axle count, 0 for all files but 3 and 4; answer 4 is how many entries the column has, at
+ * most 55. Column numbers past them stay. The places have the pairs of this file; all others are 0. With a category L,
+ * ACC is not read, whatever its text: its column has no entries. */
 uint32_t mctc_due(uint32_t file,
                   const uint8_t *ac2, size_t ac2_length,
                   const uint8_t *text, size_t text_length,
@@ -298,7 +313,7 @@ uint32_t mctc_due(uint32_t file,
 uint32_t mctc_condition(uint32_t file, uint32_t entry,
                         uint32_t *answer, size_t answer_length);
 
-/* Says what is asked of a file, 1 to 6, and why. Refuses with 16 where there is no such file; the refusal carries it as
+/* Says what is asked of a file, 1 to 7, and why. Refuses with 16 where there is no such file; the refusal carries it as
  * handed in.
  *
  * Accepted: as mctc_condition, with MCTC_ONLY_WHEN besides. A reason of file 0, entry 0, looks at the stem. For file 6,

@@ -1,11 +1,12 @@
 //! Refusals 7 and 8: sections and entries that are not there.
 
-use mctc::Due;
+use mctc::{Asked, Due};
 
 use crate::case::{Case, Refused};
 use crate::edit::{Action, Edit};
 use crate::finding::Finding;
 use crate::reasons::Why;
+use crate::shown::listed;
 use crate::table::{self, Entry};
 use crate::words;
 
@@ -40,31 +41,61 @@ fn shortened(names: &[&str]) -> String {
 pub fn entries(refused: &Refused) -> Option<Finding> {
     let (file, line) = (refused.refusal.file, refused.refusal.line);
     let missing = table::missing_entries(file, refused.text(), line);
-    let names: Vec<&str> = missing.iter().map(|entry| entry.name.as_str()).collect();
-    let names = names.join(", ");
     let first = missing.first()?;
-    let finding = Finding::default().meaning(format!("{}: {names}", words::meaning(8)));
-    if missing.iter().all(|entry| entry.name == ERROR_CODE) {
-        return Some(finding.advice(format!(
-            "add {ERROR_CODE} with the device's value; nothing behind `=` only if it reported none"
-        )));
-    }
+    let names: Vec<String> = missing.iter().map(|entry| entry.name.clone()).collect();
+    let reported = missing.iter().filter(|entry| may_be_none(file, entry));
+    let reported: Vec<String> = reported.map(|entry| entry.name.clone()).collect();
     let mend = may_be_empty(refused, &missing)
         .then(|| below(refused, first))
         .and_then(|edit| refused.tried(edit));
-    let advice = format!("add to this section, with their values: {names}");
-    let has_code = missing.iter().any(|entry| entry.name == ERROR_CODE);
-    Some(finding.mend_or(
-        mend,
-        match has_code {
-            true => format!("{advice}; {ERROR_CODE} is empty only if the device reported none"),
-            false => advice,
-        },
-    ))
+    let meaning = format!("{}: {}", words::meaning(8), names.join(", "));
+    let finding = Finding::default().meaning(meaning);
+    Some(finding.mend_or(mend, to_add(&names, &reported)))
 }
 
-/// What the device reports. Without a value it says that there was no error, which only the device knows.
+/// When nothing may stand behind the `=` of what is reported.
+pub const ONLY_IF_NONE: &str = "only if there was none";
+
+/// The advice to add entries, with those among them that are reported.
+fn to_add(names: &[String], reported: &[String]) -> String {
+    let add = format!(
+        "add to this section, with their values: {}",
+        names.join(", ")
+    );
+    let only = ONLY_IF_NONE;
+    match reported {
+        [] => add,
+        all if all.len() == names.len() => format!("{add}; nothing behind `=` {only}"),
+        some => {
+            let some = listed(some, "and");
+            format!("{add}; nothing behind the `=` of {some} {only}")
+        }
+    }
+}
+
+/// What a person writes.
+const NOTE: &str = "Note";
+
+/// The entry that result files have, and bookings do not.
 const ERROR_CODE: &str = "CodErrore";
+
+/// Whether it is reported where there is something to report, as the device's errors and the peaks of opacity after the
+/// third. Without a value it says that there was nothing, which only the device knows.
+pub fn is_reported(file: u32, entry: u32) -> bool {
+    let condition = mctc::condition(file, entry);
+    let is_free = condition.is_ok_and(|condition| condition.asked == Asked::Free);
+    let is_note = mctc::entry_name(file, entry).is_ok_and(|entry| entry.name == NOTE);
+    let is_result = || {
+        let sections = table::sections(file);
+        let mut entries = sections.iter().flat_map(|section| &section.entries);
+        entries.any(|entry| entry.name == ERROR_CODE)
+    };
+    is_free && !is_note && is_result()
+}
+
+fn may_be_none(file: u32, entry: &Entry) -> bool {
+    u32::try_from(entry.number).is_ok_and(|entry| is_reported(file, entry))
+}
 
 /// The entry as a line without a value, below its heading.
 fn below(refused: &Refused, entry: &Entry) -> Edit {
@@ -77,7 +108,7 @@ fn may_be_empty(refused: &Refused, missing: &[Entry]) -> bool {
     let file = refused.refusal.file;
     if missing
         .first()
-        .is_some_and(|first| first.name == ERROR_CODE)
+        .is_some_and(|first| may_be_none(file, first))
     {
         return false;
     }

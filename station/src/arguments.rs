@@ -4,9 +4,9 @@ use std::ffi::{OsStr, OsString};
 use std::os::unix::ffi::OsStrExt;
 use std::path::PathBuf;
 
-use crate::case::{AC2, GAS, IDENTIFICATION};
 use crate::entries;
-use crate::help;
+use crate::file_types::{by_number, FileType, FILE_TYPES};
+use crate::help::{self, Help};
 use crate::judge::Wish;
 use crate::output::Trouble;
 use crate::read::Input;
@@ -17,7 +17,7 @@ use crate::words;
 #[derive(Debug, PartialEq, Eq)]
 pub enum Command {
     /// A text of `help`.
-    Print(&'static str),
+    Print(String),
     JudgeSet {
         folder: PathBuf,
         stem: OsString,
@@ -53,10 +53,10 @@ pub fn parse(words: &[OsString]) -> Result<Command, Trouble> {
     match first.to_str() {
         Some("help") if !rest.is_empty() => {
             let [name] = exactly(rest.to_vec(), "one command")?;
-            Ok(Command::Print(grammar(&name)?.help))
+            Ok(Command::Print(grammar(&name)?.help.text()))
         }
-        Some("--help" | "-h" | "help") => Ok(Command::Print(help::PROGRAM)),
-        Some("--version" | "-V") => Ok(Command::Print(help::VERSION)),
+        Some("--help" | "-h" | "help") => Ok(Command::Print(help::PROGRAM.text())),
+        Some("--version" | "-V") => Ok(Command::Print(help::VERSION.text())),
         _ => command(grammar(first)?, rest),
     }
 }
@@ -76,7 +76,7 @@ const GRAMMARS: [Grammar; 6] = [JUDGE, DUE, EXPLAIN, RULES, READ, FORMAT];
 /// A subcommand: the options that it knows, and what is made of its words.
 struct Grammar {
     name: &'static str,
-    help: &'static str,
+    help: Help,
     json: bool,
     file: bool,
     output: bool,
@@ -160,7 +160,7 @@ fn command(grammar: &Grammar, words: &[OsString]) -> Result<Command, Trouble> {
     };
     let given = grammar.sort(words).map_err(see_help)?;
     if given.help {
-        return Ok(Command::Print(grammar.help));
+        return Ok(Command::Print(grammar.help.text()));
     }
     (grammar.make)(given).map_err(see_help)
 }
@@ -276,12 +276,12 @@ fn rules(given: Given) -> Result<Command, Trouble> {
 }
 
 fn read(given: Given) -> Result<Command, Trouble> {
-    let input = input(given.words, given.file.as_deref(), IDENTIFICATION)?;
+    let input = input(given.words, given.file.as_deref(), |_| true)?;
     Ok(Command::Read(input))
 }
 
 fn format(given: Given) -> Result<Command, Trouble> {
-    let input = input(given.words, given.file.as_deref(), GAS)?;
+    let input = input(given.words, given.file.as_deref(), FileType::has_entries)?;
     let new = given.output.map(PathBuf::from);
     if given.flag {
         // The file is not read by a table, so it has no number.
@@ -303,22 +303,25 @@ fn folder_and_stem(words: Vec<OsString>, what: &str) -> Result<(PathBuf, OsStrin
     Ok((folder.into(), stem))
 }
 
-/// A path, and a file's number up to the last that the command takes.
-fn input(words: Vec<OsString>, number: Option<&OsStr>, last: u32) -> Result<Input, Trouble> {
+/// Which files a command takes.
+type Takes = fn(&FileType) -> bool;
+
+/// A path, and the number of a file that the command takes.
+fn input(words: Vec<OsString>, number: Option<&OsStr>, takes: Takes) -> Result<Input, Trouble> {
     let [path] = exactly(words, "one file")?;
     let path = PathBuf::from(path);
-    let number = number.map(|word| number_of(word, last)).transpose()?;
+    let number = number.map(|word| number_of(word, takes)).transpose()?;
     Ok(Input { path, number })
 }
 
-fn number_of(word: &OsStr, last: u32) -> Result<u32, Trouble> {
+fn number_of(word: &OsStr, takes: Takes) -> Result<u32, Trouble> {
     let number = word.to_str().and_then(|word| word.parse().ok());
-    let number = number.filter(|number| (AC2..=last).contains(number));
-    number.ok_or_else(|| {
-        about(
-            &format!("--file takes a number from 1 to {last}, and not"),
-            word,
-        )
+    let file = number.and_then(by_number).filter(|file| takes(file));
+    file.map(|file| file.number).ok_or_else(|| {
+        let taken = FILE_TYPES.iter().filter(|file| takes(file));
+        let numbers: Vec<String> = taken.map(|file| file.number.to_string()).collect();
+        let numbers = shown::listed(&numbers, "or");
+        about(&format!("--file takes {numbers}, and not"), word)
     })
 }
 

@@ -3,11 +3,9 @@
 use mctc::{Places, Set, Test};
 
 use crate::candidates;
-use crate::case::AC2;
+use crate::file_types::{AC2, ACC};
 use crate::shown::word_list;
 use crate::table;
-
-const ACC: u32 = 2;
 
 /// Days on both sides of those by which the fuel of the old booking changes.
 const DAYS: [&str; 4] = ["30091986", "01101986", "30062002", "01072002"];

@@ -1,7 +1,6 @@
 //! Values that are tried with the library where it refused one: what passes is its answer, not this list's.
 
-/// The new booking.
-const AC2: u32 = 1;
+use crate::file_types::AC2;
 
 /// Words of the old booking, whose kinds list none (01, Bookings).
 const OLD_BOOKING: [&str; 17] = [

@@ -1,17 +1,12 @@
 //! What the library was asked, kept so that it can be asked again with a change: advice is tried before it is given.
 
-use mctc::{Column, Due, Places, Refusal};
+use mctc::{Column, Places, Refusal};
 
 use crate::disk::SetOnDisk;
 use crate::edit::{Action, Edit};
-use crate::file_types::{by_number, FileType, FILE_TYPES};
+use crate::file_types::{by_number, place, FileType, AC2, COUNT, FILE_TYPES, IDENTIFICATION};
 use crate::shown;
 use crate::table;
-
-/// The new booking, gas and the identification answer.
-pub const AC2: u32 = 1;
-pub const GAS: u32 = 5;
-pub const IDENTIFICATION: u32 = 6;
 
 /// The refusal of a file that is missing but due, or given but not due.
 const NOT_AS_DUE: u32 = 11;
@@ -23,7 +18,7 @@ const ENTRY_NOT_AS_DUE: u32 = 10;
 #[derive(Clone, Copy)]
 pub struct Case<'a> {
     stem: &'a [u8],
-    texts: [&'a [u8]; FILE_TYPES.len()],
+    texts: [&'a [u8]; COUNT],
     /// The number of the file that is read alone.
     alone: Option<u32>,
     /// The folder has a set with this stem in capitals, which a change of the stem would meet.
@@ -40,7 +35,15 @@ impl<'a> Case<'a> {
         }
     }
 
-    /// One file alone.
+    /// One file of a set, read alone.
+    pub fn one_of(set: &'a SetOnDisk, number: u32) -> Case<'a> {
+        Case {
+            alone: Some(number),
+            ..Case::set(set)
+        }
+    }
+
+    /// One file alone, apart from any set.
     pub fn file(number: u32, text: &'a [u8]) -> Case<'a> {
         let case = Case {
             stem: &[],
@@ -55,14 +58,18 @@ impl<'a> Case<'a> {
         self.stem
     }
 
+    /// Whether the other files of a set are at hand.
+    pub fn is_of_set(&self) -> bool {
+        !self.stem.is_empty()
+    }
+
     pub fn has_twin(&self) -> bool {
         self.twin
     }
 
     /// The text of a file, empty where it is not given.
     pub fn text(&self, file: u32) -> &'a [u8] {
-        let place = (file as usize).checked_sub(1);
-        let text = place.and_then(|at| self.texts.get(at));
+        let text = place(file).and_then(|at| self.texts.get(at));
         text.copied().unwrap_or_default()
     }
 
@@ -71,11 +78,21 @@ impl<'a> Case<'a> {
         'a: 'b,
     {
         let mut case: Case<'b> = *self;
-        let place = (file as usize).checked_sub(1);
-        if let Some(old) = place.and_then(|at| case.texts.get_mut(at)) {
+        if let Some(old) = place(file).and_then(|at| case.texts.get_mut(at)) {
             *old = text;
         }
         case
+    }
+
+    /// The same with these files and no others.
+    pub fn only(&self, files: &[u32]) -> Case<'a> {
+        let none = Case {
+            texts: Default::default(),
+            ..*self
+        };
+        files
+            .iter()
+            .fold(none, |case, file| case.with_text(*file, self.text(*file)))
     }
 
     fn with_stem<'b>(&self, stem: &'b [u8]) -> Case<'b>
@@ -95,8 +112,9 @@ impl<'a> Case<'a> {
         }
     }
 
-    fn lent(&self) -> mctc::Set<'a> {
-        let [ac2, acc, drift, suspension, gas, identification] = self.texts;
+    /// As the library takes a set.
+    pub fn lent(&self) -> mctc::Set<'a> {
+        let [ac2, acc, drift, suspension, gas, identification, opacity] = self.texts;
         mctc::Set {
             stem: self.stem,
             ac2,
@@ -105,36 +123,8 @@ impl<'a> Case<'a> {
             suspension,
             gas,
             identification,
+            opacity,
         }
-    }
-
-    /// Whether a file is due, by trial with nothing else but what this may hang on: the new booking, and for the
-    /// identification answer gas. None where one of these is refused first, so that nothing can be said.
-    pub fn file_due(&self, file: u32) -> Option<Due> {
-        let only = Case {
-            texts: Default::default(),
-            ..*self
-        };
-        let only = only.with_text(AC2, self.text(AC2));
-        let only = match file {
-            IDENTIFICATION => only.with_text(GAS, self.text(GAS)),
-            _ => only,
-        };
-        let refused =
-            |text: &'static [u8]| {
-                let refusal = only.with_text(file, text).refusal();
-                match refusal {
-                    Some(refusal) if refusal.file < file => None,
-                    refusal => Some(refusal.is_some_and(|refusal| {
-                        refusal.file == file && refusal.number == NOT_AS_DUE
-                    })),
-                }
-            };
-        Some(match (refused(b"")?, refused(b"x")?) {
-            (true, _) => Due::Due,
-            (_, true) => Due::NotDue,
-            _ => Due::Free,
-        })
     }
 
     /// The value of an entry and its line, where the library reads the file.

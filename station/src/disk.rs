@@ -7,14 +7,14 @@ use std::io::{self, ErrorKind, Read};
 use std::os::unix::ffi::OsStrExt;
 use std::path::{Path, PathBuf};
 
-use crate::file_types::{by_ending, split_name};
+use crate::file_types::{by_ending, place, split_name, COUNT};
 use crate::near;
 use crate::output::Trouble;
 use crate::shown;
 
 /// What is read of a file at most: one byte more than a file may have (01, Lines).
 ///
-/// The library answers for the bytes that are read as it would for the whole file. Past 16,384 bytes files 1 to 5 are
+/// The library answers for the bytes that are read as it would for the whole file. Past 16,384 bytes files with lines are
 /// refused with 3, whatever they hold; an old booking with category L is not read, whatever its length; past 512 bytes
 /// the identification answer is refused with 14; and 11 asks only whether a file is empty. No refusal of these has a line.
 const MOST_READ: u64 = MOST as u64 + 1;
@@ -34,18 +34,21 @@ pub struct SetOnDisk {
     pub stem: Vec<u8>,
     /// The folder has another set whose stem is this one in capitals.
     pub twin: bool,
-    files: [Option<FileOnDisk>; 6],
-    /// Names in the folder that have the stem, but none of the six endings.
+    files: [Option<FileOnDisk>; COUNT],
+    /// Names in the folder that have the stem, but none of a set's endings.
     pub others: Vec<OsString>,
 }
 
-/// The names in a folder that have one of the six endings.
+/// The names in a folder that have one of a set's endings.
 pub struct Folder {
     path: PathBuf,
-    names: BTreeMap<Vec<u8>, [Vec<OsString>; 6]>,
+    names: BTreeMap<Vec<u8>, Names>,
     /// All other names, sorted.
     others: Vec<OsString>,
 }
+
+/// The names of one stem, by the places of their files.
+type Names = [Vec<OsString>; COUNT];
 
 impl Folder {
     pub fn list(path: &Path) -> Result<Folder, Trouble> {
@@ -53,7 +56,7 @@ impl Folder {
             let (path, why) = (shown::name(path), why(&error));
             Trouble(format!("{path}: {why}; name the folder of the sets"))
         };
-        let mut names: BTreeMap<Vec<u8>, [Vec<OsString>; 6]> = BTreeMap::new();
+        let mut names: BTreeMap<Vec<u8>, Names> = BTreeMap::new();
         let mut others = Vec::new();
         for entry in fs::read_dir(path).map_err(trouble)? {
             let name = entry.map_err(trouble)?.file_name();
@@ -215,23 +218,6 @@ impl SetOnDisk {
     pub fn stem_shown(&self) -> String {
         stem_shown(&self.stem)
     }
-
-    pub fn lent(&self) -> mctc::Set<'_> {
-        mctc::Set {
-            stem: &self.stem,
-            ac2: self.text(1),
-            acc: self.text(2),
-            drift: self.text(3),
-            suspension: self.text(4),
-            gas: self.text(5),
-            identification: self.text(6),
-        }
-    }
-}
-
-/// Where file 1 to 6 stands among six.
-fn place(number: u32) -> Option<usize> {
-    usize::try_from(number).ok()?.checked_sub(1)
 }
 
 /// A stem as it is shown.

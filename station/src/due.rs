@@ -6,18 +6,15 @@ use std::path::Path;
 
 use mctc::{Column, Due, Places};
 
-use crate::case::{Case, AC2};
+use crate::case::Case;
 use crate::disk::{Folder, SetOnDisk};
 use crate::explain::{explain, Subject};
-use crate::file_types::{FileType, FILE_TYPES};
+use crate::file_types::{FileType, AC2, FILE_TYPES, GAS, IDENTIFICATION};
 use crate::judge::{counts_as_not_given, Judged};
 use crate::output::{Output, Status, Trouble};
 use crate::page::labelled;
 use crate::reasons::Why;
 use crate::table::{self, Entry};
-
-/// The file without entries.
-const SERIAL_ANSWER: u32 = 6;
 
 pub fn run(
     folder: &Path,
@@ -52,10 +49,11 @@ pub fn run(
 fn files(set: &SetOnDisk, only_marked: bool) -> Part {
     let mut rows = String::new();
     let mut status = Status::Accepted;
+    let case = Case::set(set);
     for file in &FILE_TYPES {
         let given = set.is_given(file.number);
         let found = if given { "given" } else { "absent" };
-        let (due, mark) = match (Case::set(set).file_due(file.number), given) {
+        let (due, mark) = match (file_due(&case, file.number), given) {
             (None, _) => ("unknown", ""),
             (Some(Due::Due), true) => ("due", ""),
             (Some(Due::Due), false) => ("due", "<-- due, but absent"),
@@ -70,7 +68,7 @@ fn files(set: &SetOnDisk, only_marked: bool) -> Part {
             rows += &row(&format!("{} {}", file.number, file.title), due, found, mark);
         }
         if !mark.is_empty() {
-            rows += &why(Why::file(&Case::set(set), file.number));
+            rows += &why(Why::file(&case, file.number));
         }
     }
     if rows.is_empty() {
@@ -78,6 +76,21 @@ fn files(set: &SetOnDisk, only_marked: bool) -> Part {
     }
     let text = row("file", "due", "found", "") + &rows;
     Part { text, status }
+}
+
+/// Whether a file is due. None where the stem or a file that decides it is refused, so that nothing can be said: the new
+/// booking, and for the identification answer gas.
+fn file_due(case: &Case, file: u32) -> Option<Due> {
+    let deciding: &[u32] = match file {
+        AC2 => &[],
+        IDENTIFICATION => &[AC2, GAS],
+        _ => &[AC2],
+    };
+    let refusal = case.only(deciding).refusal();
+    let is_open =
+        refusal.is_some_and(|refusal| refusal.file == 0 || deciding.contains(&refusal.file));
+    let why = Why::file(case, file).filter(|_| !is_open)?;
+    why.due()
 }
 
 /// What is printed of one file, and whether all of it agrees.
@@ -105,7 +118,7 @@ fn part(set: &SetOnDisk, file: &FileType, only_marked: bool) -> Part {
         _ if number == AC2 => column(set, number, name.unwrap_or("not given"), only_marked),
         None => Part::agrees("not given\n".to_string()),
         Some(name) if !set.is_given(number) => Part::agrees(counts_as_not_given(name) + "\n"),
-        Some(name) if number == SERIAL_ANSWER => Part::agrees(format!("{name}, no entries\n")),
+        Some(name) if !file.has_entries() => Part::agrees(format!("{name}, no entries\n")),
         Some(name) => column(set, number, name, only_marked),
     }
 }
@@ -130,7 +143,7 @@ fn column(set: &SetOnDisk, number: u32, name: &str, only_marked: bool) -> Part {
             Part::refused(format!("{name}\n  no column: the new booking is refused\n"))
         }
         Err(refusal) => {
-            let case = Case::file(number, set.text(number));
+            let case = Case::one_of(set, number);
             let explained = explain(case, refusal, Subject::of_set(set, number)).page();
             let number = refusal.number;
             Part::refused(format!(

@@ -52,7 +52,7 @@ impl<'a> Subject<'a> {
         }
     }
 
-    /// File 1 to 6 of a set.
+    /// A file of a set, by its number.
     pub fn of_set(set: &'a SetOnDisk, number: u32) -> Option<Subject<'a>> {
         let ending = by_number(number)?.ending;
         let subject = match set.file(number) {

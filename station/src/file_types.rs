@@ -1,9 +1,19 @@
-//! The six files of a set, by number and by the ending of their names.
+//! The files of a set, by number and by the ending of their names.
 
-/// One of the six.
+use crate::shown::listed;
+
+/// The numbers of the files (01; 02, 2/14).
+pub const AC2: u32 = 1;
+pub const ACC: u32 = 2;
+pub const DRIFT: u32 = 3;
+pub const SUSPENSION: u32 = 4;
+pub const GAS: u32 = 5;
+pub const IDENTIFICATION: u32 = 6;
+pub const OPACITY: u32 = 7;
+
+/// One of the files.
 #[derive(Debug, PartialEq, Eq)]
 pub struct FileType {
-    /// 01: 1 to 6.
     pub number: u32,
     /// The ending of its name, in capitals.
     pub ending: &'static str,
@@ -11,14 +21,18 @@ pub struct FileType {
     pub title: &'static str,
 }
 
-/// In the order of their numbers.
-pub const FILE_TYPES: [FileType; 6] = [
-    file_type(1, "AC2", "new booking"),
-    file_type(2, "ACC", "old booking"),
-    file_type(3, "DER", "drift"),
-    file_type(4, "SOS", "suspension"),
-    file_type(5, "GAS", "gas"),
-    file_type(6, "ID", "identification"),
+/// How many files a set has at most.
+pub const COUNT: usize = 7;
+
+/// In the order of their numbers, from 1 on: that of judging.
+pub const FILE_TYPES: [FileType; COUNT] = [
+    file_type(AC2, "AC2", "new booking"),
+    file_type(ACC, "ACC", "old booking"),
+    file_type(DRIFT, "DER", "drift"),
+    file_type(SUSPENSION, "SOS", "suspension"),
+    file_type(GAS, "GAS", "gas"),
+    file_type(IDENTIFICATION, "ID", "identification"),
+    file_type(OPACITY, "OPA", "opacity"),
 ];
 
 const fn file_type(number: u32, ending: &'static str, title: &'static str) -> FileType {
@@ -29,9 +43,21 @@ const fn file_type(number: u32, ending: &'static str, title: &'static str) -> Fi
     }
 }
 
+impl FileType {
+    /// Whether it has lines and entries, by the library; the identification answer has not.
+    pub fn has_entries(&self) -> bool {
+        mctc::entry_name(self.number, 0).is_ok()
+    }
+}
+
+/// The place of a file among all.
+pub fn place(number: u32) -> Option<usize> {
+    FILE_TYPES.iter().position(|file| file.number == number)
+}
+
 /// The type with this number.
 pub fn by_number(number: u32) -> Option<&'static FileType> {
-    FILE_TYPES.iter().find(|file| file.number == number)
+    FILE_TYPES.get(place(number)?)
 }
 
 /// The stem of a file's name and the type that its ending says, in capitals or small letters.
@@ -46,4 +72,16 @@ pub fn split_name(name: &[u8]) -> Option<(&[u8], &'static FileType)> {
 pub fn by_ending(ending: &[u8]) -> Option<&'static FileType> {
     let mut files = FILE_TYPES.iter();
     files.find(|file| ending.eq_ignore_ascii_case(file.ending.as_bytes()))
+}
+
+/// `.AC2, .ACC or ..`.
+pub fn endings() -> String {
+    let endings = FILE_TYPES.iter().map(|file| format!(".{}", file.ending));
+    listed(&endings.collect::<Vec<_>>(), "or")
+}
+
+/// `1 new booking, 2 ..`.
+pub fn numbers_and_titles(files: impl Iterator<Item = &'static FileType>) -> String {
+    let words = files.map(|file| format!("{} {}", file.number, file.title));
+    words.collect::<Vec<_>>().join(", ")
 }

@@ -3,6 +3,7 @@
 use std::path::Path;
 
 use crate::disk::{stem_shown, Folder};
+use crate::file_types::endings;
 use crate::json::Object;
 use crate::judge::{not_judged_json, Judged, Wish};
 use crate::output::{Output, Status, Trouble};
@@ -40,7 +41,8 @@ fn with_sets(folder: Folder, name: &str) -> Result<Folder, Trouble> {
         return Ok(folder);
     }
     Err(Trouble(format!(
-        "{name}: no file here ends in .AC2, .ACC, .DER, .SOS, .GAS or .ID; name the folder of the sets"
+        "{name}: no file here ends in {}; name the folder of the sets",
+        endings()
     )))
 }
 

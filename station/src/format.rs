@@ -7,9 +7,8 @@ use std::path::Path;
 
 use mctc::{FileAcceptance, Refusal};
 
-use crate::case::IDENTIFICATION;
 use crate::disk::{read_file, MOST};
-use crate::file_types::split_name;
+use crate::file_types::{split_name, IDENTIFICATION};
 use crate::identification;
 use crate::line_ends::{self, Mended, NoText};
 use crate::output::{say, Output, Status, Trouble};

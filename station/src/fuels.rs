@@ -1,4 +1,5 @@
-//! The fuels by which something is due, and how else they are written: as in the old booking, with more, or short.
+//! The fuels by which something is due, and how else they are written: as in the old booking, by another name, with more,
+//! or short.
 
 use crate::booking_tables;
 use crate::candidates;
@@ -9,6 +10,9 @@ pub const ENTRY: &str = "Alimentazione_1";
 
 /// Words of the new booking. Which of them pass a test, the library says.
 const FUELS: [&str; 2] = ["BENZINA", "DIESEL"];
+
+/// Other names, with the fuel: this one stands in many a vehicle's papers.
+const OTHER_NAMES: [(&str, &str); 1] = [("GASOLIO", "DIESEL")];
 
 /// So many first letters of a fuel are taken for it.
 const SHORT: usize = 4;
@@ -23,18 +27,32 @@ pub fn of_old_word(value: &[u8]) -> Option<&'static str> {
 
 /// The fuel that a value speaks of, in whatever form.
 pub fn spoken_of(value: &[u8]) -> Option<&'static str> {
-    of_old_word(value)
-        .or_else(|| nearest(value, FUELS.into_iter()))
-        .or_else(|| FUELS.into_iter().find(|fuel| is_within(fuel, value)))
+    of_old_word(value).or_else(|| {
+        let near = nearest(value, names().map(|(name, _)| name));
+        let is_spoken_of = |name: &str| match near {
+            Some(near) => near == name,
+            None => is_within(name, value),
+        };
+        let mut names = names();
+        names.find_map(|(name, fuel)| is_spoken_of(name).then_some(fuel))
+    })
 }
 
-/// Whether the value has the fuel within it, or begins with its first letters and no others.
-fn is_within(fuel: &str, value: &[u8]) -> bool {
-    let (fuel, value) = (plain(fuel.as_bytes()), plain(value));
+/// All names of fuels, each with its fuel.
+fn names() -> impl Iterator<Item = (&'static str, &'static str)> {
+    FUELS
+        .map(|fuel| (fuel, fuel))
+        .into_iter()
+        .chain(OTHER_NAMES)
+}
+
+/// Whether the value has the name within it, or begins with its first letters and no others.
+fn is_within(name: &str, value: &[u8]) -> bool {
+    let (name, value) = (plain(name.as_bytes()), plain(value));
     let mut letters = value.split(|byte| !byte.is_ascii_alphabetic());
     let first = letters.next().unwrap_or_default();
-    value.windows(fuel.len()).any(|part| part == fuel)
-        || (first.len() >= SHORT && fuel.starts_with(first))
+    value.windows(name.len()).any(|part| part == name)
+        || (first.len() >= SHORT && name.starts_with(first))
 }
 
 /// Whether the fuels of the new and the old booking may be the same.
@@ -59,6 +77,9 @@ mod tests {
             ("GPL/BENZINA", None, Some("BENZINA")),
             ("BENZ.", None, Some("BENZINA")),
             ("BENZNA", None, Some("BENZINA")),
+            ("GASOLIO", None, Some("DIESEL")),
+            ("Gasol.", None, Some("DIESEL")),
+            ("GAS METANO", None, None),
             ("AUTOBUS", None, None),
             ("GPL", None, None),
             ("BEN", None, None),
@@ -68,6 +89,7 @@ mod tests {
             assert_eq!(spoken_of(value.as_bytes()), spoken, "{value}");
         }
         assert!(agree(b"BENZINA", b"BENZINA NO CAT"));
+        assert!(agree(b"GASOLIO", b"DIESEL TURBO COMPRESSO"));
         assert!(agree(b"GPL", b"gpl"));
         assert!(!agree(b"GPL", b"METANO"));
         assert!(!agree(b"GPL", b"BENZINA CAT"));

@@ -6,15 +6,12 @@
 
 use mctc::{Due, Places, Refusal};
 
-use crate::case::{Case, Refused, AC2};
+use crate::case::{Case, Refused};
 use crate::disk::SetOnDisk;
 use crate::edit::Action;
 use crate::explain::{explain, Explained, Subject};
-use crate::file_types::FILE_TYPES;
+use crate::file_types::{AC2, ACC, FILE_TYPES};
 use crate::shown;
-
-/// The old booking, which is not read with category L.
-const ACC: u32 = 2;
 
 const WRONG_KIND: u32 = 9;
 const NOT_AS_DUE: u32 = 10;
@@ -45,7 +42,8 @@ pub fn further(set: &SetOnDisk, verdict: Refusal) -> Vec<Explained> {
     findings
 }
 
-/// Whether the file is given and its lines are looked at; not said where that hangs on a new booking that is refused.
+/// Whether the file is given and its lines are looked at, as those of an old booking with category L are not; not said
+/// where that hangs on a new booking that is refused.
 fn is_read(set: &SetOnDisk, number: u32) -> bool {
     if number != ACC {
         return set.is_given(number);
@@ -85,7 +83,7 @@ impl Alone {
         };
         // A file has fewer entries than lines, and each is taken out once.
         for _ in 0..=alone.text.iter().filter(|byte| **byte == b'\n').count() {
-            let case = Case::file(number, &alone.text);
+            let case = Case::one_of(set, number).with_text(number, &alone.text);
             let Some(refusal) = case.refusal() else {
                 alone.is_read = true;
                 break;

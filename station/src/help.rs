@@ -1,8 +1,51 @@
 //! The texts of `--help` and `--version`.
 
-pub const VERSION: &str = concat!("mctc ", env!("CARGO_PKG_VERSION"), "\n");
+use crate::file_types::{FileType, FILE_TYPES};
 
-pub const PROGRAM: &str = "\
+/// The line of a text for which the list of files stands.
+const LIST: &str = "FILES\n";
+
+/// A text with such a list, or without.
+pub struct Help {
+    text: &'static str,
+    /// The line of a file in the list; None where it is left out.
+    row: fn(&FileType) -> Option<String>,
+}
+
+impl Help {
+    const fn plain(text: &'static str) -> Help {
+        Help {
+            text,
+            row: |_| None,
+        }
+    }
+
+    pub fn text(&self) -> String {
+        let rows: Vec<String> = FILE_TYPES.iter().filter_map(self.row).collect();
+        self.text.replace(LIST, &rows.concat())
+    }
+}
+
+/// A file behind its number.
+fn numbered(file: &FileType) -> String {
+    let FileType {
+        number,
+        ending,
+        title,
+    } = file;
+    format!("  {number}  .{ending:3}  {title}\n")
+}
+
+pub const VERSION: Help = Help::plain(concat!("mctc ", env!("CARGO_PKG_VERSION"), "\n"));
+
+pub const PROGRAM: Help = Help {
+    row: |file| {
+        Some(format!(
+            "  AB123456.{:3}  {}  {}\n",
+            file.ending, file.number, file.title
+        ))
+    },
+    text: "\
 mctc: judges MCTCNet2 test sets with the proved library
 
   mctc judge FOLDER STEM [--all] [--json]
@@ -24,20 +67,18 @@ mctc: judges MCTCNet2 test sets with the proved library
 
 A set is the files of a folder that have one stem, such as AB123456:
 
-  AB123456.AC2   1  new booking
-  AB123456.ACC   2  old booking
-  AB123456.DER   3  drift
-  AB123456.SOS   4  suspension
-  AB123456.GAS   5  gas
-  AB123456.ID    6  the analyser's identification answer
+FILES
 
-Endings stand in capitals or small letters. A file that is absent or empty is
-not given.
+Identification is the answer by which the analyser says who it is. Endings stand
+in capitals or small letters. A file that is absent or empty is not given.
+`mctc explain 11` says which files a set must have.
 
 Exit status: 0 accepted; 1 refused; 2 bad usage, or a file cannot be read.
-";
+",
+};
 
-pub const JUDGE: &str = "\
+pub const JUDGE: Help = Help::plain(
+    "\
 mctc judge FOLDER STEM [--all] [--json]
 mctc judge FOLDER [--all] [--json]
 
@@ -48,18 +89,19 @@ the cause where it is known, what is expected there, and what to do.
 With STEM: the verdict on that set. With --json one object: stem, accepted,
 number, file, line (0 for none), name, meaning, text, remark, to_do, cause,
 expected, mend, drift_axles, suspension_axles, drift_mark, suspension_mark,
-gas_mark, idle_by_hand, empty, notes; or stem and error where a file cannot be
-read.
+gas_mark, opacity_mark, idle_by_hand, empty, notes; or stem and error where a
+file cannot be read.
 
 Of an accepted set it says which files are marked, that is, have CodErrore
 filled; and apart from that, whether gas's idle speed was measured or entered by
 hand, with `#` before the number in NumGiriMotoreMin. Either may pass. In the
-object idle_by_hand is false also where gas is not given or the set is refused.
+object idle_by_hand is false also where gas is not given or the set is refused;
+of values that were entered by hand in opacity it says nothing.
 
 An accepted set may have notes: values that are near a word that counts, as
 `benzina` is near `BENZINA`, and by which something would be due; and drift and
 suspension with different counts of axles. Any set may have notes of files in
-the folder that have its stem, but none of the six endings: they are not read.
+the folder that have its stem, but no ending of a set: they are not read.
 
 mend is what to_do asks for, where that can be done without knowing more, or
 null. It was tried: with it, the judge accepts, refuses at a later place, or
@@ -86,9 +128,11 @@ array of the objects above), accepted, refused, not_judged; or folder and error.
 
 Exit status: 0 all accepted; 1 one is refused; 2 bad usage, no set in the
 folder, no file of that stem, or a file cannot be read.
-";
+",
+);
 
-pub const DUE: &str = "\
+pub const DUE: Help = Help::plain(
+    "\
 mctc due FOLDER STEM [--only-marked]
 
 Prints the verdict, for each file whether it is due and whether it is given, and
@@ -102,9 +146,11 @@ or gas for the identification answer, is refused.
 
 Exit status: 0 accepted, and nothing disagrees; 1 something disagrees or is
 refused; 2 bad usage, no file of that stem, or a file cannot be read.
-";
+",
+);
 
-pub const EXPLAIN: &str = "\
+pub const EXPLAIN: Help = Help::plain(
+    "\
 mctc explain NUMBER
 mctc explain ENTRY
 
@@ -114,9 +160,11 @@ name, its section, what its value must look like, when it is filled, and its
 rule.
 
 Exit status: 0 explained; 2 bad usage, or no entry of that name.
-";
+",
+);
 
-pub const RULES: &str = "\
+pub const RULES: Help = Help::plain(
+    "\
 mctc rules
 
 Prints the rules of a set as Markdown: the files, each entry with its kind and
@@ -124,9 +172,12 @@ when it is filled, the rules between values, the identification answer, and the
 refusals. docs/RULES.md is this text.
 
 Exit status: 0 printed; 2 bad usage.
-";
+",
+);
 
-pub const READ: &str = "\
+pub const READ: Help = Help {
+    row: |file| Some(numbered(file)),
+    text: "\
 mctc read FILE [--file N]
 
 Reads one file alone and prints its axle count, of gas also that the idle speed
@@ -135,28 +186,33 @@ of an identification answer its ten fields. Or the refusal (3 to 9, 11 for an
 empty file, 14 of an identification answer). What is due and the rules between
 files are left to `mctc judge`.
 
-  --file N   the file's number: 1 new booking, 2 old booking, 3 drift,
-             4 suspension, 5 gas, 6 identification; without it the ending of
-             FILE says it
+  --file N   the file's number; without it the ending of FILE says it
+
+FILES
 
 Exit status: 0 read; 1 refused; 2 bad usage, or FILE cannot be read.
-";
+",
+};
 
-pub const FORMAT: &str = "\
+pub const FORMAT: Help = Help {
+    row: |file| file.has_entries().then(|| numbered(file)),
+    text: "\
 mctc format FILE [--file N] [--output NEW]
 mctc format --mend FILE [--output NEW]
 
 Reads one file alone and writes it in table order, to standard output or to a
 new file. A refusal goes to standard error.
 
-  --file N      the file's number: 1 new booking, 2 old booking, 3 drift,
-                4 suspension, 5 gas; without it the ending of FILE says it
+  --file N      the file's number; without it the ending of FILE says it
   --output NEW  a file that does not exist yet; none is ever overwritten
   --mend        write FILE as it stands, but every line ended by CR LF and no
                 byte order mark, and say what was changed; nothing is judged.
                 UTF-16, what is no text, and an identification answer, which has
                 no lines, are not mended
 
+FILES
+
 Exit status: 0 written; 1 refused; 2 bad usage, FILE cannot be read or NEW
 cannot be written.
-";
+",
+};

@@ -2,9 +2,9 @@
 
 use std::ops::Range;
 
-use crate::case::{Refused, GAS};
+use crate::case::Refused;
 use crate::edit::{Action, Edit};
-use crate::file_types::by_number;
+use crate::file_types::{by_number, GAS};
 use crate::finding::Finding;
 use crate::shown::{self, counted};
 

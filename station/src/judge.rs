@@ -6,20 +6,17 @@ use std::path::Path;
 
 use mctc::{Acceptance, Places, Refusal};
 
-use crate::case::{Case, GAS};
+use crate::case::Case;
 use crate::disk::{stem_shown, Folder, SetOnDisk};
 use crate::edit::Edit;
 use crate::explain::{explain, Explained, Subject};
-use crate::file_types::{FileType, FILE_TYPES};
+use crate::file_types::{ACC, DRIFT, FILE_TYPES, GAS, OPACITY, SUSPENSION};
 use crate::further::further;
 use crate::json::Object;
 use crate::not_as_due::doubts;
 use crate::output::{Output, Status, Trouble};
 use crate::page::labelled;
 use crate::shown::{counted, IDLE_BY_HAND};
-
-const DRIFT: u32 = 3;
-const SUSPENSION: u32 = 4;
 
 /// What is asked for besides the verdict.
 #[derive(Clone, Copy, Debug, PartialEq, Eq)]
@@ -74,9 +71,10 @@ impl Judged {
     /// With all further findings, or with the verdict alone.
     pub fn new(set: SetOnDisk, all: bool) -> Judged {
         let mut places = Places::default();
-        let verdict = mctc::judge(&set.lent(), &mut places).map_err(|refusal| {
+        let case = Case::set(&set);
+        let verdict = mctc::judge(&case.lent(), &mut places).map_err(|refusal| {
             let subject = Subject::of_set(&set, refusal.file);
-            explain(Case::set(&set), refusal, subject)
+            explain(case, refusal, subject)
         });
         let further = all.then(|| match &verdict {
             Ok(_) => Vec::new(),
@@ -85,7 +83,7 @@ impl Judged {
         let mut noted: Vec<String> = match &verdict {
             Ok(acceptance) => {
                 let axles = other_axles(&set, acceptance);
-                doubts(&Case::set(&set)).into_iter().chain(axles).collect()
+                doubts(&case).into_iter().chain(axles).collect()
             }
             Err(_) => Vec::new(),
         };
@@ -201,7 +199,9 @@ impl Judged {
             let what = match self.set.file(file.number) {
                 None => "not given".to_string(),
                 Some(on_disk) if on_disk.text.is_empty() => counts_as_not_given(&on_disk.name),
-                Some(on_disk) => format!("{}{}", on_disk.name, self.about(file, acceptance)),
+                Some(on_disk) => {
+                    format!("{}{}", on_disk.name, self.about(file.number, acceptance))
+                }
             };
             lines += &format!("  {:14}  {what}\n", file.title);
         }
@@ -209,24 +209,24 @@ impl Judged {
     }
 
     /// What the acceptance says of a given file.
-    fn about(&self, file: &FileType, acceptance: &Acceptance) -> String {
-        let mark = |is_set: bool| match is_set {
-            true => "marked: CodErrore is filled",
-            false => "no mark",
+    fn about(&self, file: u32, acceptance: &Acceptance) -> String {
+        let axles = match file {
+            DRIFT => Some(acceptance.drift_axles),
+            SUSPENSION => Some(acceptance.suspension_axles),
+            _ => None,
         };
-        let with_axles = |axles: u32, is_set: bool| {
-            let axles = counted(axles as usize, "axle");
-            format!(", {axles}, {}", mark(is_set))
-        };
-        match file.number {
-            2 if self.places.value(2, 0).is_none() => ", not read with category L".to_string(),
-            DRIFT => with_axles(acceptance.drift_axles, acceptance.drift_mark),
-            SUSPENSION => with_axles(acceptance.suspension_axles, acceptance.suspension_mark),
-            GAS => {
-                let (mark, idle) = (mark(acceptance.gas_mark), idle(acceptance));
-                format!(", {mark}; {idle}")
-            }
-            _ => String::new(),
+        let axles = axles.map(|axles| counted(axles as usize, "axle"));
+        let mark = mark(acceptance, file).map(|is_set| match is_set {
+            true => "marked: CodErrore is filled".to_string(),
+            false => "no mark".to_string(),
+        });
+        let unread = (file == ACC && self.places.value(ACC, 0).is_none())
+            .then(|| "not read with category L".to_string());
+        let said = axles.into_iter().chain(mark).chain(unread);
+        let said: String = said.map(|what| format!(", {what}")).collect();
+        match file {
+            GAS => format!("{said}; {}", idle(acceptance)),
+            _ => said,
         }
     }
 
@@ -246,6 +246,7 @@ impl Judged {
             .truth("drift_mark", acceptance.drift_mark)
             .truth("suspension_mark", acceptance.suspension_mark)
             .truth("gas_mark", acceptance.gas_mark)
+            .truth("opacity_mark", acceptance.opacity_mark)
             .truth("idle_by_hand", acceptance.idle_by_hand)
             .strings("empty", self.set.empty_files())
             .strings("notes", self.noted.iter().map(String::as_str));
@@ -297,16 +298,23 @@ pub fn counts_as_not_given(name: &str) -> String {
     format!("{name} is empty and counts as not given")
 }
 
+/// Whether a result file is marked; None of the other files.
+fn mark(acceptance: &Acceptance, file: u32) -> Option<bool> {
+    match file {
+        DRIFT => Some(acceptance.drift_mark),
+        SUSPENSION => Some(acceptance.suspension_mark),
+        GAS => Some(acceptance.gas_mark),
+        OPACITY => Some(acceptance.opacity_mark),
+        _ => None,
+    }
+}
+
 /// The marked files of an acceptance.
 fn marks_in_short(acceptance: &Acceptance) -> String {
-    let marks = [
-        (acceptance.drift_mark, "drift"),
-        (acceptance.suspension_mark, "suspension"),
-        (acceptance.gas_mark, "gas"),
-    ];
-    let marked: Vec<&str> = marks
-        .into_iter()
-        .filter_map(|(is_set, name)| is_set.then_some(name))
+    let marked: Vec<&str> = FILE_TYPES
+        .iter()
+        .filter(|file| mark(acceptance, file.number) == Some(true))
+        .map(|file| file.title)
         .collect();
     match marked.as_slice() {
         [] => String::new(),

@@ -194,10 +194,19 @@ impl<'a> Line<'a> {
         let text = self.refused.text();
         let above = table::heading_above(text, self.refused.refusal.line);
         above.is_none().then(|| {
-            Finding::cause("the entry stands before any heading").advice(
-                "write the heading of its section above it, or move the line below the heading",
-            )
+            let finding = Finding::cause("the entry stands before any heading");
+            finding.advice(self.heading_of_its_own())
         })
+    }
+
+    /// What to do about an entry above all headings: the one that is absent may be gone.
+    fn heading_of_its_own(&self) -> String {
+        let sections = table::sections(self.refused.refusal.file);
+        let heading = match table::absent_headings(&sections, self.refused.text()).as_slice() {
+            [one] => format!("its heading above it (`{one}` is the only one absent here)"),
+            _ => "the heading of its section above it".to_string(),
+        };
+        format!("write {heading}, or move the line below the heading")
     }
 
     fn heading(&self, content: &[u8], trimmed: &[u8]) -> Finding {
@@ -221,15 +230,24 @@ impl<'a> Line<'a> {
             let mend = self.tried(Action::Delete);
             return Finding::cause("the line has only spaces").mend_or(mend, "delete the line");
         }
-        if [&b";"[..], b"#", b"//"]
-            .iter()
-            .any(|sign| trimmed.starts_with(sign))
-        {
+        let mut signs = [&b";"[..], b"#", b"//"].into_iter();
+        let comment = signs.find_map(|sign| trimmed.strip_prefix(sign));
+        if comment.is_some_and(|comment| !self.names_entry(comment)) {
             let cause = format!("a comment is no line of a set: {FORM}");
             return Finding::cause(cause).mend_or(self.tried(Action::Delete), "delete the line");
         }
         Finding::cause(format!("the line has no `=`: {FORM}"))
             .advice("write the line as name=value, or delete it if it belongs to no entry")
+    }
+
+    /// Whether a comment begins with the name of an entry: its value may stand behind that.
+    fn names_entry(&self, comment: &[u8]) -> bool {
+        let sections = table::sections(self.refused.refusal.file);
+        let mut entries = sections.iter().flat_map(|section| &section.entries);
+        entries.any(|entry| {
+            let start = comment.trim_ascii_start().get(..entry.name.len());
+            start.is_some_and(|start| start.eq_ignore_ascii_case(entry.name.as_bytes()))
+        })
     }
 }
 

@@ -1,7 +1,7 @@
 //! The station program: judges MCTCNet2 test sets that stand in a folder, shows what is due, reads and formats files.
 //!
 //! It decides nothing itself: every verdict is the library's. "01" is document 01, "MCTCNet2 test sets: booking, drift,
-//! suspension and gas".
+//! suspension and gas"; "02" is the change requests to it, "001" the ministry's text that both go by.
 
 #![forbid(unsafe_code)]
 

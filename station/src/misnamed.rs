@@ -1,12 +1,18 @@
 //! Refusals 5 and 6: headings and entries that are unknown or stand twice.
 
+use mctc::Kind;
+
 use crate::case::Refused;
 use crate::edit::{Action, Edit};
 use crate::file_types::FILE_TYPES;
 use crate::finding::Finding;
+use crate::kinds;
 use crate::near::nearest;
 use crate::shown;
 use crate::table::{self, Section};
+
+/// The half of 6 that is about a name.
+const UNKNOWN: &str = "the entry is not one of this section";
 
 /// Refusal 5.
 pub fn heading(refused: &Refused) -> Option<Finding> {
@@ -23,10 +29,8 @@ pub fn heading(refused: &Refused) -> Option<Finding> {
                 )),
         );
     }
-    let absent = sections.iter().map(|section| section.heading.as_str());
-    let absent =
-        absent.filter(|heading| first_line(text, |line| line == heading.as_bytes()).is_none());
-    let near = nearest(written, absent).and_then(|heading| {
+    let absent = table::absent_headings(&sections, text);
+    let near = nearest(written, absent.iter().copied()).and_then(|heading| {
         let edit = refused.edit(Action::Replace(heading.as_bytes().to_vec()));
         Some((heading, refused.tried(edit)?))
     });
@@ -41,7 +45,7 @@ pub fn heading(refused: &Refused) -> Option<Finding> {
     Some(
         Finding::cause(cause)
             .meaning("the heading is not one of this file")
-            .mend_or(mend, "correct the heading"),
+            .mend_or(mend, correct("heading", &absent)),
     )
 }
 
@@ -117,7 +121,11 @@ fn unknown(refused: &Refused, start: u32, section: &Section) -> Finding {
         lines.any(|(_, line)| has_name(line, other.as_bytes()))
     };
     let names = section.entries.iter().map(|entry| entry.name.as_str());
-    let near = nearest(name, names.filter(|name| !stands(name)));
+    let absent: Vec<&str> = names.filter(|name| !stands(name)).collect();
+    let near = nearest(name, absent.iter().copied());
+    if let Some(near) = near.filter(|_| name.contains(&b'#')) {
+        return marked(refused, section, near);
+    }
     let mend = near.and_then(|near| renamed(refused, near, name, value));
     let cause = match (near, elsewhere(refused.refusal.file, name)) {
         _ if name.is_empty() => "no name stands before the `=`".to_string(),
@@ -130,11 +138,56 @@ fn unknown(refused: &Refused, start: u32, section: &Section) -> Finding {
         (None, None) => format!("no entry of `{heading}` has the name {shown}"),
     };
     Finding::cause(cause)
-        .meaning("the entry is not one of this section")
-        .mend_or(
-            mend,
-            "correct the name, or move the line to its section; delete it if it belongs to none",
-        )
+        .meaning(UNKNOWN)
+        .mend_or(mend, no_name_near(&absent))
+}
+
+/// A `#` in a name that is near. It may say that the value was entered by hand, so it is not for a program to take away.
+fn marked(refused: &Refused, section: &Section, near: &str) -> Finding {
+    let (file, line) = (refused.refusal.file, refused.refusal.line);
+    let (name, value) = refused.entry().unwrap_or_default();
+    let written = |value: &[u8]| {
+        let text = [near.as_bytes(), b"=", value].concat();
+        format!("write line {line} as {}", shown::value(&text))
+    };
+    let advice = match kind_of(file, section, near) {
+        _ if value.is_empty() => format!("{}, and its value behind it if it has one", written(b"")),
+        Some(kind) if kinds::may_be_by_hand(&kind) => {
+            let bare = value.strip_prefix(b"#").unwrap_or(value);
+            let by_hand = written(&[b"#", bare].concat());
+            format!(
+                "look up whether it was entered by hand; if so, {by_hand}, else without the `#`"
+            )
+        }
+        _ => kinds::not_by_hand(&written(value)),
+    };
+    let cause = format!(
+        "a `#` stands in the name {}; `{near}` is near",
+        shown::value(name)
+    );
+    Finding::cause(cause).meaning(UNKNOWN).advice(advice)
+}
+
+fn kind_of(file: u32, section: &Section, name: &str) -> Option<Kind> {
+    let mut entries = section.entries.iter();
+    let entry = entries.find(|entry| entry.name == name)?;
+    mctc::kind(file, u32::try_from(entry.number).ok()?).ok()
+}
+
+/// What to do about a name that no absent entry is near to.
+fn no_name_near(absent: &[&str]) -> String {
+    let name = correct("name", absent);
+    format!("{name}, or move the line to its section; delete it if it belongs to none")
+}
+
+/// The advice to correct a name or a heading, with these to choose from.
+fn correct(what: &str, absent: &[&str]) -> String {
+    match absent {
+        [one] => {
+            format!("correct the {what} if `{one}` is meant, which is the only one absent here")
+        }
+        _ => format!("correct the {what}"),
+    }
 }
 
 /// The line with the near name. Where spaces stood round `=`, the one behind it goes too.

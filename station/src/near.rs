@@ -1,12 +1,18 @@
 //! Names that are near one that was written.
 
 /// The name that is nearest to what was written, where one is near: the same but for capitals and spaces, or at most
-/// two letters off. Digits must agree: another number is another thing, not a slip. None where two are as near.
+/// two letters off. A single letter with another is no slip: `NO` is no `N`, which as an outcome says 'not required'.
+/// Digits must agree: another number is another thing. None where two are as near, or where a word of one or two letters,
+/// such as `N1`, begins with another: its first letter is what it says.
 pub fn nearest<'a>(written: &[u8], names: impl Iterator<Item = &'a str>) -> Option<&'a str> {
     let plain = plain(written);
     let near = names.filter_map(|name| {
         let other = self::plain(name.as_bytes());
-        let most = if other.len() > 5 { 2 } else { 1 };
+        let most = match other.len() {
+            0 | 1 => 0,
+            2..=5 => 1,
+            _ => 2,
+        };
         let distance = distance(&plain, &other);
         (distance <= most && digits(&plain) == digits(&other)).then_some((distance, name))
     });
@@ -15,8 +21,21 @@ pub fn nearest<'a>(written: &[u8], names: impl Iterator<Item = &'a str>) -> Opti
     near.dedup();
     match near.as_slice() {
         [(first, _), (second, _), ..] if first == second => None,
-        near => near.first().map(|(_, name)| *name),
+        near => {
+            let near = near.first().map(|(_, name)| *name);
+            near.filter(|name| is_same_code(&plain, &self::plain(name.as_bytes())))
+        }
     }
+}
+
+/// Whether a word of one or two letters begins with the same one; true of other words.
+fn is_same_code(written: &[u8], name: &[u8]) -> bool {
+    let letters = |word: &[u8]| -> Vec<u8> {
+        let letters = word.iter().filter(|byte| byte.is_ascii_alphabetic());
+        letters.copied().collect()
+    };
+    let (written, name) = (letters(written), letters(name));
+    !matches!(name.len(), 1 | 2) || written.first() == name.first()
 }
 
 /// The stem that is nearest to one that no file has, where one is at most one byte off.
@@ -93,5 +112,27 @@ mod tests {
         assert_eq!(nearest("[DerivaAse_1]"), Some("[DerivaAsse_1]"));
         assert_eq!(nearest("[DerivaAsse_3]"), None);
         assert_eq!(nearest("[Sospensioni]"), None);
+    }
+
+    #[test]
+    fn categories_are_not_near() {
+        let categories = ["L3e", "L4e", "M1", "M3", "N1", "N3", "O1", "O3", "O4"];
+        let nearest = |written: &str| nearest(written.as_bytes(), categories.into_iter());
+        assert_eq!(nearest("n 1"), Some("N1"));
+        assert_eq!(nearest("N1G"), Some("N1"));
+        assert_eq!(nearest("L4ee"), Some("L4e"));
+        for other in ["N4", "M4", "4", "N4e", "M3e", "L3", "04"] {
+            assert_eq!(nearest(other), None, "{other}");
+        }
+    }
+
+    #[test]
+    fn letters_are_not_near() {
+        let outcomes = ["R", "I", "N"];
+        let nearest = |written: &str| nearest(written.as_bytes(), outcomes.into_iter());
+        assert_eq!(nearest("r "), Some("R"));
+        for other in ["NO", "SI", "P", "RR"] {
+            assert_eq!(nearest(other), None, "{other}");
+        }
     }
 }

@@ -9,6 +9,7 @@ use crate::explain::{Presence, Subject};
 use crate::file_types::FILE_TYPES;
 use crate::finding::Finding;
 use crate::kinds;
+use crate::other_type;
 use crate::reasons::{self, Looked, Why};
 use crate::shown;
 use crate::table;
@@ -44,22 +45,37 @@ pub fn file(refused: &Refused, subject: &Subject) -> Option<Finding> {
         (Presence::Alone, _) => Finding::default()
             .meaning("the file is empty")
             .advice("name a file that has content"),
-        (Presence::Absent, _) => because(why.as_ref())
-            .meaning("missing, but due")
-            .advice(or_correct(&format!("add {name}"), why.as_ref())),
-        (Presence::InSet, []) => because(why.as_ref())
-            .meaning("empty, which counts as not given, but due")
-            .advice(or_correct(
-                &format!("put {name} there with its content"),
-                why.as_ref(),
-            )),
+        (Presence::Absent, _) => {
+            let add = format!("add {name}");
+            missing_file(refused, why.as_ref(), &add).meaning("missing, but due")
+        }
+        (Presence::InSet, []) => {
+            let put = format!("put {name} there with its content");
+            let finding = missing_file(refused, why.as_ref(), &put);
+            finding.meaning("empty, which counts as not given, but due")
+        }
         (Presence::InSet, _) => {
-            let last = format!("take {name} out of the set");
-            let last = refused.tried(refused.edit(Action::Remove)).map(|_| last);
-            cause_first(refused, why.as_ref(), last).meaning("given, but not due")
+            let finding = other_type::misplaced(refused);
+            let finding = finding.unwrap_or_else(|| given_file(refused, why.as_ref(), name));
+            finding.meaning("given, but not due")
         }
     };
     Some(finding)
+}
+
+/// A file that is due, with the advice to put it there, unless it stands under another's name.
+fn missing_file(refused: &Refused, why: Option<&Why>, advice: &str) -> Finding {
+    let finding = other_type::elsewhere(refused);
+    finding.unwrap_or_else(|| because(why).advice(or_correct(advice, why)))
+}
+
+fn given_file(refused: &Refused, why: Option<&Why>, name: &str) -> Finding {
+    let removal = refused.tried(refused.edit(Action::Remove));
+    let last = removal.map(|edit| {
+        let then = then_lacking(&refused.case, &edit);
+        format!("take {name} out of the set{then}")
+    });
+    cause_first(refused, why, last)
 }
 
 /// What is due and not there: to be put there, unless a value is wrong by which it is due.
@@ -83,7 +99,8 @@ fn because(why: Option<&Why>) -> Finding {
 }
 
 /// What is there and not due: the value that decides is mended where it is near a word that counts; else it is to be
-/// looked at before the last resort.
+/// looked at before the last resort. There is none where it may mean a word by which anything is due: the vehicle may need
+/// that.
 fn cause_first(refused: &Refused, why: Option<&Why>, last: Option<String>) -> Finding {
     let finding = because(why);
     let deciding = why.map_or(Vec::new(), Why::deciding);
@@ -96,7 +113,11 @@ fn cause_first(refused: &Refused, why: Option<&Why>, last: Option<String>) -> Fi
             ..finding.advice(advice)
         };
     }
-    let first = match places(&deciding).as_slice() {
+    let places = places(&deciding);
+    if let Some(advice) = supposition(&refused.case, &places) {
+        return finding.advice(advice);
+    }
+    let first = match places.as_slice() {
         [] => "look first whether what decides this is right".to_string(),
         [one] => format!("look first whether {one} is right"),
         several => {
@@ -137,6 +158,28 @@ impl Correction {
     }
 }
 
+/// What to do about a value at one of these places that may mean a word that counts.
+fn supposition(case: &Case, places: &[String]) -> Option<String> {
+    let doubtful = reasons::doubtful(case);
+    let mut doubtful = doubtful.iter();
+    let looked = doubtful.find(|looked| places.contains(&looked.place()))?;
+    let (meant, place) = (looked.meant()?, looked.place());
+    let line = shown::value(&looked.supposed()?);
+    let then = then_lacking(case, &supposed(looked)?);
+    Some(format!(
+        "look up what is right; if `{meant}` is meant, write {place} as {line}{then}"
+    ))
+}
+
+/// A value that decides, written as the word that may be meant.
+fn supposed(looked: &Looked) -> Option<Edit> {
+    Some(Edit {
+        file: looked.file(),
+        line: looked.line,
+        action: Action::Replace(looked.supposed()?),
+    })
+}
+
 /// Where the library, asked with that word, refuses later, or asks for what was not asked for before.
 pub fn correction(refused: &Refused, looked: &Looked) -> Option<Correction> {
     let Correction { edit, advice } = Correction::of(looked)?;
@@ -156,7 +199,7 @@ fn then_due(case: &Case, edit: &Edit) -> Option<String> {
 }
 
 /// What is due with this change and not there: what the library refuses it for, and files that it would come to.
-pub fn lacking_with(case: &Case, edit: &Edit) -> Vec<String> {
+fn lacking_with(case: &Case, edit: &Edit) -> Vec<String> {
     let text = edit.apply(case.text(edit.file));
     let case = case.with_text(edit.file, &text);
     let mut lacking: Vec<String> = case.lacking().into_iter().collect();
@@ -170,16 +213,19 @@ pub fn lacking_with(case: &Case, edit: &Edit) -> Vec<String> {
     lacking
 }
 
+/// The same, to stand behind the advice to make the change; nothing where nothing is lacking.
+pub fn then_lacking(case: &Case, edit: &Edit) -> String {
+    match lacking_with(case, edit).as_slice() {
+        [] => String::new(),
+        lacking => format!("; then {}", lacking.join("; ")),
+    }
+}
+
 /// What is to be noted of an accepted set: values that are near a word that counts, by which something would be due.
 pub fn doubts(case: &Case) -> Vec<String> {
     let doubtful = reasons::doubtful(case);
     let notes = doubtful.iter().filter_map(|looked| {
-        let edit = Edit {
-            file: looked.file(),
-            line: looked.line,
-            action: Action::Replace(looked.supposed()?),
-        };
-        let then = then_due(case, &edit)?;
+        let then = then_due(case, &supposed(looked)?)?;
         Some(format!("{}, {then}", looked.doubt()?))
     });
     notes.collect()

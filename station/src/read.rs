@@ -5,10 +5,12 @@ use std::path::{Path, PathBuf};
 
 use mctc::{FileAcceptance, Places, Refusal};
 
-use crate::case::{Case, IDENTIFICATION};
+use crate::case::Case;
 use crate::disk::{read_file, FileOnDisk};
 use crate::explain::{explain, Subject};
-use crate::file_types::{by_number, split_name};
+use crate::file_types::{
+    by_number, endings, numbers_and_titles, split_name, FILE_TYPES, IDENTIFICATION,
+};
 use crate::identification;
 use crate::output::{Output, Status, Trouble};
 use crate::shown::{self, counted, IDLE_BY_HAND};
@@ -70,9 +72,10 @@ fn number_of(path: &Path) -> Result<u32, Trouble> {
     match split_name(name.as_bytes()) {
         Some((_, file)) => Ok(file.number),
         None => Err(Trouble(format!(
-            "{}: the ending is none of .AC2, .ACC, .DER, .SOS, .GAS, .ID; add --file and the file's number (1 new \
-             booking, 2 old booking, 3 drift, 4 suspension, 5 gas, 6 identification)",
-            shown::name(path)
+            "{}: the ending is not {}; add --file and the file's number ({})",
+            shown::name(path),
+            endings(),
+            numbers_and_titles(FILE_TYPES.iter())
         ))),
     }
 }

@@ -1,9 +1,9 @@
 //! Why an entry is due or not, and a file given or not: the library's reasons, in words and beside a set's values.
 
-use mctc::{Asked, Condition, Kind, Reason, Test};
+use mctc::{Asked, Condition, Due, Kind, Reason, Test};
 
-use crate::case::{Case, GAS, IDENTIFICATION};
-use crate::file_types::{by_number, FILE_TYPES};
+use crate::case::Case;
+use crate::file_types::{by_number, FILE_TYPES, GAS, IDENTIFICATION};
 use crate::fuels;
 use crate::near::nearest;
 use crate::shown::{self, listed, word_list};
@@ -232,7 +232,7 @@ impl<'a> Looked<'a> {
     }
 
     /// The word that is near, or that of a fuel which the value speaks of.
-    fn meant(&self) -> Option<&'static str> {
+    pub fn meant(&self) -> Option<&'static str> {
         self.near().or_else(|| {
             let fuel = self.has_name(&[fuels::ENTRY]).then_some(self.value);
             let meant = fuel.and_then(fuels::spoken_of)?;
@@ -306,8 +306,18 @@ impl<'a> Why<'a> {
         self.behind.is_none() && self.failing().is_empty()
     }
 
+    /// What is asked by these values; None where this program does not know it.
+    pub fn due(&self) -> Option<Due> {
+        match (self.asked, self.holds()) {
+            (Asked::Always, _) | (Asked::When, true) => Some(Due::Due),
+            (Asked::Free, _) | (Asked::OnlyWhen, true) => Some(Due::Free),
+            (Asked::When | Asked::OnlyWhen, false) => Some(Due::NotDue),
+            (Asked::Other(_), _) => None,
+        }
+    }
+
     pub fn is_due(&self) -> bool {
-        matches!(self.asked, Asked::Always | Asked::When) && self.holds()
+        self.due() == Some(Due::Due)
     }
 
     /// By which the reasons do not hold.

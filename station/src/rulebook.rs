@@ -3,9 +3,8 @@
 use std::iter;
 
 use crate::booking_tables;
-use crate::case::GAS;
 use crate::entries::{self, Described};
-use crate::file_types::{by_number, FileType, FILE_TYPES};
+use crate::file_types::{by_number, FileType, FILE_TYPES, GAS};
 use crate::identification;
 use crate::reasons;
 use crate::words;
@@ -49,10 +48,10 @@ hexadecimal digits. Another form is refused with 14, a field that differs from g
 const ORDER: &str = "
 ## The order of judging
 
-The stem (2), then files 1 to 6. For each file: given or not (11), its length (3), the first line with 4, 5 or 6, absent
-sections (7) and entries (8), all kinds (9), all that is filled or empty (10), then the rules (12 or 13). For the
-identification answer: 11, 14, 15. The first refusal in this order is the verdict. An old booking is not read with
-category L, even if it is too long.
+The stem (2), then the files in the order of their numbers. For each file: given or not (11), its length (3), the first
+line with 4, 5 or 6, absent sections (7) and entries (8), all kinds (9), all that is filled or empty (10), then the rules
+(12 or 13). For the identification answer: 11, 14, 15. The first refusal in this order is the verdict. An old booking is
+not read with category L, even if it is too long.
 ";
 
 const REFUSALS: &str = "

@@ -4,12 +4,13 @@ use std::collections::BTreeSet;
 
 use crate::booking_tables;
 use crate::candidates;
-use crate::case::{Refused, AC2};
+use crate::case::Refused;
 use crate::edit::{Action, Edit};
+use crate::file_types::AC2;
 use crate::finding::Finding;
 use crate::fuels;
 use crate::near::nearest;
-use crate::not_as_due::{correction, lacking_with, Correction};
+use crate::not_as_due::{correction, then_lacking, Correction};
 use crate::reasons::{doubtful, Looked};
 use crate::shown;
 use crate::table;
@@ -145,10 +146,7 @@ fn other_fuel(refused: &Refused, name: &[u8], value: &[u8]) -> Option<String> {
         line,
         action: Action::Replace(format!("{}={fuel}", fuels::ENTRY).into_bytes()),
     };
-    let then = match lacking_with(&refused.case, &edit).as_slice() {
-        [] => String::new(),
-        lacking => format!("; then {}", lacking.join("; ")),
-    };
+    let then = then_lacking(&refused.case, &edit);
     Some(format!(
         "{start}: if AC2 line {line} must be `{fuel}`, correct it{then}"
     ))

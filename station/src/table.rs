@@ -57,6 +57,14 @@ pub fn axles_like<'a>(sections: &'a [Section], heading: &[u8]) -> Vec<&'a str> {
     }
 }
 
+/// The headings that stand on no line of a text.
+pub fn absent_headings<'a>(sections: &'a [Section], text: &[u8]) -> Vec<&'a str> {
+    let lines: Vec<&[u8]> = shown::lines_from(text, 1).into_iter().flatten().collect();
+    let headings = sections.iter().map(|section| section.heading.as_str());
+    let absent = headings.filter(|heading| !lines.contains(&heading.as_bytes()));
+    absent.collect()
+}
+
 /// The last heading above a line, with its line.
 pub fn heading_above(text: &[u8], line: u32) -> Option<(u32, &[u8])> {
     let lines = (1..line).zip(shown::lines_from(text, 1)?);

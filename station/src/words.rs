@@ -1,6 +1,6 @@
 //! What each refusal means and what to do, in plain words.
 
-use crate::file_types::{by_number, FILE_TYPES};
+use crate::file_types::{by_number, numbers_and_titles, FILE_TYPES};
 use crate::identification;
 use crate::page::labelled;
 use crate::reasons;
@@ -81,7 +81,7 @@ pub fn meaning(number: u32) -> &'static str {
         13 => "Differenza% is not the larger grip less the smaller",
         14 => "the identification answer does not have the right form",
         15 => "the identification answer differs from the gas file",
-        16 => "there is no such file: files 1 to 5 have entries",
+        16 => "there is no such file, or it has no entries",
         17 => "a value lies outside the text",
         18 => "the output is too short",
         _ => "the library refuses with a number that this program does not know",
@@ -91,6 +91,7 @@ pub fn meaning(number: u32) -> &'static str {
 /// What to do about a refusal, by its number.
 pub fn advice(number: u32) -> String {
     match number {
+        1 => format!("lend the library at least {} numbers", mctc::PLACES),
         15 => {
             let fields = identification::fields().into_iter();
             let shared = fields.filter(|field| field.entry.is_some());
@@ -100,6 +101,10 @@ pub fn advice(number: u32) -> String {
                 names.join(", ")
             )
         }
+        16 => {
+            let files = FILE_TYPES.iter().filter(|file| file.has_entries());
+            format!("name the file's number: {}", numbers_and_titles(files))
+        }
         other => fixed_advice(other).to_string(),
     }
 }
@@ -107,7 +112,6 @@ pub fn advice(number: u32) -> String {
 fn fixed_advice(number: u32) -> &'static str {
     match number {
         2 => "give all files of the set one name of two capital letters and six digits, such as AB123456",
-        1 => "lend the library at least 278 numbers",
         3 => "put the file there as the device or the booking office made it",
         4 => "retype the line: a heading in [ ], or name=value below a heading; 1 to 512 bytes of 20 to 7E hex, then \
               CR LF (0D 0A hex)",
@@ -128,7 +132,6 @@ fn fixed_advice(number: u32) -> &'static str {
         13 => "correct Aderenza%Sx, Aderenza%Dx or Differenza% of this axle",
         14 => "have the analyser's answer recorded again: 02 hex, ten fields separated by 17 hex (GAS, address, ID and \
                seven values), the checksum as two capital hexadecimal digits, 03 hex; at most 512 bytes",
-        16 => "name the file's number: 1 new booking, 2 old booking, 3 drift, 4 suspension, 5 gas",
         17 => "lend the places that reading this text gave",
         18 => "lend an output as long as the text that was read",
         _ => "report this to whoever maintains the program",

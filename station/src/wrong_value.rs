@@ -2,6 +2,7 @@
 
 use mctc::{Form, Kind};
 
+use crate::absent;
 use crate::case::Refused;
 use crate::edit::Edit;
 use crate::finding::Finding;
@@ -22,7 +23,24 @@ pub fn finding(refused: &Refused) -> Option<Finding> {
         value: refused.entry()?.1,
         kind: mctc::kind(file, entry).ok()?,
     };
-    Some(wrong.finding().expected(kinds::expected(file, entry)))
+    let finding = wrong.finding().expected(kinds::expected(file, entry));
+    let may_be_none = wrong.is_placeholder() && absent::is_reported(file, entry);
+    Some(match may_be_none {
+        true => or_none(finding),
+        false => finding,
+    })
+}
+
+/// What else is to be said of an entry that may be empty, so that nobody makes up a number for it.
+fn or_none(finding: Finding) -> Finding {
+    match (&finding.mend, &finding.advice) {
+        (None, Some(advice)) => {
+            let only = absent::ONLY_IF_NONE;
+            let advice = format!("{advice}; leave nothing behind the `=` {only}");
+            finding.advice(advice)
+        }
+        _ => finding,
+    }
 }
 
 /// A value that is not of its entry's kind.
@@ -38,7 +56,7 @@ struct Slip {
     mended: fn(&[u8]) -> Option<Vec<u8>>,
 }
 
-const SLIPS: [Slip; 9] = [
+const SLIPS: [Slip; 12] = [
     Slip {
         what: "a space stands at its start or end",
         mended: |value| Some(value.trim_ascii().to_vec()),
@@ -67,6 +85,21 @@ const SLIPS: [Slip; 9] = [
         mended: |value| Some(value.strip_prefix(b"+")?.to_vec()),
     },
     Slip {
+        what: "a space stands behind the `#`",
+        mended: |value| {
+            let number = value.strip_prefix(b"#")?.trim_ascii_start();
+            Some([b"#", number].concat())
+        },
+    },
+    Slip {
+        what: "more than one `#` stands before it",
+        mended: |value| Some([b"#", without_marks(value.strip_prefix(b"##")?)].concat()),
+    },
+    Slip {
+        what: "the `#` does not stand first",
+        mended: mark_first,
+    },
+    Slip {
         what: "it has a point and zeros that do not belong there",
         mended: without_zeros,
     },
@@ -80,6 +113,16 @@ const SLIPS: [Slip; 9] = [
     },
 ];
 
+/// Digits and nothing else.
+fn are_digits(part: &[u8]) -> bool {
+    !part.is_empty() && part.iter().all(u8::is_ascii_digit)
+}
+
+fn digits(value: &[u8]) -> Vec<u8> {
+    let digits = value.iter().filter(|byte| byte.is_ascii_digit());
+    digits.copied().collect()
+}
+
 /// Where a number's point stands.
 fn point(value: &[u8]) -> Option<usize> {
     value.iter().position(|byte| *byte == b'.')
@@ -88,7 +131,25 @@ fn point(value: &[u8]) -> Option<usize> {
 fn without_zeros(value: &[u8]) -> Option<Vec<u8>> {
     let (whole, behind) = value.split_at(point(value)?);
     let zeros = behind.iter().skip(1).all(|byte| *byte == b'0');
-    zeros.then(|| whole.to_vec())
+    let is_number = whole.iter().any(u8::is_ascii_digit);
+    (is_number && zeros).then(|| whole.to_vec())
+}
+
+/// The one `#` of a value, which says that it was entered by hand, put where it belongs. Not from between digits, where
+/// it may stand for one.
+fn mark_first(value: &[u8]) -> Option<Vec<u8>> {
+    let (sign, number): (&[u8], &[u8]) = match value {
+        [number @ .., b'#'] => (b"", number),
+        [b'-', b'#', number @ ..] => (b"-", number),
+        _ => return None,
+    };
+    (!number.contains(&b'#')).then(|| [b"#", sign, number].concat())
+}
+
+/// A value without the `#` that it begins with.
+fn without_marks(value: &[u8]) -> &[u8] {
+    let count = value.iter().take_while(|byte| **byte == b'#').count();
+    value.get(count..).unwrap_or_default()
 }
 
 /// A day or a time of three parts, with the same sign between them. Anything else is left alone: a number without its
@@ -121,7 +182,11 @@ impl Wrong<'_> {
             .or_else(|| self.no_such_time())
             .or_else(|| self.length())
             .or_else(|| self.no_point())
+            .or_else(|| self.not_whole())
             .or_else(|| self.letter())
+            .or_else(|| self.by_hand())
+            .or_else(|| self.mark_within())
+            .or_else(|| self.empty_number())
             .or_else(|| self.behind())
             .or_else(|| self.sign())
             .or_else(|| self.no_digit());
@@ -185,13 +250,59 @@ impl Wrong<'_> {
         None
     }
 
-    /// As `passing`, but of a text only a space may go: a digit more in a key would be another key.
+    /// As `passing`, but of a text only a space may go: a digit more in a key would be another key. And no digit may go
+    /// where three stand behind a point: `4.000` may be four thousand, and not 4.
     fn slipped(&self, mended: &[u8]) -> Option<Edit> {
-        let is_text = matches!(self.kind.form, Form::Text | Form::Exact);
-        if is_text && mended != self.value.trim_ascii() {
+        let is_other_text = self.is_text() && mended != self.value.trim_ascii();
+        let is_other_number = self.may_be_thousands() && digits(mended) != digits(self.value);
+        if is_other_text || is_other_number {
             return None;
         }
         self.passing(mended)
+    }
+
+    fn may_be_thousands(&self) -> bool {
+        let parts = self.value.split(|byte| matches!(byte, b'.' | b','));
+        let mut behind = parts.skip(1);
+        self.is_whole() && behind.any(|part| digits(part).len() == 3)
+    }
+
+    /// Whether only whole numbers are of the kind.
+    fn is_whole(&self) -> bool {
+        matches!(
+            self.kind.form,
+            Form::Number | Form::NumberByHand | Form::TempAmbiente
+        )
+    }
+
+    fn is_number(&self) -> bool {
+        let is_other = matches!(
+            self.kind.form,
+            Form::Fixed | Form::FixedByHand | Form::Deriva
+        );
+        self.is_whole() || is_other
+    }
+
+    fn is_text(&self) -> bool {
+        matches!(self.kind.form, Form::Text | Form::Exact | Form::Targa)
+    }
+
+    /// Whether the value may stand for none: no number is told by it.
+    fn is_placeholder(&self) -> bool {
+        let tells = |byte: &u8| matches!(byte, b'1'..=b'9');
+        self.is_number() && !self.value.iter().any(tells)
+    }
+
+    /// The value without the `#` of one that was entered by hand, where its kind lets one stand there.
+    fn bare(&self) -> &[u8] {
+        let bare = self.value.strip_prefix(b"#");
+        let bare = bare.filter(|_| kinds::may_be_by_hand(&self.kind));
+        bare.unwrap_or(self.value)
+    }
+
+    /// The same without a minus.
+    fn unsigned(&self) -> &[u8] {
+        self.bare().strip_prefix(b"-").unwrap_or(self.bare())
     }
 
     /// An entry of a word list: the nearest word.
@@ -250,30 +361,34 @@ impl Wrong<'_> {
 
     /// A value whose bytes may be right, but not their count.
     fn length(&self) -> Option<Finding> {
-        let most = usize::try_from(self.kind.most).ok()?;
-        let digits = || self.value.iter().all(u8::is_ascii_digit);
-        let number = || {
-            let is_part = |byte: &u8| byte.is_ascii_digit() || *byte == b'.';
-            self.value.iter().all(is_part)
+        let value = self.bare();
+        let all = |is_part: fn(&u8) -> bool| value.iter().all(is_part);
+        let right = match self.kind.form {
+            Form::Text | Form::Exact | Form::Targa => true,
+            Form::Number
+            | Form::NumberByHand
+            | Form::Day
+            | Form::Time
+            | Form::DataPrimaImm
+            | Form::AnnoPrimaImm => are_digits(value),
+            Form::TempAmbiente => are_digits(self.unsigned()),
+            Form::PosAssiStaz => all(|byte| matches!(byte, b'S' | b'N')),
+            Form::Fixed | Form::FixedByHand => all(|byte| byte.is_ascii_digit() || *byte == b'.'),
+            Form::Deriva | Form::Word | Form::Other(_) => false,
         };
-        let letters = || self.value.iter().all(|byte| matches!(byte, b'S' | b'N'));
-        let (right, is_exact) = match self.kind.form {
-            Form::Text => (true, false),
-            Form::Exact => (true, true),
-            Form::Number => (digits(), false),
-            Form::Day | Form::Time | Form::DataPrimaImm | Form::AnnoPrimaImm => (digits(), true),
-            Form::PosAssiStaz => (letters(), true),
-            Form::Fixed => (number(), false),
-            Form::Deriva | Form::Revs | Form::Word | Form::Other(_) => (false, false),
+        if value.is_empty() || !right {
+            return None;
+        }
+        let (least, most) = (kinds::least(&self.kind), kinds::most(&self.kind));
+        let length = u32::try_from(value.len()).ok()?;
+        let bytes = |count: u32| counted(count as usize, "byte");
+        let what = if length > most {
+            format!("it is too long by {}", bytes(length - most))
+        } else if length < least {
+            format!("it is too short by {}", bytes(least - length))
+        } else {
+            return None;
         };
-        let length = self.value.len();
-        let over = |count: usize| counted(count, "byte");
-        let what = match length.checked_sub(most) {
-            Some(0) => None,
-            Some(long) => Some(format!("it is too long by {}", over(long))),
-            None => is_exact.then(|| format!("it is too short by {}", over(most - length))),
-        };
-        let what = what.filter(|_| right)?;
         let advice = match self.kind.form {
             Form::Text => format!("shorten the value in line {}", self.refused.refusal.line),
             _ => self.correct(),
@@ -291,22 +406,67 @@ impl Wrong<'_> {
         Some(self.said(&what, &self.correct()))
     }
 
-    /// A minus where none may be. What the number is without it is not for a program to say.
+    /// A minus where none may be, or one too many. What the number is without it is not for a program to say.
     fn sign(&self) -> Option<Finding> {
-        self.passing(self.value.strip_prefix(b"-")?)?;
+        let rest = self.value.strip_prefix(b"-");
+        self.passing(rest.filter(|rest| !rest.is_empty())?)?;
+        if matches!(self.kind.form, Form::TempAmbiente | Form::Deriva) {
+            return Some(self.said("more than one `-` stands before it", &self.correct()));
+        }
         let what = "a `-` stands before a number that has no sign";
         Some(self.said(what, &format!("{}: the number has no sign", self.correct())))
     }
 
-    /// A number without a point, which passes with one and some zeros. Where the point was meant is not known.
+    /// A number without any digit.
+    fn empty_number(&self) -> Option<Finding> {
+        let is_empty = self.is_number() && !self.value.iter().any(u8::is_ascii_digit);
+        let what = match self.value {
+            b"#" => "nothing stands behind the `#`",
+            _ => "it has no digit",
+        };
+        is_empty.then(|| self.said(what, &self.correct()))
+    }
+
+    /// A number without a point. Where it was meant is not known.
     fn no_point(&self) -> Option<Finding> {
-        let zeros = [&b".0"[..], b".00", b".000"];
-        let whole = point(self.value).is_none();
-        let passes = zeros
-            .iter()
-            .any(|zeros| self.passes(&[self.value, zeros].concat()));
-        (whole && passes)
+        (are_digits(self.unsigned()) && self.kind.decimals > 0)
             .then(|| self.said("it has no point, and no digits behind one", &self.correct()))
+    }
+
+    /// A number with a point, where only whole ones are. What was meant is not known: a part of one, or thousands.
+    fn not_whole(&self) -> Option<Finding> {
+        point(self.value)?;
+        let mut parts = self.unsigned().split(|byte| *byte == b'.');
+        (self.is_whole() && parts.all(are_digits)).then(|| {
+            let what = "it has a point, which a whole number must not have";
+            self.said(what, &self.correct())
+        })
+    }
+
+    /// What stands behind a `#` passes without it. To take the `#` away may hide that a person put in what only the device
+    /// may say.
+    fn by_hand(&self) -> Option<Finding> {
+        let rest = without_marks(self.value);
+        let is_marked = rest != self.value && !rest.is_empty();
+        if kinds::may_be_by_hand(&self.kind) || !is_marked || !self.passes(rest) {
+            return None;
+        }
+        let without = format!("write line {} without the `#`", self.refused.refusal.line);
+        let what = "a `#` stands before it, and none may stand there";
+        Some(self.said(what, &kinds::not_by_hand(&without)))
+    }
+
+    /// A `#` that does not stand first. Whether it is meant for a digit is not known.
+    fn mark_within(&self) -> Option<Finding> {
+        let is_within = self.is_number() && without_marks(self.value).contains(&b'#');
+        is_within.then(|| {
+            let advice = match kinds::may_be_by_hand(&self.kind) {
+                true => format!("{}; `#` may stand only first", self.correct()),
+                false => self.correct(),
+            };
+            let what = "a `#` stands within or behind it, and may be meant for a digit";
+            self.said(what, &advice)
+        })
     }
 
     /// A letter that looks like a digit stands where one passes.

@@ -5,7 +5,7 @@
 //! - `bench-reference time WHAT SET`: prints the nanoseconds of one call, the least of several averages.
 //! - `bench-reference count WHAT SET`: makes one call as warm-up, then one in `measured`, for callgrind.
 //!
-//! WHAT is `judge`, the whole set, or `read`, its gas file alone.
+//! WHAT is `judge`, the whole set, or `read-gas` or `read-opacity`, that file alone.
 
 mod sets;
 
@@ -17,11 +17,19 @@ use std::time::Instant;
 
 use outside::judge::{Reference, Set};
 use outside::reference::judging::{judge_set, read_alone};
-use outside::reference::tables::GAS;
+use outside::reference::tables::{GAS, OPACITY};
 use outside::reference::PLACES;
 
 /// The files of a set's folder, in the order of the slices.
-const NAMES: [&str; 6] = ["ac2", "acc", "drift", "suspension", "gas", "identification"];
+const NAMES: [&str; 7] = [
+    "ac2",
+    "acc",
+    "drift",
+    "suspension",
+    "gas",
+    "identification",
+    "opacity",
+];
 
 const ROUNDS: usize = 20;
 const ROUND_NANOSECONDS: f64 = 10_000_000.0;
@@ -91,7 +99,8 @@ type Call = fn(&Set, &mut [u32]);
 fn prepare(what: &str, folder: &str) -> Result<(Call, Set), String> {
     let call: Call = match what {
         "judge" => judge,
-        "read" => read_gas,
+        "read-gas" => read_gas,
+        "read-opacity" => read_opacity,
         _ => return Err(format!("nothing to measure: {what}")),
     };
     Ok((call, load(Path::new(folder))?))
@@ -103,6 +112,10 @@ fn judge(set: &Set, places: &mut [u32]) {
 
 fn read_gas(set: &Set, places: &mut [u32]) {
     let _ = black_box(read_alone(GAS, set.slice(GAS), places));
+}
+
+fn read_opacity(set: &Set, places: &mut [u32]) {
+    let _ = black_box(read_alone(OPACITY, set.slice(OPACITY), places));
 }
 
 /// callgrind counts from the entry of this function to its return.

@@ -1,10 +1,11 @@
-//! The sets that are measured: petrol sets of a car and of a moped, the same ones grown, and inputs refused late.
-//! "01" is document 01, "MCTCNet2 test sets".
+//! The sets that are measured: petrol sets of a car and of a moped, diesel sets of a van, the same ones grown, and inputs
+//! refused late. "01" is document 01, "MCTCNet2 test sets", "02" the change requests.
 
+use outside::entries::free_entries;
 use outside::judge::Set;
 use outside::reference::identification::{answer, SEVEN_ENTRIES};
 use outside::reference::kinds::Kind;
-use outside::reference::tables::{table, AC2, ACC, DRIFT, GAS, SUSPENSION};
+use outside::reference::tables::{table, AC2, ACC, DRIFT, GAS, OPACITY, SUSPENSION};
 
 /// A set, and the number it is to be answered with: 0 accepted, else the refusal.
 pub struct Named {
@@ -25,6 +26,8 @@ enum Vehicle {
     Car,
     /// L1e: no old booking, ProvaVelocita is due.
     Moped,
+    /// N1, DIESEL: the old booking is read, opacity in place of gas.
+    Van,
 }
 
 #[derive(Clone, Copy, PartialEq)]
@@ -57,17 +60,23 @@ const MOPED: Plan = Plan {
     ..CAR
 };
 
+const VAN: Plan = Plan {
+    vehicle: Vehicle::Van,
+    ..CAR
+};
+
 pub fn all() -> Vec<Named> {
     let mut sets = Vec::new();
     let mut accepted = |name: String, plan: Plan| sets.push(named(name, plan.set(), 0));
     for (word, link) in [("dir", "DIR"), ("rete", "RETE"), ("rs", "RS SENZA ESITO")] {
         accepted(format!("car-{word}"), Plan { link, ..CAR });
         accepted(format!("moped-{word}"), Plan { link, ..MOPED });
+        accepted(format!("van-{word}"), Plan { link, ..VAN });
     }
     for axles in 1..=9 {
         accepted(format!("axles-{axles}"), Plan { axles, ..CAR });
     }
-    for (vehicle, plan) in [("car", CAR), ("moped", MOPED)] {
+    for (vehicle, plan) in [("car", CAR), ("moped", MOPED), ("van", VAN)] {
         let shortest = Plan {
             size: Size::Shortest,
             link: "DIR",
@@ -176,11 +185,9 @@ fn long_lines() -> Vec<u8> {
 
 impl Plan {
     fn set(self) -> Set {
-        let acc = match self.vehicle {
-            Vehicle::Car => self.text(ACC),
-            Vehicle::Moped => Vec::new(),
-        };
-        let identification = if self.link == "RS SENZA ESITO" {
+        let diesel = self.vehicle == Vehicle::Van;
+        let given = |file, given: bool| if given { self.text(file) } else { Vec::new() };
+        let identification = if self.link == "RS SENZA ESITO" && !diesel {
             identification(&self.seven())
         } else {
             Vec::new()
@@ -189,11 +196,12 @@ impl Plan {
             stem: b"AB123456".to_vec(),
             slices: [
                 self.text(AC2),
-                acc,
+                given(ACC, self.vehicle != Vehicle::Moped),
                 self.text(DRIFT),
                 self.text(SUSPENSION),
-                self.text(GAS),
+                given(GAS, !diesel),
                 identification,
+                given(OPACITY, diesel),
             ],
         }
     }
@@ -239,28 +247,46 @@ impl Plan {
     fn value(self, file: u32, name: &str, kind: Kind) -> String {
         match file {
             AC2 => self.ac2_value(name).to_string(),
-            ACC => acc_value(name).to_string(),
+            ACC => self.acc_value(name).to_string(),
             GAS if !self.gas_due(name) => String::new(),
+            OPACITY if !self.opacity_filled(name) => String::new(),
             _ => self.result_value(name, kind),
         }
     }
 
     fn ac2_value(self, name: &str) -> &'static str {
-        let car = self.vehicle == Vehicle::Car;
-        match name {
-            "TargaNominale" if car => "AB123CD",
-            "TargaNominale" => "X2ABCD",
-            "TipoVeicolo" if car => "LEGGERO",
-            "TipoVeicolo" => "MOTOVEICOLO",
-            "CategoriaInternazionale" if car => "M1",
-            "CategoriaInternazionale" => "L1e",
-            "CodiceCIC" if !car => "CIC0012345",
-            "DataPrimaImm" => "15032004",
-            "Alimentazione_1" => "BENZINA",
-            "DirettivaEmissioniGasBenzinaAuto" if car => "98/69/CE",
-            "AzionamentoFrenoStazionamento" => "MANO",
-            "PosAssiStaz" => "NSNNNNNNN",
+        match (name, self.vehicle) {
+            ("TargaNominale", Vehicle::Moped) => "X2ABCD",
+            ("TargaNominale", _) => "AB123CD",
+            ("TipoVeicolo", Vehicle::Moped) => "MOTOVEICOLO",
+            ("TipoVeicolo", _) => "LEGGERO",
+            ("CategoriaInternazionale", Vehicle::Car) => "M1",
+            ("CategoriaInternazionale", Vehicle::Moped) => "L1e",
+            ("CategoriaInternazionale", Vehicle::Van) => "N1",
+            ("CodiceCIC", Vehicle::Moped) => "CIC0012345",
+            ("DataPrimaImm", _) => "15032004",
+            ("Alimentazione_1", Vehicle::Van) => "DIESEL",
+            ("Alimentazione_1", _) => "BENZINA",
+            ("Turbo", Vehicle::Van) => "S",
+            ("CorrettorePressione", Vehicle::Van) => "N",
+            ("DirettivaEmissioniGasBenzinaAuto", Vehicle::Car) => "98/69/CE",
+            ("AzionamentoFrenoStazionamento", _) => "MANO",
+            ("PosAssiStaz", _) => "NSNNNNNNN",
             _ => "",
+        }
+    }
+
+    fn acc_value(self, name: &str) -> &'static str {
+        let van = self.vehicle == Vehicle::Van;
+        match name {
+            "TipoVeicolo" => "LEGGERO",
+            "DescrizioneVeicolo" if van => "AUTOCARRO",
+            "DescrizioneVeicolo" => "AUTOVETTURA",
+            "AnnoPrimaImm" => "2004",
+            "Alimentazione_1" if van => "DIESEL TURBO COMPRESSO",
+            "Alimentazione_1" => "BENZINA CAT",
+            "FrenoStazionamento" => "MANO",
+            _ => "1",
         }
     }
 
@@ -268,17 +294,31 @@ impl Plan {
     /// counter is ESTERNO.
     fn gas_due(self, name: &str) -> bool {
         let moped = self.vehicle == Vehicle::Moped;
-        let key = name.ends_with("RS");
-        if name == "COMinAcc" {
-            !moped
-        } else if key && (self.size == Size::Shortest || name.starts_with("Checksum")) {
-            false
-        } else if name.contains("ProvaVelocita") {
-            moped
-        } else if key && !name.contains("Contagiri") {
-            self.link == "RS SENZA ESITO"
+        match name {
+            "COMinAcc" => !moped,
+            _ if name.contains("ProvaVelocita") => moped && self.key_due(name),
+            _ => self.key_due(name),
+        }
+    }
+
+    /// 02, 2/14: what is filled in opacity, likewise; what is free is filled in the longest sets only.
+    fn opacity_filled(self, name: &str) -> bool {
+        if free_entries(OPACITY).contains(&name) && !is_free_text(name) {
+            self.size == Size::Longest
         } else {
+            self.key_due(name)
+        }
+    }
+
+    /// Of a key or checksum, whether its device's link and version ask for it; true for every other entry.
+    fn key_due(self, name: &str) -> bool {
+        let own = !name.contains("Contagiri") && !name.contains("ProvaVelocita");
+        if !name.ends_with("RS") {
             true
+        } else if self.size == Size::Shortest || name.starts_with("Checksum") {
+            false
+        } else {
+            !own || self.link == "RS SENZA ESITO"
         }
     }
 
@@ -294,15 +334,21 @@ impl Plan {
                 _ => "11".to_string(),
             },
             Kind::Number(_) => "00118".to_string(),
+            Kind::Decimal { decimals: 1, .. } => "2.5".to_string(),
             Kind::Decimal { decimals: 3, .. } => "0.215".to_string(),
             Kind::Decimal { .. } => "14.50".to_string(),
             Kind::Date => "28022025".to_string(),
             Kind::Time => "104512".to_string(),
             Kind::Word(_) if name == "TipoCollegamentoContagiri" => "ESTERNO".to_string(),
+            Kind::Word(_) if name == "Esito" => "R".to_string(),
             Kind::Word(words) if words.contains(&self.link) => self.link.to_string(),
             Kind::Word(_) => "RETE".to_string(),
             Kind::Drift => "-12.34".to_string(),
             Kind::Revs => "#00850".to_string(),
+            Kind::Plate => self.text_value(name, 10),
+            Kind::NumberByHand(_) => "#060".to_string(),
+            Kind::DecimalByHand { .. } => "#101.3".to_string(),
+            Kind::Temperature => "#-12".to_string(),
             Kind::FirstRegistration | Kind::Axles | Kind::Year => {
                 unreachable!("not in a result file")
             }
@@ -310,9 +356,9 @@ impl Plan {
     }
 
     fn text_value(self, name: &str, width: usize) -> String {
-        let free = name == "Note" || name == "CodErrore";
         match self.size {
-            Size::Shortest if free => String::new(),
+            Size::Shortest if is_free_text(name) => String::new(),
+            Size::Shortest if name == "Targa" => "AB12".to_string(),
             Size::Shortest => "A".to_string(),
             Size::Longest => "Officina 12-B ".chars().cycle().take(width).collect(),
             Size::Usual => usual(name).to_string(),
@@ -320,15 +366,9 @@ impl Plan {
     }
 }
 
-fn acc_value(name: &str) -> &'static str {
-    match name {
-        "TipoVeicolo" => "LEGGERO",
-        "DescrizioneVeicolo" => "AUTOVETTURA",
-        "AnnoPrimaImm" => "2004",
-        "Alimentazione_1" => "BENZINA CAT",
-        "FrenoStazionamento" => "MANO",
-        _ => "1",
-    }
+/// Whether an entry may be empty in every result file.
+fn is_free_text(name: &str) -> bool {
+    name == "Note" || name == "CodErrore"
 }
 
 fn usual(name: &str) -> &'static str {
@@ -338,6 +378,8 @@ fn usual(name: &str) -> &'static str {
         ("NumOmologa", "OM00289EST036C"),
         ("NumSerie", "0012345678"),
         ("NumVers", "3.14.2"),
+        ("Targa", "AB123CD"),
+        ("Direttiva", "98/69/CE B"),
         ("Circolare", "PROT. 9938/RU"),
         ("Operatore", "MARIO ROSSI"),
         ("Note", "Prova regolare, motore caldo"),

@@ -5,7 +5,7 @@
 //! has them as they stand there, for callers that lend their own arrays.
 //!
 //! Files: 1 new booking (AC2), 2 old booking (ACC), 3 drift, 4 suspension, 5 gas, 6 the analyser's identification
-//! answer.
+//! answer, 7 opacity.
 //!
 //! ```
 //! let ac2 = b"[DatiLibrettoVeicolo]\r\nTarga=FG482KL\r\n";
@@ -23,13 +23,13 @@ use std::fmt;
 use std::ops::Range;
 
 /// How many numbers places have at least.
-pub const PLACES: usize = 278;
+pub const PLACES: usize = 388;
 
 /// How many numbers an answer has at least.
 pub const ANSWER: usize = 16;
 
-/// The most entries of a file: gas has 53.
-const MOST_ENTRIES: usize = 53;
+/// The most entries of a file: opacity has 55.
+const MOST_ENTRIES: usize = 55;
 
 /// No name, no heading and no word is longer.
 const LONGEST_NAME: usize = 64;
@@ -37,7 +37,7 @@ const LONGEST_NAME: usize = 64;
 /// How many fields an identification answer has.
 const FIELDS: usize = 10;
 
-/// A set as handed in: the files' common name and six texts, each empty where it is not given.
+/// A set as handed in: the files' common name and seven texts, each empty where it is not given.
 #[derive(Clone, Copy, Debug, Default)]
 pub struct Set<'a> {
     pub stem: &'a [u8],
@@ -47,6 +47,7 @@ pub struct Set<'a> {
     pub suspension: &'a [u8],
     pub gas: &'a [u8],
     pub identification: &'a [u8],
+    pub opacity: &'a [u8],
 }
 
 /// Why a call was refused.
@@ -80,6 +81,7 @@ pub struct Acceptance {
     pub drift_mark: bool,
     pub suspension_mark: bool,
     pub gas_mark: bool,
+    pub opacity_mark: bool,
     /// Gas is given, and its idle speed NumGiriMotoreMin was entered by hand: `#` stands before the number. False where
     /// it was measured.
     pub idle_by_hand: bool,
@@ -88,7 +90,7 @@ pub struct Acceptance {
 /// What the acceptance of a file read alone carries.
 #[derive(Clone, Copy, Debug, Default, PartialEq, Eq)]
 pub struct FileAcceptance {
-    /// 0 for files 1, 2 and 5.
+    /// 0 for all files but 3 and 4.
     pub axles: u32,
     /// The file is gas, with an idle speed that was entered by hand. False where it was measured or is empty.
     pub idle_by_hand: bool,
@@ -105,7 +107,7 @@ impl Default for Places {
 }
 
 impl Places {
-    /// All 278 numbers.
+    /// All [`PLACES`] numbers.
     pub fn numbers(&self) -> &[u32; PLACES] {
         &self.0
     }
@@ -134,7 +136,8 @@ fn pairs_of(file: u32) -> Option<(usize, usize)> {
         2 => Some((12, 6)),
         3 => Some((18, 25)),
         4 => Some((43, 43)),
-        5 => Some((86, MOST_ENTRIES)),
+        5 => Some((86, 53)),
+        7 => Some((139, MOST_ENTRIES)),
         _ => None,
     }
 }
@@ -175,7 +178,7 @@ pub struct EntryName {
     pub section: u32,
 }
 
-/// The form of an entry's kind, whatever its width (document 01, Kinds of value).
+/// The form of an entry's kind, whatever its width (document 01, Kinds of value; document 02, 2/14).
 #[derive(Clone, Copy, Debug, PartialEq, Eq)]
 pub enum Form {
     /// S: 1 to `most` printable bytes.
@@ -192,8 +195,8 @@ pub enum Form {
     Time,
     /// Deriva: optional `-`, one or two digits, a point, two digits.
     Deriva,
-    /// revs: 1 to 5 digits, with `#` before them where entered by hand.
-    Revs,
+    /// N, with `#` before it where entered by hand: revs and others. `most` counts the `#`.
+    NumberByHand,
     /// D, with day 00 allowed, and month 00 only with day 00.
     DataPrimaImm,
     /// Four digits.
@@ -202,6 +205,12 @@ pub enum Form {
     PosAssiStaz,
     /// One of `words`.
     Word,
+    /// Opacity's plate: 4 to `most` printable bytes.
+    Targa,
+    /// N(d), with `#` before it where entered by hand. `most` counts the `#`.
+    FixedByHand,
+    /// 1 to 3 digits, or `-` and 1 or 2 digits; with `#` before them where entered by hand. `most` counts the `#`.
+    TempAmbiente,
     /// A form that this version of the binding does not know.
     Other(u32),
 }
@@ -216,11 +225,14 @@ impl Form {
             5 => Form::Day,
             6 => Form::Time,
             7 => Form::Deriva,
-            8 => Form::Revs,
+            8 => Form::NumberByHand,
             9 => Form::DataPrimaImm,
             10 => Form::AnnoPrimaImm,
             11 => Form::PosAssiStaz,
             12 => Form::Word,
+            13 => Form::Targa,
+            14 => Form::FixedByHand,
+            15 => Form::TempAmbiente,
             _ => Form::Other(number),
         }
     }
@@ -392,13 +404,14 @@ fn group_at(groups: &mut Vec<Vec<Reason>>, number: usize) -> &mut Vec<Reason> {
 /// Judges a whole set; the places have the pairs of all files that were read.
 pub fn judge(set: &Set, places: &mut Places) -> Result<Acceptance, Refusal> {
     answered(|answer| lent::judge(set, &mut places.0, answer)).map(|values| {
-        let [drift_axles, suspension_axles, drift, suspension, gas, ..] = values;
+        let [drift_axles, suspension_axles, drift, suspension, gas, opacity, ..] = values;
         Acceptance {
             drift_axles,
             suspension_axles,
             drift_mark: drift == 1,
             suspension_mark: suspension == 1,
             gas_mark: gas == 1,
+            opacity_mark: opacity == 1,
             idle_by_hand: idle_by_hand(&values),
         }
     })
@@ -492,7 +505,7 @@ pub fn condition(file: u32, entry: u32) -> Result<Condition, Refusal> {
         .map(|numbers| Condition::from_numbers(&numbers))
 }
 
-/// What is asked of a file, 1 to 6, and why. The identification answer is given exactly when gas is given, too.
+/// What is asked of a file, 1 to 7, and why. The identification answer is given only where gas is, too.
 pub fn file_condition(file: u32) -> Result<Condition, Refusal> {
     answered(|answer| lent::file_condition(file, answer))
         .map(|numbers| Condition::from_numbers(&numbers))

@@ -31,6 +31,7 @@ fn a_set_is_judged() {
         drift_mark: true,
         suspension_mark: false,
         gas_mark: false,
+        opacity_mark: false,
         idle_by_hand: false,
     };
     assert_eq!(mctc::judge(&set, &mut places), Ok(acceptance));
@@ -72,7 +73,81 @@ fn a_file_is_read_and_written() {
         Err(refusal(18, 4, 0))
     );
     assert_eq!(mctc::read(4, &[], &mut places), Err(refusal(11, 4, 0)));
-    assert_eq!(mctc::read(6, &text, &mut places), Err(refusal(16, 6, 0)));
+    for file in [0, 6, 8] {
+        assert_eq!(
+            mctc::read(file, &text, &mut places),
+            Err(refusal(16, file, 0))
+        );
+    }
+}
+
+/// The diesel's set, with this opacity file.
+fn diesel(opacity: &[u8], places: &mut Places) -> Result<Acceptance, Refusal> {
+    let ac2 = sample("accepted-diesel/AE305518.AC2");
+    let set = Set {
+        stem: b"AE305518",
+        ac2: &ac2,
+        opacity,
+        ..Set::default()
+    };
+    mctc::judge(&set, places)
+}
+
+#[test]
+fn a_diesel_is_judged_with_its_opacity() {
+    let opacity = sample("accepted-diesel/AE305518.OPA");
+    let mut places = Places::default();
+    let unmarked = Acceptance::default();
+    assert_eq!(diesel(&opacity, &mut places), Ok(unmarked));
+    let plate = places.value(7, 14).expect("Targa");
+    assert_eq!(&opacity[plate], b"EZ518RM");
+    let last = places.value(7, 54).expect("Operatore");
+    assert_eq!(&opacity[last], b"LUCIA FERRI");
+    assert_eq!(places.value(7, 55), None, "no entry has this number");
+    assert_eq!(places.value(6, 0), None, "the answer has no entries");
+    assert!(places.numbers()[..278].iter().skip(24).all(|at| *at == 0));
+
+    let text = String::from_utf8(opacity).expect("a text");
+    let code = text.replace("CodErrore=", "CodErrore=E21");
+    let marked = Acceptance {
+        opacity_mark: true,
+        ..unmarked
+    };
+    assert_eq!(diesel(code.as_bytes(), &mut places), Ok(marked));
+    assert_eq!(diesel(b"", &mut places), Err(refusal(11, 7, 0)));
+    assert_eq!(places, Places::default(), "a refusal leaves zeros");
+    let cold = text.replace("=-3\r", "=-100\r");
+    assert_eq!(diesel(cold.as_bytes(), &mut places), Err(refusal(9, 7, 45)));
+}
+
+#[test]
+fn opacity_is_read_and_written() {
+    let text = sample("accepted-diesel/AE305518.OPA");
+    let mut places = Places::default();
+    assert_eq!(
+        mctc::read(7, &text, &mut places),
+        Ok(FileAcceptance::default()),
+        "no speed of opacity is an idle speed"
+    );
+    let mut output = vec![0; text.len()];
+    assert_eq!(
+        mctc::write(&text, &places, 7, 0, &mut output),
+        Ok(text.len())
+    );
+    assert!(output.starts_with(b"[AnalisiOpacita]\r\nMarcaOpacimetro="));
+    assert_eq!(
+        mctc::write(&text, &places, 7, 1, &mut output),
+        Err(refusal(16, 7, 0))
+    );
+    let ac2 = sample("accepted-diesel/AE305518.AC2");
+    let column = mctc::due(7, &ac2, &text, &mut places).expect("a column");
+    assert_eq!((column.axles, column.entries.len()), (0, 55));
+    let free = column.entries.iter().filter(|due| **due == Due::Free);
+    assert_eq!(
+        free.count(),
+        9,
+        "six that hang on the test, TempMinOlioMotore, Note, CodErrore"
+    );
 }
 
 /// A gas file with another idle speed than `#850`.
@@ -97,6 +172,7 @@ fn a_set_says_whether_its_idle_speed_was_entered_by_hand() {
             suspension: &suspension,
             gas,
             identification: &identification,
+            ..Set::default()
         };
         mctc::judge(&set, &mut Places::default())
     };
@@ -163,11 +239,16 @@ fn entries_and_headings_have_names() {
     let last = mctc::entry_name(5, 52).expect("the last entry of gas");
     assert_eq!((last.name.as_str(), last.section), ("COMinAcc", 1));
     assert_eq!(mctc::entry_name(5, 53), Err(refusal(16, 5, 0)));
+    let last = mctc::entry_name(7, 54).expect("the last entry of opacity");
+    assert_eq!((last.name.as_str(), last.section), ("Operatore", 0));
+    assert_eq!(mctc::entry_name(7, 55), Err(refusal(16, 7, 0)));
     assert_eq!(
         mctc::heading_name(4, 9).as_deref(),
         Ok("[SospensioniAsse_9]")
     );
     assert_eq!(mctc::heading_name(4, 10), Err(refusal(16, 4, 0)));
+    assert_eq!(mctc::heading_name(7, 0).as_deref(), Ok("[AnalisiOpacita]"));
+    assert_eq!(mctc::heading_name(7, 1), Err(refusal(16, 7, 0)));
 }
 
 #[test]
@@ -185,6 +266,18 @@ fn entries_have_kinds() {
     };
     assert_eq!(mctc::kind(5, 46), Ok(carbon_monoxide));
     assert_eq!(mctc::kind(5, 53), Err(refusal(16, 5, 0)));
+    let shape = |entry| {
+        let kind = mctc::kind(7, entry).expect("an entry of opacity");
+        (kind.form, kind.most, kind.decimals)
+    };
+    assert_eq!(shape(14), (mctc::Form::Targa, 10, 0));
+    assert_eq!(shape(15), (mctc::Form::NumberByHand, 6, 0));
+    assert_eq!(shape(16), (mctc::Form::Fixed, 3, 1));
+    assert_eq!(shape(20), (mctc::Form::FixedByHand, 6, 1));
+    assert_eq!(shape(32), (mctc::Form::TempAmbiente, 4, 0));
+    assert_eq!(shape(33), (mctc::Form::NumberByHand, 4, 0));
+    let outcome = mctc::kind(7, 34).expect("Esito");
+    assert_eq!(outcome.words, ["R", "I", "N"]);
 }
 
 #[test]
@@ -209,8 +302,24 @@ fn entries_and_files_have_reasons() {
         ]],
     };
     assert_eq!(mctc::file_condition(2), Ok(old_booking));
+    let opacity = mctc::Condition {
+        asked: mctc::Asked::When,
+        groups: vec![
+            vec![reason(mctc::Test::Diesel, 1, 5)],
+            vec![reason(mctc::Test::MOrN, 1, 2)],
+        ],
+    };
+    assert_eq!(mctc::file_condition(7), Ok(opacity));
+    let checksum = mctc::Condition {
+        asked: mctc::Asked::When,
+        groups: vec![
+            vec![reason(mctc::Test::Version200, 7, 36)],
+            vec![reason(mctc::Test::SerialLink, 7, 38)],
+        ],
+    };
+    assert_eq!(mctc::condition(7, 44), Ok(checksum), "its own links decide");
     assert_eq!(mctc::condition(1, 12), Err(refusal(16, 1, 0)));
-    assert_eq!(mctc::file_condition(7), Err(refusal(16, 7, 0)));
+    assert_eq!(mctc::file_condition(8), Err(refusal(16, 8, 0)));
     assert!(mctc::Test::Petrol.passes(b"BENZINA"));
     assert!(!mctc::Test::Petrol.passes(b"benzina"));
 }

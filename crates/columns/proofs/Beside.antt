@@ -67,7 +67,8 @@ module _ (file : ℕ) (t p q : List ℕ) (n : ℕ) (x : AloneRead file t p q n) 
           ∙ ap (λ (y : List Section). length (entriesOf y)) (x .is .counted .sections-are)
           ∙ ap (λ (m : ℕ). length (entries f m)) (sym (x .axles-are))
 
-      pub count-few : r ≤ 139
+      -- so it is a number of 32 bits
+      pub count-few : r < 4294967296
       count-few = omega (arith, count-is, entries-most f n (alone-few x), rooms-fit f, first-pairs .5)
 
   pub conditions-ready : NumberHeld file 0 t q

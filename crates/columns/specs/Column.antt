@@ -73,7 +73,7 @@ abbrev pub readAs : ℕ → Reading → Answer (ℕ × List Pair)
 readAs file (refused k l) = refusal k file l
 readAs file (read c ps ls) = acceptance (c, ps)
 
--- 16, 11, 3 to 9, then the column; what is read is a file's, 1 to 5
+-- 16, 11, 3 to 9, then the column; what is read has the number of a file
 abbrev pub columnOfText : ℕ → List (List ℕ) → List ℕ → Answer FileColumn
 columnOfText file a t =
     followed (readAs file (readAlone file t))

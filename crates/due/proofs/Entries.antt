@@ -23,8 +23,12 @@ use Rattle.tables.specs.Entries.{
   allKeyDates,
   allKeyBodies,
   fuelAnalysis,
+  opacimeter,
+  opacityTest,
+  opacityKeys,
+  opacityAnalysis,
 }
-use Rattle.tables.specs.File.{File, ac2, acc, drift, suspension, gas, fileNumber, ofNumber, entries, sections, fixedSections, axleSections, axlesFrom}
+use Rattle.tables.specs.File.{File, ac2, acc, drift, suspension, gas, opacity, fileNumber, ofNumber, entries, sections, fixedSections, axleSections, axlesFrom}
 use Rattle.kinds.specs.Value.{wordIndex}
 use Rattle.tables.specs.Row.{names, indexOf}
 use Rattle.tables.proofs.Files.{of-file}
@@ -45,12 +49,13 @@ allAmong ns (x ∷ xs) = ltb (indexOf (x .0) ns) (length ns) && allAmong ns xs
 
 -- each name that is not simply due stands in its file's table
 pub exceptions-stand : (f : File) → allAmong (names (entries f 0)) (exceptions f) ≡ true
-unfolding exceptions wordIndex sameBytes entries entriesOf sections fixedSections axleSections axlesFrom newBooking oldBooking sixteen tester protocol measurement analysis analyser counter speedTest allKeyDates allKeyBodies fuelAnalysis
+unfolding exceptions wordIndex sameBytes entries entriesOf sections fixedSections axleSections axlesFrom newBooking oldBooking sixteen tester protocol measurement analysis analyser counter speedTest allKeyDates allKeyBodies fuelAnalysis opacimeter opacityTest opacityKeys opacityAnalysis
 exceptions-stand ac2 = refl
 exceptions-stand acc = refl
 exceptions-stand drift = refl
 exceptions-stand suspension = refl
 exceptions-stand gas = refl
+exceptions-stand opacity = refl
 
 -- ---- places
 
@@ -64,12 +69,13 @@ past-fixed f i h =
 
 -- the test: a file's part of the table has what its fixed sections' entries hang on, computed from their names
 part-is : (f : File) → take (length (entries f 0)) (drop (firstCondition f) conditionTable) ≡ fixedConditions f
-unfolding conditionTable firstCondition exceptions conditionOf sameBytes entries entriesOf sections fixedSections axleSections axlesFrom newBooking oldBooking sixteen tester protocol measurement analysis analyser counter speedTest allKeyDates allKeyBodies fuelAnalysis
+unfolding conditionTable firstCondition exceptions conditionOf sameBytes entries entriesOf sections fixedSections axleSections axlesFrom newBooking oldBooking sixteen tester protocol measurement analysis analyser counter speedTest allKeyDates allKeyBodies fuelAnalysis opacimeter opacityTest opacityKeys opacityAnalysis
 part-is ac2 = refl
 part-is acc = refl
 part-is drift = refl
 part-is suspension = refl
 part-is gas = refl
+part-is opacity = refl
 
 condition-is : (f : File) (i : ℕ) → i < length (entries f 0) → getD conditionTable (firstCondition f + i) Always ≡ conditionAt f i
 unfolding conditionAt
@@ -89,7 +95,9 @@ condition-in (suc (suc zero)) i h = condition-is acc i h
 condition-in (suc (suc (suc zero))) i h = condition-is drift i h
 condition-in (suc (suc (suc (suc zero)))) i h = condition-is suspension i h
 condition-in (suc (suc (suc (suc (suc zero))))) i h = condition-is gas i h
-condition-in (suc (suc (suc (suc (suc (suc n)))))) i h = absurd (omega arith)
+condition-in (suc (suc (suc (suc (suc (suc zero)))))) i h = absurd (omega arith)
+condition-in (suc (suc (suc (suc (suc (suc (suc zero))))))) i h = condition-is opacity i h
+condition-in (suc (suc (suc (suc (suc (suc (suc (suc n)))))))) i h = absurd (omega arith)
 
 pub in-table : (n i start size : ℕ) → start ≡ ofNumber 0 firstCondition n → size ≡ fixedCount n → i < size → getD conditionTable (start + i) Always ≡ conditionIn n i
 in-table n i start size s z h = rw s (condition-in n i (rw z at h))
@@ -103,18 +111,22 @@ condition-past (suc (suc zero)) i h = past-fixed acc i h
 condition-past (suc (suc (suc zero))) i h = past-fixed drift i h
 condition-past (suc (suc (suc (suc zero)))) i h = past-fixed suspension i h
 condition-past (suc (suc (suc (suc (suc zero))))) i h = past-fixed gas i h
-condition-past (suc (suc (suc (suc (suc (suc n)))))) i h = refl
+condition-past (suc (suc (suc (suc (suc (suc zero)))))) i h = refl
+condition-past (suc (suc (suc (suc (suc (suc (suc zero))))))) i h = past-fixed opacity i h
+condition-past (suc (suc (suc (suc (suc (suc (suc (suc n)))))))) i h = refl
 
 -- and the table is long enough
-pub table-in : (n : ℕ) → ofNumber 0 firstCondition n + fixedCount n ≤ 87
-unfolding ofNumber firstCondition entries entriesOf sections fixedSections axleSections axlesFrom newBooking oldBooking sixteen tester protocol measurement analysis analyser counter speedTest allKeyDates allKeyBodies fuelAnalysis
+pub table-in : (n : ℕ) → ofNumber 0 firstCondition n + fixedCount n ≤ 142
+unfolding ofNumber firstCondition entries entriesOf sections fixedSections axleSections axlesFrom newBooking oldBooking sixteen tester protocol measurement analysis analyser counter speedTest allKeyDates allKeyBodies fuelAnalysis opacimeter opacityTest opacityKeys opacityAnalysis
 table-in zero = omega arith
 table-in (suc zero) = omega arith
 table-in (suc (suc zero)) = omega arith
 table-in (suc (suc (suc zero))) = omega arith
 table-in (suc (suc (suc (suc zero)))) = omega arith
 table-in (suc (suc (suc (suc (suc zero))))) = omega arith
-table-in (suc (suc (suc (suc (suc (suc n)))))) = omega arith
+table-in (suc (suc (suc (suc (suc (suc zero)))))) = omega arith
+table-in (suc (suc (suc (suc (suc (suc (suc zero))))))) = omega arith
+table-in (suc (suc (suc (suc (suc (suc (suc (suc n)))))))) = omega arith
 
 -- by a file's number is by the file
 pub condition-file : (f : File) (i : ℕ) → conditionIn (fileNumber f) i ≡ conditionAt f i
@@ -124,12 +136,13 @@ condition-file acc i = refl
 condition-file drift i = refl
 condition-file suspension i = refl
 condition-file gas i = refl
+condition-file opacity i = refl
 
 pub due-file : (f : File) (i : ℕ) (c : Conditions) → dueIn (fileNumber f) i c ≡ dueOf f i c
 unfolding dueIn dueOf
 due-file f i c = rw (condition-file f i)
 
--- gas, the file with links, has no axles
+-- the files with links have no axles
 links-any : (f : File) (n : ℕ) (t p : List ℕ) → linksOf f (valuesOf f 0 t p) ≡ linksOf f (valuesOf f n t p)
 unfolding entries sections axleSections
 links-any ac2 n t p = refl
@@ -137,6 +150,7 @@ links-any acc n t p = refl
 links-any drift n t p = refl
 links-any suspension n t p = refl
 links-any gas n t p = refl
+links-any opacity n t p = refl
 
 -- what `conditions_of` answers for a file, over its values
 pub conditions-file : (f : File) (n : ℕ) (a : List (List ℕ)) (t p : List ℕ) → withLinks (bookingIn a) (linksNumbered (fileNumber f) t p) ≡ conditionsOf f a (valuesOf f n t p)

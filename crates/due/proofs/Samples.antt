@@ -22,8 +22,12 @@ use Rattle.tables.specs.Entries.{
   allKeyDates,
   allKeyBodies,
   fuelAnalysis,
+  opacimeter,
+  opacityTest,
+  opacityKeys,
+  opacityAnalysis,
 }
-use Rattle.tables.specs.File.{File, ac2, acc, drift, gas, entries, sections, fixedSections, axleSections, axlesFrom}
+use Rattle.tables.specs.File.{File, ac2, acc, drift, gas, opacity, entries, sections, fixedSections, axleSections, axlesFrom}
 use Rattle.tables.specs.Value.{placeOf}
 use Rattle.due.specs.Booking.{isM, isN, isO, fuelIn, isLate, bookingIn}
 use Rattle.due.specs.Conditions.{withLinks}
@@ -58,6 +62,20 @@ pub version-binds-all :
     × (dueNamed gas "IDChiaveRS" (judged V210 (booked "L6e" "AB1234" "BENZINA" "" "")) ≡ IsDue)
 unfolding dueOf holdsIn conditionAt conditionOf exceptions conditionP isMoped isWord wordIndex words sameBytes bookingIn placeOf entries entriesOf sections fixedSections axleSections newBooking protocol measurement analysis analyser counter speedTest allKeyDates allKeyBodies fuelAnalysis
 version-binds-all = (refl, refl, refl, refl, refl, refl, refl)
+
+-- 001, 3.3.3.7: in opacity the device's own link is RS SENZA ESITO, the rev counter is INTEGRATO
+pub opacity-samples :
+    (dueNamed opacity "IDChiaveRS" (judged V210 (booked "N1" "AB123CD" "DIESEL" "" "")) ≡ IsDue)
+    × (dueNamed opacity "ChecksumRS" (judged V210 (booked "N1" "AB123CD" "DIESEL" "" "")) ≡ NotDue)
+    × (dueNamed opacity "ChecksumRS" (judged V200 (booked "N1" "AB123CD" "DIESEL" "" "")) ≡ IsDue)
+    × (dueNamed opacity "ModuloChiaveRS" (judged OtherVersion (booked "N1" "AB123CD" "DIESEL" "" "")) ≡ NotDue)
+    × (dueNamed opacity "NumVersioneProtocolloContagiri" (judged V210 (booked "N1" "AB123CD" "DIESEL" "" "")) ≡ NotDue)
+    × (dueNamed opacity "IDChiaveContagiriRS" (judged V210 (booked "N1" "AB123CD" "DIESEL" "" "")) ≡ NotDue)
+    × (dueNamed opacity "ValoreK3" (judged V210 (booked "N1" "AB123CD" "DIESEL" "" "")) ≡ IsDue)
+    × (dueNamed opacity "ValoreK4" (judged V210 (booked "N1" "AB123CD" "DIESEL" "" "")) ≡ IsFree)
+    × (dueNamed opacity "TempMinOlioMotore" (judged V210 (booked "N1" "AB123CD" "DIESEL" "" "")) ≡ IsFree)
+unfolding dueOf holdsIn conditionAt conditionOf exceptions wordIndex sameBytes bookingIn placeOf entries entriesOf sections fixedSections axleSections newBooking protocol measurement counter opacimeter opacityTest opacityKeys opacityAnalysis
+opacity-samples = (refl, refl, refl, refl, refl, refl, refl, refl, refl)
 
 -- CodiceCIC, fuels and directives in the bookings
 pub booking-samples :

@@ -1,4 +1,4 @@
--- Values at pairs that lie within their text, and what AC2's and gas's say. Assumes nothing.
+-- Values at pairs that lie within their text, and what AC2's, gas's and opacity's say. Assumes nothing.
 use Prim.Native.Nat.{ℕ}
 use mathlib.Core.Path.{_≡_, refl, ap, ap₂, sym}
 use mathlib.Core.Bool.{Bool, _&&_}
@@ -28,12 +28,17 @@ use Rattle.tables.specs.Entries.{
   allKeyDates,
   allKeyBodies,
   fuelAnalysis,
+  opacimeter,
+  opacityTest,
+  opacityKeys,
+  opacityAnalysis,
 }
-use Rattle.tables.specs.File.{gas, entries, sections, fixedSections, axleSections, axleEntries, axlesFrom, room, rooms, firstPair}
+use Rattle.tables.specs.File.{gas, opacity, entries, sections, fixedSections, axleSections, axleEntries, axlesFrom, room, rooms, firstPair}
 use Rattle.tables.specs.Value.{placeOf, valuesOf}
 use Rattle.due.specs.Booking.{fuelIn, isLate, bookingIn}
 use Rattle.due.specs.Values.{newValues}
 use Rattle.due.specs.Conditions.{versionIn, linksIn, linksAt}
+use Rattle.due.specs.declared.Version.the-variants.{OtherVersion}
 use Rattle.due.specs.Due.{filled, filledPairs}
 
 -- within the text, lengths tell which values are filled
@@ -64,3 +69,9 @@ pub gas-links : (t p : List ℕ)
     → linksIn gas (valuesOf gas 0 t p) ≡ linksAt (record { link = 110; version = 108; counterlink = 98; counterversion = 99 }) (versionIn (valueOf t p 105)) t p
 unfolding linksIn pairsAt placeOf wordIndex sameBytes firstPair rooms room entries entriesOf sections fixedSections axleSections axleEntries axlesFrom newBooking oldBooking sixteen tester driftAxle suspensionAxle protocol measurement analysis analyser counter speedTest allKeyDates allKeyBodies fuelAnalysis
 gas-links t p = refl
+
+-- opacity's links: it has no bench
+pub opacity-links : (t p : List ℕ)
+    → linksIn opacity (valuesOf opacity 0 t p) ≡ linksAt (record { link = 177; version = 175; counterlink = 151; counterversion = 152 }) OtherVersion t p
+unfolding linksIn versionIn pairsAt placeOf wordIndex sameBytes firstPair rooms room entries entriesOf sections fixedSections axleSections axleEntries axlesFrom newBooking oldBooking sixteen tester driftAxle suspensionAxle protocol measurement analysis analyser counter speedTest allKeyDates allKeyBodies fuelAnalysis opacimeter opacityTest opacityKeys opacityAnalysis
+opacity-links t p = refl

@@ -1,10 +1,10 @@
--- What due entries hang on, made from values (01, Due entries).
+-- What due entries hang on, made from values (01, Due entries; 02, 2/14).
 use Prim.Native.Nat.{ℕ}
 use mathlib.Core.Bool.{Bool, true, false, cond}
 use mathlib.Core.List.{List}
 use Rattle.lines.specs.Bytes.{sameBytes}
 use Rattle.lines.specs.Text.{bytes}
-use Rattle.tables.specs.File.{File, ac2, acc, drift, suspension, gas, ofNumber}
+use Rattle.tables.specs.File.{File, ac2, acc, drift, suspension, gas, opacity, ofNumber}
 use Rattle.places.specs.Places.{valueOf}
 use Rattle.tables.specs.Value.{of, valuesOf}
 use Rattle.due.specs.Booking.{bookingIn}
@@ -52,13 +52,14 @@ linksIn f own = record {
   speedtest = versionIn (of f own "NumVersioneProtocolloProvaVelocita");
 }
 
--- the files with entries that hang on links
+-- the files with entries that hang on links: 01, Due entries, gas; 001, 3.3.3.7, opacity
 abbrev pub hasLinks : File → Bool
 hasLinks ac2 = false
 hasLinks acc = false
 hasLinks drift = false
 hasLinks suspension = false
 hasLinks gas = true
+hasLinks opacity = true
 
 abbrev pub noLinks : Links
 noLinks = record { serial = false; external = false; device = OtherVersion; counter = OtherVersion; speedtest = OtherVersion }

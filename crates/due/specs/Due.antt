@@ -1,4 +1,4 @@
--- Which entries are due (01, Due entries), and number 10 (01, Judging).
+-- Which entries are due (01, Due entries; 02, 2/14), and number 10 (01, Judging).
 use Prim.Native.Nat.{ℕ, _+_}
 use Prim.Native.String.{String}
 use mathlib.Core.Bool.{Bool, true, false, cond, not, _&&_, _||_}
@@ -8,7 +8,7 @@ use lib.ListN.{length, getD}
 use Rattle.lines.specs.Bytes.{sameBytes}
 use Rattle.lines.specs.Text.{bytes}
 use Rattle.places.specs.Places.{Pair}
-use Rattle.tables.specs.File.{File, ac2, acc, drift, suspension, gas, ofNumber, entries}
+use Rattle.tables.specs.File.{File, ac2, acc, drift, suspension, gas, opacity, ofNumber, entries}
 use Rattle.tables.specs.Entries.{speedTest, around}
 use Rattle.tables.specs.Row.{names}
 use Rattle.due.specs.Booking.{isOneOf, isM, isN, isO, isPetrol, isDiesel}
@@ -77,6 +77,19 @@ exceptions gas =
     ++ (keyEntries "" DeviceKey DeviceChecksum
     ++ (keyEntries "Contagiri" CounterKey CounterChecksum
     ++ keyEntries "ProvaVelocita" SpeedTestKey SpeedTestChecksum))))
+-- 001, 3.3.3.7: TempMinOlioMotore is `(*)`; K4 to K8 and the mean hang on the course of the test, which no file tells (02, 2/14)
+exceptions opacity =
+    freeEntries
+    ++ (named "TempMinOlioMotore" Free ∷
+    named "ValoreK4" Free ∷
+    named "ValoreK5" Free ∷
+    named "ValoreK6" Free ∷
+    named "ValoreK7" Free ∷
+    named "ValoreK8" Free ∷
+    named "OpacitaMedia" Free ∷
+    named "NumVersioneProtocolloContagiri" ExternalCounter ∷
+    (keyEntries "" DeviceKey DeviceChecksum
+    ++ keyEntries "Contagiri" CounterKey CounterChecksum))
 
 -- what a name hangs on: always due where no exception has it
 unfoldable pub conditionOf : List NamedCondition → List ℕ → Condition

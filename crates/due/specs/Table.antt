@@ -2,13 +2,13 @@
 use Prim.Native.Nat.{ℕ}
 use mathlib.Core.List.{List, [], _∷_, _++_}
 use lib.ListN.{length}
-use Rattle.tables.specs.File.{File, ac2, acc, drift, suspension, gas, filesBefore, ofNumber, entries}
+use Rattle.tables.specs.File.{File, ac2, acc, drift, suspension, gas, opacity, filesBefore, ofNumber, entries}
 use Rattle.due.specs.Due.{fixedConditions}
 use Rattle.due.specs.declared.Condition.{Condition}
 
 -- the files whose conditions it has, one after another
 abbrev pub tabled : List File
-tabled = ac2 ∷ acc ∷ drift ∷ gas ∷ []
+tabled = ac2 ∷ acc ∷ drift ∷ gas ∷ opacity ∷ []
 
 -- suspension has drift's
 abbrev pub tabledAs : File → File
@@ -17,6 +17,7 @@ tabledAs acc = acc
 tabledAs drift = drift
 tabledAs suspension = drift
 tabledAs gas = gas
+tabledAs opacity = opacity
 
 -- those of several files' fixed sections
 abbrev pub joinedConditions : List File → List Condition

@@ -18,6 +18,7 @@ use tables::AC2;
 use tables::ACC;
 use tables::DRIFT;
 use tables::GAS;
+use tables::OPACITY;
 use tables::SUSPENSION;
 use tables::pairs;
 
@@ -67,6 +68,13 @@ const GAS_LINKS: LinkPairs = LinkPairs {
     version: pairs::GAS_NUM_VERSIONE_PROTOCOLLO,
     counterlink: pairs::GAS_TIPO_COLLEGAMENTO_CONTAGIRI,
     counterversion: pairs::GAS_NUM_VERSIONE_PROTOCOLLO_CONTAGIRI,
+};
+
+const OPACITY_LINKS: LinkPairs = LinkPairs {
+    link: pairs::OPACITY_TIPO_COLLEGAMENTO,
+    version: pairs::OPACITY_NUM_VERSIONE_PROTOCOLLO,
+    counterlink: pairs::OPACITY_TIPO_COLLEGAMENTO_CONTAGIRI,
+    counterversion: pairs::OPACITY_NUM_VERSIONE_PROTOCOLLO_CONTAGIRI,
 };
 
 // Of a file without links.
@@ -122,7 +130,7 @@ pub enum Condition {
 
 // What the entries of the fixed sections hang on, in entry order; suspension has drift's. One array, so that a loop over
 // the entries of any file lays it out once, before it begins.
-const CONDITIONS: [Condition; 87] = [
+const CONDITIONS: [Condition; 142] = [
     Condition::Always, // AC2: TargaNominale
     Condition::Always, // AC2: TipoVeicolo
     Condition::Always, // AC2: CategoriaInternazionale
@@ -210,6 +218,61 @@ const CONDITIONS: [Condition; 87] = [
     Condition::Always, // gas: O2Min
     Condition::Always, // gas: NumGiriMotoreMin
     Condition::COMinAcc, // gas: COMinAcc
+    Condition::Always, // opacity: MarcaOpacimetro
+    Condition::Always, // opacity: TipoOpacimetro
+    Condition::Always, // opacity: NumOmologaOpacimetro
+    Condition::Always, // opacity: NumSerieOpacimetro
+    Condition::Always, // opacity: NumVersSoftwareOpacimetro
+    Condition::Always, // opacity: DataScadenzaOpacimetro
+    Condition::Always, // opacity: MarcaContagiri
+    Condition::Always, // opacity: TipoContagiri
+    Condition::Always, // opacity: NumOmologaContagiri
+    Condition::Always, // opacity: NumSerieContagiri
+    Condition::Always, // opacity: NumVersSoftwareContagiri
+    Condition::Always, // opacity: DataScadenzaContagiri
+    Condition::Always, // opacity: TipoCollegamentoContagiri
+    Condition::ExternalCounter, // opacity: NumVersioneProtocolloContagiri
+    Condition::Always, // opacity: Targa
+    Condition::Always, // opacity: NumGiriMotoreMax
+    Condition::Always, // opacity: LimiteK
+    Condition::Always, // opacity: DirettivaEmissioni
+    Condition::Always, // opacity: NumGiriMotoreMinMis
+    Condition::Always, // opacity: NumGiriMotoreMaxMis
+    Condition::Always, // opacity: TempOlioMotore
+    Condition::Free, // opacity: TempMinOlioMotore
+    Condition::Always, // opacity: ValoreK1
+    Condition::Always, // opacity: ValoreK2
+    Condition::Always, // opacity: ValoreK3
+    Condition::Free, // opacity: ValoreK4
+    Condition::Free, // opacity: ValoreK5
+    Condition::Free, // opacity: ValoreK6
+    Condition::Free, // opacity: ValoreK7
+    Condition::Free, // opacity: ValoreK8
+    Condition::Free, // opacity: OpacitaMedia
+    Condition::Always, // opacity: PressAtmosferica
+    Condition::Always, // opacity: TempAmbiente
+    Condition::Always, // opacity: UmiditaRelativa
+    Condition::Always, // opacity: Esito
+    Condition::Free, // opacity: Note
+    Condition::Always, // opacity: NumVersioneProtocollo
+    Condition::Always, // opacity: DataVersioneProtocollo
+    Condition::Always, // opacity: TipoCollegamento
+    Condition::Always, // opacity: CircolareApplicata
+    Condition::DeviceKey, // opacity: IDChiaveRS
+    Condition::DeviceKey, // opacity: DataRegChiaveRS
+    Condition::CounterKey, // opacity: IDChiaveContagiriRS
+    Condition::CounterKey, // opacity: DataRegChiaveContagiriRS
+    Condition::DeviceChecksum, // opacity: ChecksumRS
+    Condition::DeviceKey, // opacity: ModuloChiaveRS
+    Condition::DeviceKey, // opacity: EsponenteChiaveRS
+    Condition::CounterChecksum, // opacity: ChecksumContagiriRS
+    Condition::CounterKey, // opacity: ModuloChiaveContagiriRS
+    Condition::CounterKey, // opacity: EsponenteChiaveContagiriRS
+    Condition::Free, // opacity: CodErrore
+    Condition::Always, // opacity: DataMisura
+    Condition::Always, // opacity: InizioMisura
+    Condition::Always, // opacity: FineMisura
+    Condition::Always, // opacity: Operatore
 ];
 
 // Where a file's conditions begin among these.
@@ -221,6 +284,7 @@ fn first_condition(file: u32) -> usize
         DRIFT => 18,
         SUSPENSION => 18,
         GAS => 34,
+        OPACITY => 87,
         _ => 0,
     }
 }
@@ -235,6 +299,7 @@ fn condition_count(file: u32) -> usize
         DRIFT => 16,
         SUSPENSION => 16,
         GAS => 53,
+        OPACITY => 55,
         _ => 0,
     }
 }
@@ -568,6 +633,7 @@ fn links_of(file: u32, text: &[u8], places: &[u32]) -> Links
             ));
             links_at(GAS_LINKS, speedtest, text, places)
         }
+        OPACITY => links_at(OPACITY_LINKS, Version::OtherVersion, text, places),
         _ => NO_LINKS,
     }
 }

@@ -81,7 +81,9 @@ fixed-least (suc (suc zero)) = omega arith
 fixed-least (suc (suc (suc zero))) = omega arith
 fixed-least (suc (suc (suc (suc zero)))) = omega arith
 fixed-least (suc (suc (suc (suc (suc zero))))) = omega arith
-fixed-least (suc (suc (suc (suc (suc (suc n)))))) = omega arith
+fixed-least (suc (suc (suc (suc (suc (suc zero)))))) = omega arith
+fixed-least (suc (suc (suc (suc (suc (suc (suc zero))))))) = omega arith
+fixed-least (suc (suc (suc (suc (suc (suc (suc (suc n)))))))) = omega arith
 
 pub few-sections : (n : ℕ) → length (tableOf n) ≤ 10
 unfolding ofNumber tableOf sections fixedSections axleSections axlesFrom
@@ -91,7 +93,9 @@ few-sections (suc (suc zero)) = omega arith
 few-sections (suc (suc (suc zero))) = omega arith
 few-sections (suc (suc (suc (suc zero)))) = omega arith
 few-sections (suc (suc (suc (suc (suc zero))))) = omega arith
-few-sections (suc (suc (suc (suc (suc (suc n)))))) = omega arith
+few-sections (suc (suc (suc (suc (suc (suc zero)))))) = omega arith
+few-sections (suc (suc (suc (suc (suc (suc (suc zero))))))) = omega arith
+few-sections (suc (suc (suc (suc (suc (suc (suc (suc n)))))))) = omega arith
 
 -- the count of a text that was read
 pub count-in : (n : ℕ) (s p q ls : List ℕ) (r : TextAnswer) (c : ℕ) → ReadsText n s r p q ls → r ≡ Sections c → (ofNumber 0 (λ f. length (fixedSections f)) n ≤ c) × (c ≤ 10)

@@ -12,8 +12,8 @@ use Rattle.kinds.specs.Value.{wordIndex, startsWith}
 use Rattle.kinds.specs.Meaning.{revs}
 use Rattle.places.specs.Places.{valueOf}
 use Rattle.tables.specs.Section.{entriesOf}
-use Rattle.tables.specs.Entries.{newBooking, oldBooking, tester, protocol, measurement, sixteen, analyser, counter, speedTest, allKeyDates, allKeyBodies, analysis, fuelAnalysis}
-use Rattle.tables.specs.File.{File, ac2, acc, drift, suspension, gas, fileNumber, fixedSections, axlesFrom, axleSections, sections, entries}
+use Rattle.tables.specs.Entries.{newBooking, oldBooking, tester, protocol, measurement, sixteen, analyser, counter, speedTest, allKeyDates, allKeyBodies, analysis, fuelAnalysis, opacimeter, opacityTest, opacityKeys, opacityAnalysis}
+use Rattle.tables.specs.File.{File, ac2, acc, drift, suspension, gas, opacity, fileNumber, fixedSections, axlesFrom, axleSections, sections, entries}
 use Rattle.tables.specs.Value.{placeOf, of, valuesOf, isEntry}
 use Rattle.tables.proofs.Numbers.{first-pairs}
 use Rattle.tables.proofs.Values.{gas-speed, gas-count, value-held}
@@ -21,8 +21,9 @@ use Rattle.files.specs.Files.{idleSpeed, isByHand}
 
 -- the computed test: which files have an idle speed
 pub speeds : (isEntry ac2 idleSpeed ≡ false) × (isEntry acc idleSpeed ≡ false) × (isEntry drift idleSpeed ≡ false) × (isEntry suspension idleSpeed ≡ false) × (isEntry gas idleSpeed ≡ true)
-unfolding placeOf wordIndex sameBytes entries sections fixedSections axleSections axlesFrom entriesOf newBooking oldBooking sixteen tester protocol measurement analysis analyser counter speedTest allKeyDates allKeyBodies fuelAnalysis
-speeds = (refl, refl, refl, refl, refl)
+    × (isEntry opacity idleSpeed ≡ false)
+unfolding placeOf wordIndex sameBytes entries sections fixedSections axleSections axlesFrom entriesOf newBooking oldBooking sixteen tester protocol measurement analysis analyser counter speedTest allKeyDates allKeyBodies fuelAnalysis opacimeter opacityTest opacityKeys opacityAnalysis
+speeds = (refl, refl, refl, refl, refl, refl)
 
 -- "unset where no revs value stands in it": no entry of that name
 pub without-speed : (f : File) (vs : List (List ℕ)) → isEntry f idleSpeed ≡ false → isByHand f vs ≡ false
@@ -40,6 +41,7 @@ by-hand-exactly acc vs = none acc vs (speeds .1) (λ e. omega (arith, ap fileNum
 by-hand-exactly drift vs = none drift vs (speeds .2) (λ e. omega (arith, ap fileNumber e))
 by-hand-exactly suspension vs = none suspension vs (speeds .3) (λ e. omega (arith, ap fileNumber e))
 by-hand-exactly gas vs = (λ e. (refl, rw (speeds .4) at e), λ h. rw (speeds .4) (h .1))
+by-hand-exactly opacity vs = none opacity vs (speeds .5) (λ e. omega (arith, ap fileNumber e))
 
 -- an empty value has none
 pub empty-by-hand : (f : File) (vs : List (List ℕ)) → of f vs idleSpeed ≡ [] → isByHand f vs ≡ false

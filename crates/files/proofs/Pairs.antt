@@ -14,7 +14,7 @@ use Rattle.refusals.specs.Answer.{Answer, refusal, acceptance, refusalOf}
 use Rattle.refusals.specs.declared.Refusal.{Refusal}
 use Rattle.places.specs.Places.{Pair, setPairs, pairsAt, valueAt, valuesAt, cleared, Within}
 use Rattle.places.proofs.Laws.{set-length, drop-pairs, cleared-length, cleared-drop}
-use Rattle.tables.specs.File.{File, ac2, acc, drift, suspension, gas, fileNumber, fileOf, isFile, ofNumber, hasAxles, fixedSections, sections, allSections, leastSections, entries, firstPair, leastPlaces, tableOf, mostAxles}
+use Rattle.tables.specs.File.{File, ac2, acc, drift, suspension, gas, opacity, fileNumber, fileOf, isFile, ofNumber, hasAxles, fixedSections, sections, allSections, leastSections, entries, firstPair, leastPlaces, tableOf, mostAxles}
 use Rattle.tables.proofs.Files.{of-file, of-number, table-of, file-of, is-file}
 use Rattle.reading.specs.Reading.{Reading, refused, read}
 use Rattle.reading.specs.Tables.{tableLength}
@@ -169,6 +169,7 @@ some-bytes acc n = omega arith
 some-bytes drift n = omega arith
 some-bytes suspension n = omega arith
 some-bytes gas n = omega arith
+some-bytes opacity n = omega arith
 
 -- it is accepted with its axle count and its mark, and at its pairs stand its values
 pub alone-complete : (f : File) (n : ℕ) (vs : List (List ℕ)) (s : List ℕ) → IsFile f n vs s → (p : List ℕ) → leastPlaces ≤ length p

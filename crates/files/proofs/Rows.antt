@@ -14,7 +14,8 @@ use Rattle.places.specs.Places.{valueAt}
 use Rattle.reading.specs.Reading.{Slots, ownerRow, keptRow, isWrong}
 use Rattle.tables.specs.Section.{Section}
 use Rattle.tables.specs.Row.{rowCount, rowsBefore, rowKind}
-use Rattle.tables.proofs.Rows.{rows-le, kindCount, heading-row, entry-row, number-at}
+use Rattle.kinds.proofs.Laws.{kindCount}
+use Rattle.tables.proofs.Rows.{rows-le, heading-row, entry-row, number-at}
 use Rattle.reading.proofs.Lookup.{rows-next}
 
 -- the kind of row r, by the numbers of the rows

@@ -11,7 +11,7 @@ use Rattle.refusals.specs.Refusals.{numberOf}
 use Rattle.kinds.specs.Kind.{Kind}
 use Rattle.places.specs.Places.{placeSize}
 use Rattle.tables.specs.Section.{Entry, Section, entriesOf}
-use Rattle.tables.specs.File.{File, ac2, acc, drift, suspension, gas, ofNumber, tableOf, firstPair, leastSections, leastPlaces, room, entries, allSections, pairCount}
+use Rattle.tables.specs.File.{File, ac2, acc, drift, suspension, gas, opacity, ofNumber, tableOf, firstPair, leastSections, leastPlaces, room, entries, allSections, pairCount}
 use Rattle.tables.specs.Row.{rowCount, rowsBefore, rowKinds, rowKind, mostRows}
 use Rattle.tables.proofs.Numbers.{room-in}
 use Rattle.tables.proofs.Rows.{rows-few, kinds-count, rows-le}
@@ -107,7 +107,9 @@ number-fits (suc (suc zero)) = omega (arith, file-in acc)
 number-fits (suc (suc (suc zero))) = omega (arith, file-in drift)
 number-fits (suc (suc (suc (suc zero)))) = omega (arith, file-in suspension)
 number-fits (suc (suc (suc (suc (suc zero))))) = omega (arith, file-in gas)
-number-fits (suc (suc (suc (suc (suc (suc n)))))) = omega arith
+number-fits (suc (suc (suc (suc (suc (suc zero)))))) = omega arith
+number-fits (suc (suc (suc (suc (suc (suc (suc zero))))))) = omega (arith, file-in opacity)
+number-fits (suc (suc (suc (suc (suc (suc (suc (suc n)))))))) = omega arith
 
 pub pairs-fit : (n c : ℕ) (p : List ℕ) → leastPlaces ≤ length p → placeSize * (ofNumber 0 firstPair n + length (entriesOf (take c (tableOf n)))) ≤ length p
 pairs-fit n c p h = omega (arith, number-fits n, entries-first (tableOf n) c)

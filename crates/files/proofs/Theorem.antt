@@ -8,19 +8,19 @@ use lib.Dec.{leb}
 use lib.ListN.{length, getD, take, length-map}
 use lib.Seq.{take-length}
 use borrow.Author.Tests.{le-leb, leb-true}
-use Rattle.reading.specs.Tables.{mostBytes}
+use Rattle.reading.specs.Tables.{mostBytes, EachWithin, fileMost}
 use Rattle.lines.proofs.Bools.{clash}
 use Rattle.places.specs.Places.{Pair, valueAt, Within}
 use Rattle.tables.specs.Section.{Section, entriesOf}
-use Rattle.tables.specs.File.{File, hasAxles, mostAxles, leastAxles, sections, allSections, leastSections, entries}
+use Rattle.tables.specs.File.{File, opacity, hasAxles, mostAxles, leastAxles, sections, allSections, leastSections, entries}
 use Rattle.tables.proofs.Axles.{sections-fixed, sections-length, sections-prefix}
 use Rattle.reading.specs.Fitting.{FitsText, EachKept, StartOf}
 use Rattle.reading.specs.Reading.{refused, read, readText}
 use Rattle.reading.specs.Theorem.{IsText}
-use Rattle.reading.proofs.Tables.{tables-distinct, tables-clean, tables-short}
+use Rattle.reading.proofs.Tables.{tables-distinct, tables-clean, tables-short, bounds, opacity-within}
 use Rattle.reading.proofs.Theorem.{sound, complete, unique}
 use Rattle.reading.proofs.Written.{kept-length}
-use Rattle.reading.proofs.Formed.{short-text}
+use Rattle.reading.proofs.Formed.{short-text, text-bound, all-within}
 use Rattle.files.specs.Files.{readBy, readFile, axlesOf, AxleCount, IsFile}
 
 -- ---- how many sections a file with n axles has
@@ -115,6 +115,17 @@ is-text f n vs s h =
       fits = subst (λ (t : List Section). FitsText t vs s) (k .sections-are) (h .fits);
       kept = subst (λ (t : List Section). EachKept (entriesOf t) vs) (k .sections-are) (h .kept);
     }
+
+-- a file is no longer than its kinds let it be
+pub file-bound : (f : File) (n : ℕ) (vs : List (List ℕ)) (s : List ℕ) → IsFile f n vs s → length s ≤ fileMost f
+file-bound f n vs s h =
+    let x = is-text f n vs s h in
+    omega (arith, text-bound (allSections f) (length (sections f n)) vs s (x .fits) (x .kept), bounds f)
+
+-- 02, 2/14: and no line of opacity is above 325 bytes, CR LF not counted
+pub opacity-lines : (n : ℕ) (vs : List (List ℕ)) (s : List ℕ) (h : IsFile opacity n vs s) → EachWithin 325 (h .fits .lines)
+unfolding entries
+opacity-lines n vs s h = all-within 325 (sections opacity n) vs s (opacity-within n) (h .fits) (h .kept)
 
 pub file-short : (f : File) (n : ℕ) (vs : List (List ℕ)) (s : List ℕ) → IsFile f n vs s → length s ≤ mostBytes
 file-short f n vs s h =

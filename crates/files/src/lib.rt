@@ -220,6 +220,16 @@ fn scan_text(
             starts,
             lengths,
         ),
+        tables::OPACITY => scan_lines(
+            file,
+            &groups::opacity_rows(),
+            &groups::opacity_lengths(),
+            &groups::opacity_tags(),
+            text,
+            numbers,
+            starts,
+            lengths,
+        ),
         _ => scan_lines(
             file,
             &groups::new_booking_rows(),

@@ -141,10 +141,10 @@ fn show_pair(k: usize, start: u32, size: u32) {
 
 // The pairs that are not 0, each behind its number.
 fn show_pairs(places: &[u32])
-    requires { ⌜ 278 ≤ length (now places) ⌝ }
+    requires { ⌜ 388 ≤ length (now places) ⌝ }
 {
     let mut k = 0;
-    while k < 139 {
+    while k < 194 {
         show_pair(k, places::start_of(places, k), places::length_of(places, k));
         k += 1;
     }
@@ -187,14 +187,14 @@ fn show_kept(n: usize) {
 }
 
 fn show_places(places: &[u32]) {
-    if places.len() < 278 {
+    if places.len() < 388 {
         show_kept(kept_numbers(places, 0));
         return;
     }
     io::write_all(1, b"pairs");
     show_pairs(places);
     io::write_all(1, b"\n");
-    show_kept(kept_numbers(places, 278));
+    show_kept(kept_numbers(places, 388));
 }
 
 fn read_lent(file: u32, text: &[u8], places: &mut [u32]) {
@@ -204,8 +204,8 @@ fn read_lent(file: u32, text: &[u8], places: &mut [u32]) {
 }
 
 fn show_read(command: &[u8], text: &[u8]) {
-    let mut places = [7u32; 300];
-    let n = size_at(command, 2, 300);
+    let mut places = [7u32; 420];
+    let n = size_at(command, 2, 420);
     read_lent(number_at(command, 1), text, &mut places[..n]);
 }
 
@@ -239,7 +239,7 @@ fn show_write_answer(file: u32, answer: WriteAnswer, output: &[u8], places: &mut
 fn change_pair(command: &[u8], word: usize, places: &mut [u32])
     requires { ⌜ word ≤ 50 ⌝ }
 {
-    let k = size_at(command, word, 300);
+    let k = size_at(command, word, 420);
     if 2 * k + 1 < places.len() {
         let start = number_at(command, word + 1);
         places::set_pair(places, k, start, number_at(command, word + 2));
@@ -266,9 +266,9 @@ fn write_lent(command: &[u8], text: &[u8], places: &mut [u32], output: &mut [u8]
 }
 
 fn show_write(command: &[u8], text: &[u8]) {
-    let mut places = [7u32; 300];
+    let mut places = [7u32; 420];
     let mut output = [170u8; 4096];
-    let n = size_at(command, 2, 300);
+    let n = size_at(command, 2, 420);
     let m = size_at(command, 4, 4096);
     write_lent(command, text, &mut places[..n], &mut output[..m]);
 }
@@ -303,7 +303,7 @@ fn show_all(input: &[u8]) {
 
 // The input holds a text just too long and one just short enough, more than io::large_buffer has room for.
 fn main() {
-    let mut input = [0u8; 131072];
+    let mut input = [0u8; 262144];
     let n = io::read_full(0, &mut input);
     show_all(&input[..n]);
 }

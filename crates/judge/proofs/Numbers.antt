@@ -3,7 +3,7 @@ use Prim.Native.Nat.{ℕ, _≤_}
 use native.Mathlib.Omega.{arith}
 use mathlib.Core.Path.{_≡_, refl, sym}
 use mathlib.Core.List.{[]}
-use Rattle.tables.specs.File.{File, ac2, acc, drift, suspension, gas, allSections, room, ofNumber, tableOf}
+use Rattle.tables.specs.File.{File, ac2, acc, drift, suspension, gas, opacity, allSections, room, ofNumber, tableOf}
 use Rattle.tables.specs.Row.{mostRows}
 use Rattle.tables.proofs.Numbers.{first-pairs}
 use Rattle.tables.proofs.Files.{of-number}
@@ -30,3 +30,4 @@ few-entries acc = omega (arith, first-pairs)
 few-entries drift = omega (arith, first-pairs)
 few-entries suspension = omega (arith, first-pairs)
 few-entries gas = omega (arith, first-pairs)
+few-entries opacity = omega (arith, first-pairs)

@@ -11,7 +11,7 @@ use Rattle.refusals.specs.Answer.{Answer, acceptance, refusalOf, require, follo
 use Rattle.refusals.specs.declared.Refusal.{Refusal}
 use Rattle.places.specs.Places.{placeSize, setPairs, pairsAt, valueAt, Within}
 use Rattle.places.proofs.Laws.{set-length, drop-pairs}
-use Rattle.tables.specs.File.{File, ac2, acc, drift, suspension, gas, files, hasAxles, fileNumber, room, firstPair, leastPlaces, identificationNumber}
+use Rattle.tables.specs.File.{File, ac2, acc, drift, suspension, gas, opacity, files, hasAxles, fileNumber, room, firstPair, leastPlaces, identificationNumber}
 use Rattle.tables.proofs.Axles.{entries-most}
 use Rattle.files.proofs.Texts.{few-axles, rooms-fit, own-pairs}
 use Rattle.due.specs.Booking.{bookingIn}
@@ -220,15 +220,18 @@ module _ (stated : Stated) (S : Slices) (p : List ℕ) where
   pub later-size : (K : Type 0) (r : Step) (w q : List ℕ) → After K [] r w q → (y : Figures) → r ≡ Go y → length q ≡ length p
   later-size K r w q h y s = subst (λ (y : Step). After K [] y w q) s h .0 .size
 
-  module _ (o d u g : Step) where
+  module _ (o d u g r : Step) where
     abbrev pub AllFigures : Type 0
-    AllFigures = (((Unit {0} × FiguresAs acc o) × FiguresAs drift d) × FiguresAs suspension u) × FiguresAs gas g
+    AllFigures = ((((Unit {0} × FiguresAs acc o) × FiguresAs drift d) × FiguresAs suspension u) × FiguresAs gas g) × FiguresAs opacity r
 
-    pub later-accepted : (r : Step) (q : List ℕ) → After AllFigures [] r (filled gas (filled suspension (filled drift (filled acc p)))) q → (y : Figures) → r ≡ Go y
-        → JudgesSlices laterFiles whole (Accepted (acceptanceWith (figuresIn d) (figuresIn u) (figuresIn g))) p q
-    later-accepted r q h y s =
-        let k = subst (λ (z : Step). After AllFigures [] z (filled gas (filled suspension (filled drift (filled acc p)))) q) s h .0 in
-        (x, k .rest, rw (k .kept .0 .0 .1, k .kept .0 .1, k .kept .1) refl, k .places)
+    abbrev allFilled : List ℕ
+    allFilled = filled opacity (filled gas (filled suspension (filled drift (filled acc p))))
+
+    pub later-accepted : (q : List ℕ) → After AllFigures [] r allFilled q → (y : Figures) → r ≡ Go y
+        → JudgesSlices laterFiles whole (Accepted (acceptanceWith (figuresIn d) (figuresIn u) (figuresIn g) y)) p q
+    later-accepted q h y s =
+        let k = subst (λ (z : Step). After AllFigures [] z allFilled q) s h .0 in
+        (x, k .rest, rw (k .kept .0 .0 .0 .1, k .kept .0 .0 .1, k .kept .0 .1, sym (ap figuresIn s) ∙ k .kept .1) refl, k .places)
 
 -- ---- AC2, and all slices
 

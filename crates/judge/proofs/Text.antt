@@ -9,7 +9,7 @@ use Rattle.refusals.specs.Answer.{refusal, acceptance}
 use Rattle.refusals.specs.declared.Refusal.{Refusal}
 use Rattle.places.specs.Places.{Pair, setPairs, pairsAt, valueAt, Within}
 use Rattle.places.proofs.Laws.{pairs-before, drop-pairs}
-use Rattle.tables.specs.File.{File, ac2, acc, drift, suspension, gas, fileNumber, hasAxles, fixedSections, allSections, leastSections, entries, firstPair, leastPlaces}
+use Rattle.tables.specs.File.{File, ac2, acc, drift, suspension, gas, opacity, fileNumber, hasAxles, fixedSections, allSections, leastSections, entries, firstPair, leastPlaces}
 use Rattle.tables.specs.Row.{mostRows}
 use Rattle.tables.proofs.Numbers.{first-pairs}
 use Rattle.reading.specs.Reading.{read}
@@ -44,6 +44,7 @@ after-booking acc l = omega (arith, first-pairs)
 after-booking drift l = omega (arith, first-pairs)
 after-booking suspension l = omega (arith, first-pairs)
 after-booking gas l = omega (arith, first-pairs)
+after-booking opacity l = omega (arith, first-pairs)
 
 -- they stay when a later file is read
 pub booking-kept : (f : File) → 2 ≤ fileNumber f → (ps : List Pair) (p : List ℕ) → pairsOf ac2 0 (setPairs (firstPair f) ps p) ≡ pairsOf ac2 0 p

@@ -8,7 +8,7 @@ use Rattle.refusals.specs.Answer.{Answer, acceptance, refusalOf}
 use Rattle.refusals.specs.Refusals.{refusalWith}
 use Rattle.refusals.specs.declared.RefusalKind.{RefusalKind}
 use Rattle.places.specs.Places.{setPairs}
-use Rattle.tables.specs.File.{File, ac2, acc, drift, suspension, gas, fileNumber, mostAxles, sections, allSections, fixedSections, entries, firstPair, leastPlaces, ofNumber, identificationNumber}
+use Rattle.tables.specs.File.{File, ac2, acc, drift, suspension, gas, opacity, fileNumber, mostAxles, sections, allSections, fixedSections, entries, firstPair, leastPlaces, ofNumber, identificationNumber}
 use Rattle.tables.specs.Row.{mostRows}
 use Rattle.files.specs.Files.{axlesOf}
 use Rattle.due.specs.Booking.{bookingIn}
@@ -137,7 +137,7 @@ identificationRefused k = Stop (refusalWith k identificationNumber 0)
 
 -- the files after AC2, in the order of their slices
 abbrev pub laterFiles : List File
-laterFiles = acc ∷ drift ∷ suspension ∷ gas ∷ []
+laterFiles = acc ∷ drift ∷ suspension ∷ gas ∷ opacity ∷ []
 
 abbrev pub acceptanceIn : SetRead → Acceptance
 acceptanceIn x = acceptanceOf (λ f. x .file f .axles) (λ f. x .file f .values)

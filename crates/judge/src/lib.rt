@@ -25,6 +25,7 @@ use tables::DRIFT;
 use tables::GAS;
 use tables::IDENTIFICATION;
 use tables::MOST_ROWS;
+use tables::OPACITY;
 use tables::SUSPENSION;
 
 // Of a file that is not read, and of slice 6.
@@ -304,12 +305,13 @@ fn figures_in(step: Step) -> Figures
 }
 
 // The acceptance, from the figures of the result files.
-fn acceptance_with(drift: Step, suspension: Step, gas: Step) -> Acceptance
-    ensures { λ r. ⌜ r ≡ acceptanceWith (figuresIn drift) (figuresIn suspension) (figuresIn gas) ⌝ }
+fn acceptance_with(drift: Step, suspension: Step, gas: Step, opacity: Step) -> Acceptance
+    ensures { λ r. ⌜ r ≡ acceptanceWith (figuresIn drift) (figuresIn suspension) (figuresIn gas) (figuresIn opacity) ⌝ }
 {
     let d = figures_in(drift);
     let u = figures_in(suspension);
     let g = figures_in(gas);
+    let y = figures_in(opacity);
     Acceptance {
         driftaxles: d.axles,
         suspensionaxles: u.axles,
@@ -317,6 +319,7 @@ fn acceptance_with(drift: Step, suspension: Step, gas: Step) -> Acceptance
         suspensionmark: u.mark,
         gasmark: g.mark,
         gasbyhand: g.byhand,
+        opacitymark: y.mark,
     }
 }
 
@@ -330,21 +333,23 @@ fn judge_later(
     suspension: &[u8],
     gas: &[u8],
     identification: &[u8],
+    opacity: &[u8],
     places: &mut [u32],
 ) -> SetAnswer
     requires { ⌜ Held bookingFile 0 (now ac2) (now places) × IsBooking b (now ac2) (now places) ⌝ }
     ensures { λ r. ⌜ JudgesLater stated (slicesOf (now (ac2 .entry)) (now (acc .entry)) (now (drift .entry))
-        (now (suspension .entry)) (now (gas .entry)) (now (identification .entry)))
+        (now (suspension .entry)) (now (gas .entry)) (now (identification .entry)) (now (opacity .entry)))
         (now (places .entry)) (now (places .exit)) r ⌝ }
 {
     let o = judge_file(ACC, stated, b, ac2, acc, places);
     let d = judge_next(o, DRIFT, stated, b, ac2, drift, places);
     let u = judge_next(d, SUSPENSION, stated, b, ac2, suspension, places);
     let g = judge_next(u, GAS, stated, b, ac2, gas, places);
-    let last = identification_next(g, gas, identification, places);
-    match last {
+    let i = identification_next(g, gas, identification, places);
+    let y = judge_next(i, OPACITY, stated, b, ac2, opacity, places);
+    match y {
         Step::Stop(x) => SetAnswer::Refused(x),
-        Step::Go(_k) => SetAnswer::Accepted(acceptance_with(d, u, g)),
+        Step::Go(_k) => SetAnswer::Accepted(acceptance_with(d, u, g, y)),
     }
 }
 
@@ -357,12 +362,13 @@ fn judge_slices(
     suspension: &[u8],
     gas: &[u8],
     identification: &[u8],
+    opacity: &[u8],
     places: &mut [u32],
 ) -> SetAnswer
     requires { ⌜ leastPlaces ≤ length (now places) ⌝ }
     ensures { λ r. ⌜ JudgesSlices files (judgeSlices stated
         (slicesOf (now (ac2 .entry)) (now (acc .entry)) (now (drift .entry))
-        (now (suspension .entry)) (now (gas .entry)) (now (identification .entry)))) r
+        (now (suspension .entry)) (now (gas .entry)) (now (identification .entry)) (now (opacity .entry)))) r
         (now (places .entry)) (now (places .exit)) ⌝ }
 {
     match judge_booking(ac2, places) {
@@ -376,12 +382,13 @@ fn judge_slices(
             suspension,
             gas,
             identification,
+            opacity,
             places,
         ),
     }
 }
 
-// A whole set, for the stem of its files: 1, 2, then slices 1 to 6. The places hold its pairs where it is accepted;
+// A whole set, for the stem of its files: 1, 2, then slices 1 to 7. The places hold its pairs where it is accepted;
 // after a refusal but 1 they are 0.
 pub fn judge_set(
     stem: &[u8],
@@ -391,10 +398,11 @@ pub fn judge_set(
     suspension: &[u8],
     gas: &[u8],
     identification: &[u8],
+    opacity: &[u8],
     places: &mut [u32],
 ) -> SetAnswer
     ensures { λ r. ⌜ SetJudged (callerOf (now (stem .entry))) (slicesOf (now (ac2 .entry)) (now (acc .entry)) (now (drift .entry))
-        (now (suspension .entry)) (now (gas .entry)) (now (identification .entry)))
+        (now (suspension .entry)) (now (gas .entry)) (now (identification .entry)) (now (opacity .entry)))
         (now (places .entry)) (now (places .exit)) r ⌝ }
 {
     let least = tables::least_places();
@@ -421,6 +429,7 @@ pub fn judge_set(
         suspension,
         gas,
         identification,
+        opacity,
         places,
     );
     if let SetAnswer::Refused(_x) = answer {

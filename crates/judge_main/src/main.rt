@@ -1,6 +1,6 @@
 // Judges stored sets and prints the answer and the places of each.
-// Standard input: for each set nine numbers of four bytes, low byte first, the lengths of a title, a stem and six slices
-// and how many places are lent, and then the bytes of these eight. Each place holds 7 before.
+// Standard input: for each set ten numbers of four bytes, low byte first, the lengths of a title, a stem and seven slices
+// and how many places are lent, and then the bytes of these nine. Each place holds 7 before.
 ghost use Prim.Native.Nat.{_+_, _*_, _≤_, _<_};
 ghost use lib.ListN.{length};
 use sets::Acceptance;
@@ -44,6 +44,7 @@ fn print_accepted(a: Acceptance) {
     print_mark(a.driftmark);
     print_mark(a.suspensionmark);
     print_mark(a.gasmark);
+    print_mark(a.opacitymark);
     print_mark(a.gasbyhand);
 }
 
@@ -81,9 +82,11 @@ fn judge_lent(
     drift: usize,
     suspension: usize,
     gas: usize,
+    identification: usize,
     places: &mut [u32],
 )
-    requires { ⌜ (stem ≤ ac2) × (ac2 ≤ acc) × (acc ≤ drift) × (drift ≤ suspension) × (suspension ≤ gas) × (gas ≤ length (now parts)) ⌝ }
+    requires { ⌜ (stem ≤ ac2) × (ac2 ≤ acc) × (acc ≤ drift) × (drift ≤ suspension) × (suspension ≤ gas)
+        × (gas ≤ identification) × (identification ≤ length (now parts)) ⌝ }
 {
     let answer = judge::judge_set(
         &parts[..stem],
@@ -92,18 +95,19 @@ fn judge_lent(
         &parts[acc..drift],
         &parts[drift..suspension],
         &parts[suspension..gas],
-        &parts[gas..],
+        &parts[gas..identification],
+        &parts[identification..],
         places,
     );
     print_answer(answer);
     print_places(places);
 }
 
-// How many places are lent: n, and at most 300.
+// How many places are lent: n, and at most 400.
 fn lent(n: usize) -> usize
-    ensures { λ r. ⌜ r ≤ 300 ⌝ }
+    ensures { λ r. ⌜ r ≤ 400 ⌝ }
 {
-    if n < 300 { n } else { 300 }
+    if n < 400 { n } else { 400 }
 }
 
 fn judge_parts(
@@ -114,11 +118,13 @@ fn judge_parts(
     drift: usize,
     suspension: usize,
     gas: usize,
+    identification: usize,
     places: usize,
 )
-    requires { ⌜ (stem ≤ ac2) × (ac2 ≤ acc) × (acc ≤ drift) × (drift ≤ suspension) × (suspension ≤ gas) × (gas ≤ length (now parts)) ⌝ }
+    requires { ⌜ (stem ≤ ac2) × (ac2 ≤ acc) × (acc ≤ drift) × (drift ≤ suspension) × (suspension ≤ gas)
+        × (gas ≤ identification) × (identification ≤ length (now parts)) ⌝ }
 {
-    let mut numbers = [7u32; 300];
+    let mut numbers = [7u32; 400];
     let n = lent(places);
     judge_lent(
         parts,
@@ -128,6 +134,7 @@ fn judge_parts(
         drift,
         suspension,
         gas,
+        identification,
         &mut numbers[..n],
     );
 }
@@ -142,10 +149,10 @@ fn judge_case(input: &[u8], at: usize) -> usize
     requires { ⌜ at < length (now input) ⌝ }
     ensures { λ r. ⌜ (at < r) × (r ≤ length (now (input .entry))) ⌝ }
 {
-    if input.len() - at < 36 {
+    if input.len() - at < 40 {
         return input.len();
     }
-    let title = at + 36;
+    let title = at + 40;
     let from = title + number(input, at);
     let stem = number(input, at + 4);
     let ac2 = stem + number(input, at + 8);
@@ -153,7 +160,8 @@ fn judge_case(input: &[u8], at: usize) -> usize
     let drift = acc + number(input, at + 16);
     let suspension = drift + number(input, at + 20);
     let gas = suspension + number(input, at + 24);
-    let end = from + gas + number(input, at + 28);
+    let identification = gas + number(input, at + 28);
+    let end = from + identification + number(input, at + 32);
     if input.len() < end {
         return input.len();
     }
@@ -166,7 +174,8 @@ fn judge_case(input: &[u8], at: usize) -> usize
         drift,
         suspension,
         gas,
-        number(input, at + 32),
+        identification,
+        number(input, at + 36),
     );
     end
 }
@@ -179,7 +188,7 @@ fn judge_all(input: &[u8]) {
 }
 
 fn main() {
-    let mut input = [0u8; 262144];
+    let mut input = [0u8; 524288];
     let n = io::read_full(0, &mut input);
     judge_all(&input[..n]);
 }

@@ -7,11 +7,11 @@ use lib.Dec.{ltb}
 use lib.ListN.{length, getD, take, drop, length-take, length-drop, List·getD-eq-default}
 use lib.Seq.{getD-take, getD-drop}
 use borrow.Author.Tests.{ltb-true, ltb-false}
-use Rattle.kinds.specs.Kind.{words, vehicleTypes, categories, yesNo, petrolDirectives, brakeControls, links, gasLinks, counterLinks, Kind, S, C, N, Fixed, D, H, Deriva, Revs, DataPrimaImm, AnnoPrimaImm, PosAssiStaz, NoKind, Word, kindOf, numbered}
+use Rattle.kinds.specs.Kind.{words, vehicleTypes, categories, yesNo, petrolDirectives, brakeControls, links, gasLinks, counterLinks, outcomes, Kind, S, C, N, NByHand, Fixed, FixedByHand, D, H, Deriva, DataPrimaImm, AnnoPrimaImm, PosAssiStaz, Targa, TempAmbiente, NoKind, Word, kindOf, numbered}
 use Rattle.kinds.specs.Value.{width}
 use Rattle.kinds.specs.Shapes.{formNumber, decimalsOf, wordsIn, shapeOf, listed}
 use Rattle.kinds.specs.declared.shapes.Shape.{Shape}
-use Rattle.kinds.proofs.Laws.{by-test}
+use Rattle.kinds.proofs.Laws.{by-test, kindCount}
 
 -- what a function says of the element at a place
 pub map-at : {A B : Type 0} (f : A → B) (xs : List A) (n : ℕ) (a : A) (b : B) → n < length xs → getD (map f xs) n b ≡ f (getD xs n a)
@@ -20,11 +20,11 @@ map-at f (x ∷ xs) zero a b h = refl
 map-at f (x ∷ xs) (suc n) a b h = map-at f xs n a b (omega arith)
 
 -- what a function says of each kind, by the kind's number
-pub of-kind : {A : Type 0} (f : Kind → A) (n : ℕ) (b : A) → n < 28 → getD (map f numbered) n b ≡ f (kindOf n)
+pub of-kind : {A : Type 0} (f : Kind → A) (n : ℕ) (b : A) → n < kindCount → getD (map f numbered) n b ≡ f (kindOf n)
 unfolding kindOf numbered
 of-kind f n b h = map-at f numbered n NoKind b h
 
-pub past-kinds : (n : ℕ) → 28 ≤ n → kindOf n ≡ NoKind
+pub past-kinds : (n : ℕ) → kindCount ≤ n → kindOf n ≡ NoKind
 unfolding kindOf numbered
 past-kinds n h = List·getD-eq-default numbered NoKind h
 
@@ -36,11 +36,11 @@ numbersOf k = formNumber k ∷ width k ∷ decimalsOf k ∷ length (wordsIn k) �
 abbrev shapeFrom : List ℕ → Shape
 shapeFrom ns = record { form = getD ns 0 0; most = getD ns 1 0; decimals = getD ns 2 0; words = getD ns 3 0 }
 
-pub shape-at : (n : ℕ) → n < 28 → shapeFrom (getD (map numbersOf numbered) n []) ≡ shapeOf (kindOf n)
+pub shape-at : (n : ℕ) → n < kindCount → shapeFrom (getD (map numbersOf numbered) n []) ≡ shapeOf (kindOf n)
 unfolding shapeOf
 shape-at n h = ap shapeFrom (of-kind numbersOf n [] h)
 
-pub no-shape : (n : ℕ) → 28 ≤ n → shapeFrom (0 ∷ 0 ∷ 0 ∷ 0 ∷ []) ≡ shapeOf (kindOf n)
+pub no-shape : (n : ℕ) → kindCount ≤ n → shapeFrom (0 ∷ 0 ∷ 0 ∷ 0 ∷ []) ≡ shapeOf (kindOf n)
 unfolding shapeOf formNumber decimalsOf wordsIn width
 no-shape n h = rw (past-kinds n h)
 
@@ -56,17 +56,21 @@ firstWord (Word brakeControls) = 26
 firstWord (Word links) = 30
 firstWord (Word gasLinks) = 32
 firstWord (Word counterLinks) = 35
+firstWord (Word outcomes) = 37
 firstWord (S w) = 0
 firstWord (C w) = 0
 firstWord (N w) = 0
+firstWord (NByHand w) = 0
 firstWord (Fixed d w) = 0
+firstWord (FixedByHand d w) = 0
 firstWord D = 0
 firstWord H = 0
 firstWord Deriva = 0
-firstWord Revs = 0
 firstWord DataPrimaImm = 0
 firstWord AnnoPrimaImm = 0
 firstWord PosAssiStaz = 0
+firstWord Targa = 0
+firstWord TempAmbiente = 0
 firstWord NoKind = 0
 
 abbrev there : Kind → List (List ℕ)
@@ -76,16 +80,16 @@ all-there : map there numbered ≡ map wordsIn numbered
 unfolding numbered wordsIn listed words firstWord
 all-there = refl
 
-words-there : (n : ℕ) → n < 28 → there (kindOf n) ≡ wordsIn (kindOf n)
+words-there : (n : ℕ) → n < kindCount → there (kindOf n) ≡ wordsIn (kindOf n)
 words-there n h = sym (of-kind there n [] h) ∙ ap (λ (l : List (List (List ℕ))). getD l n []) all-there ∙ of-kind wordsIn n [] h
 
 -- only a kind has words
-pub is-kind : (n k : ℕ) → k < length (wordsIn (kindOf n)) → n < 28
+pub is-kind : (n k : ℕ) → k < length (wordsIn (kindOf n)) → n < kindCount
 unfolding wordsIn
 is-kind n k h =
-    by-test (ltb n 28)
-    (λ e. ltb-true n 28 e)
-    (λ e. let z : k < 0 = rw (past-kinds n (ltb-false n 28 e)) at h in absurd (omega arith))
+    by-test (ltb n kindCount)
+    (λ e. ltb-true n kindCount e)
+    (λ e. let z : k < 0 = rw (past-kinds n (ltb-false n kindCount e)) at h in absurd (omega arith))
 
 -- word k of a kind, among those of all lists
 module _ (n k : ℕ) (h : k < length (wordsIn (kindOf n))) where

@@ -166,7 +166,7 @@ word-at ws n v e h = h ∙ ap (λ (j : ℕ). isWordAt ws j v) (sym e)
 pub list-at : (n : ℕ) {list : ℕ} (k : ℕ) (v : List ℕ) {r : Bool} → list ≡ n → r ≡ isWordAt (wordsOf n) k v → r ≡ isWordAt (wordsOf list) k v
 list-at n k v e h = h ∙ ap (λ (j : ℕ). isWordAt (wordsOf j) k v) (sym e)
 
-pub no-list : (n : ℕ) → 8 ≤ n → wordsOf n ≡ []
+pub no-list : (n : ℕ) → 9 ≤ n → wordsOf n ≡ []
 unfolding wordsOf numberedLists
 no-list n h = List·getD-eq-default numberedLists [] h
 
@@ -231,8 +231,12 @@ module _ (k : ℕ) (v : List ℕ) (h : k ≤ 6) where
       (λ w. rw (p, and-false (eqb (length v) w)) (and-false (leb 1 (length v))))
       k h
 
+-- how many kinds the tables use
+abbrev pub kindCount : ℕ
+kindCount = 34
+
 -- a number that no kind has lets no value in
-pub no-kind : (n : ℕ) (v : List ℕ) → 28 ≤ n → kindOk (kindOf n) v ≡ false
+pub no-kind : (n : ℕ) (v : List ℕ) → kindCount ≤ n → kindOk (kindOf n) v ≡ false
 unfolding kindOf numbered kindOk
 no-kind n v h = rw (List·getD-eq-default numbered NoKind h)
 

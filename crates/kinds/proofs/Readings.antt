@@ -12,7 +12,7 @@ use lib.ListN.{length, getD, take, drop, length-take, length-drop}
 use Rattle.lines.proofs.Bools.{and-left, and-right}
 use Rattle.kinds.specs.Kind.{N, D, Deriva, Revs, DataPrimaImm}
 use Rattle.kinds.specs.Digits.{isDigit, allDigits, number, numberFrom}
-use Rattle.kinds.specs.Value.{isNumber, isFixed, pointPlace, isYear, isGregorian, isDay, isFirstDate, isFirstDay, startsWith, isDrift, isRevs, areDigits, dayOf, monthOf, yearOf, kindOk}
+use Rattle.kinds.specs.Value.{isNumber, isFixed, pointPlace, isYear, isGregorian, isDay, isFirstDate, isFirstDay, startsWith, isDrift, bare, areDigits, dayOf, monthOf, yearOf, kindOk}
 use Rattle.kinds.specs.Meaning.{numberRead, hundredths, signed, drift, driftRead, revs, revsRead, dayNumber, dayRead}
 use Rattle.kinds.specs.declared.NumberRead.the-variants as NumberRead
 use Rattle.kinds.specs.declared.DriftRead.{DriftRead}
@@ -47,7 +47,7 @@ digits-bare v e =
 -- 02, 1/14: a measured speed and the same one entered by hand have one number, and are told apart
 pub speeds-read : (v : List ℕ) → isNumber 5 v ≡ true
     → (revsRead v ≡ RevsRead.Of (record { number = number v; byhand = false })) × (revsRead (35 ∷ v) ≡ RevsRead.Of (record { number = number v; byhand = true }))
-unfolding revsRead isRevs revs startsWith
+unfolding revsRead bare revs startsWith
 speeds-read v e = (rw (digits-bare v e, e) refl, rw (le-leb 1 (length (35 ∷ v)) (omega arith), e) refl)
 
 -- a Gregorian day is not day 00

@@ -1,11 +1,12 @@
--- Samples of 01, Established samples and Kinds of value, by computation. Assumes nothing.
+-- Samples of 01, Established samples and Kinds of value, and of 02, by computation. Assumes nothing.
 use mathlib.Core.Path.{_≡_, refl}
 use mathlib.Core.Bool.{true, false}
+use Rattle.lines.specs.Bytes.{allPrintable}
 use lib.IntN.{pos, negℤ}
 use Rattle.lines.specs.Text.{bytes}
-use Rattle.kinds.specs.Kind.{D, H, Deriva, Revs, DataPrimaImm}
+use Rattle.kinds.specs.Kind.{D, H, Deriva, Revs, DataPrimaImm, Targa, TempAmbiente}
 use Rattle.kinds.specs.Digits.{allDigits, numberFrom}
-use Rattle.kinds.specs.Value.{isNumber, isFixed, isLeap, daysIn, isYear, isGregorian, areDigits, isDay, isTime, startsWith, isDrift, isRevs, isFirstDate, isFirstDay, kindOk}
+use Rattle.kinds.specs.Value.{isNumber, isFixed, isLeap, daysIn, isYear, isGregorian, areDigits, isDay, isTime, startsWith, isDrift, bare, isTemperature, isString, isPlate, isFirstDate, isFirstDay, kindOk}
 use Rattle.kinds.specs.Meaning.{hundredths, signed, drift, driftRead, revs, revsRead}
 use Rattle.kinds.specs.declared.DriftRead.the-variants as DriftRead
 use Rattle.kinds.specs.declared.RevsRead.the-variants as RevsRead
@@ -52,14 +53,40 @@ unfolding kindOk isTime areDigits allDigits numberFrom
 hour-24 = refl
 
 pub revs-by-hand : kindOk Revs (bytes "#850") ≡ true
-unfolding kindOk isRevs startsWith isNumber allDigits
+unfolding kindOk bare startsWith isNumber allDigits
 revs-by-hand = refl
 
 -- 02, 1/14: `00850` and `#00850` are the same speed, the second entered by hand
 pub revs-measured : revsRead (bytes "00850") ≡ RevsRead.Of (record { number = 850; byhand = false })
-unfolding revsRead revs isRevs startsWith isNumber allDigits numberFrom
+unfolding revsRead revs bare startsWith isNumber allDigits numberFrom
 revs-measured = refl
 
 pub revs-typed : revsRead (bytes "#00850") ≡ RevsRead.Of (record { number = 850; byhand = true })
-unfolding revsRead revs isRevs startsWith isNumber allDigits numberFrom
+unfolding revsRead revs bare startsWith isNumber allDigits numberFrom
 revs-typed = refl
+
+-- 02, 2/14: TempAmbiente is -99 to 999, with `#` or without; Targa has at least 4 bytes
+pub temperature-least : kindOk TempAmbiente (bytes "#-99") ≡ true
+unfolding kindOk bare isTemperature startsWith isNumber allDigits
+temperature-least = refl
+
+pub temperature-most : kindOk TempAmbiente (bytes "999") ≡ true
+unfolding kindOk bare isTemperature startsWith isNumber allDigits
+temperature-most = refl
+
+pub temperature-below : kindOk TempAmbiente (bytes "-100") ≡ false
+unfolding kindOk bare isTemperature startsWith isNumber allDigits
+temperature-below = refl
+
+-- `#` stands before the sign
+pub temperature-sign-first : kindOk TempAmbiente (bytes "-#9") ≡ false
+unfolding kindOk bare isTemperature startsWith isNumber allDigits
+temperature-sign-first = refl
+
+pub plate-three : kindOk Targa (bytes "AB1") ≡ false
+unfolding kindOk isPlate
+plate-three = refl
+
+pub plate-four : kindOk Targa (bytes "AB12") ≡ true
+unfolding kindOk isPlate isString allPrintable
+plate-four = refl

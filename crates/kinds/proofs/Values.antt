@@ -13,9 +13,9 @@ use lib.Seq.{split-at}
 use Rattle.lines.specs.Bytes.{isPrintable, allPrintable, sameBytes}
 use Rattle.lines.proofs.Bools.{and-left, and-right}
 use Rattle.lines.proofs.Bytes.{same-is, printable-append}
-use Rattle.kinds.specs.Kind.{WordList, words, vehicleTypes, categories, yesNo, petrolDirectives, brakeControls, links, gasLinks, counterLinks, Kind, S, C, N, Fixed, D, H, Deriva, Revs, DataPrimaImm, AnnoPrimaImm, PosAssiStaz, NoKind, Word}
+use Rattle.kinds.specs.Kind.{WordList, words, vehicleTypes, categories, yesNo, petrolDirectives, brakeControls, links, gasLinks, counterLinks, outcomes, Kind, S, C, N, NByHand, Fixed, FixedByHand, D, H, Deriva, DataPrimaImm, AnnoPrimaImm, PosAssiStaz, Targa, TempAmbiente, NoKind, Word}
 use Rattle.kinds.specs.Digits.{isDigit, allDigits}
-use Rattle.kinds.specs.Value.{isString, isExact, isNumber, isFixed, pointPlace, areDigits, isDay, isTime, isFirstDay, wordIndex, isWord, startsWith, isDrift, isRevs, isSorN, allSorN, isPositions, kindOk, kindKept, longest, width}
+use Rattle.kinds.specs.Value.{isString, isExact, isNumber, isFixed, pointPlace, areDigits, isDay, isTime, isFirstDay, wordIndex, isWord, startsWith, isDrift, bare, isTemperature, isPlate, isSorN, allSorN, isPositions, kindOk, kindKept, longest, width}
 use Rattle.kinds.proofs.Laws.{digit, FixedPoint, fixed-point, digits-length, digits-all, number-long, number-short, number-all, by-test}
 
 -- what is known of a value of a kind of width w
@@ -134,6 +134,7 @@ words-strings brakeControls = refl
 words-strings links = refl
 words-strings gasLinks = refl
 words-strings counterLinks = refl
+words-strings outcomes = refl
 
 word : (l : WordList) (v : List ℕ) → isWord (words l) v ≡ true → Filled (longest (words l)) v
 word l v e = string (longest (words l)) v (word-in (isString (longest (words l))) (words l) v (words-strings l) e)
@@ -145,12 +146,21 @@ drift v e =
     (λ h. marked 45 5 v refl h (fixed 2 5 (drop 1 v) (rw h at e)))
     (λ h. wider (fixed 2 5 v (rw h at e)))
 
-revs : (v : List ℕ) → isRevs v ≡ true → Filled 6 v
-unfolding isRevs
-revs v e =
-    by-test (startsWith 35 v)
-    (λ h. marked 35 5 v refl h (number 5 (drop 1 v) (rw h at e)))
-    (λ h. wider (number 5 v (rw h at e)))
+-- a value of width w, with `#` before it or without
+by-hand : (w : ℕ) (v : List ℕ) → Filled w (bare v) → Filled (suc w) v
+unfolding bare
+by-hand w v f = by-test (startsWith 35 v) (λ h. marked 35 w v refl h (rw h at f)) (λ h. wider (rw h at f))
+
+temperature : (v : List ℕ) → isTemperature v ≡ true → Filled 3 v
+unfolding isTemperature
+temperature v e =
+    by-test (startsWith 45 v)
+    (λ h. marked 45 2 v refl h (number 2 (drop 1 v) (rw h at e)))
+    (λ h. number 3 v (rw h at e))
+
+plate : (v : List ℕ) → isPlate v ≡ true → Filled 10 v
+unfolding isPlate
+plate v e = string 10 v (and-right (leb 4 (length v)) _ e)
 
 positions : (v : List ℕ) → isPositions v ≡ true → Filled 9 v
 unfolding isPositions
@@ -177,14 +187,17 @@ unfolding kindOk width
 filled (S w) v e = string w v e
 filled (C w) v e = exact w v e
 filled (N w) v e = number w v e
+filled (NByHand w) v e = by-hand w v (number w (bare v) e)
 filled (Fixed d w) v e = fixed d w v e
+filled (FixedByHand d w) v e = by-hand w v (fixed d w (bare v) e)
 filled D v e = digits 7 v (day-digits v e)
 filled H v e = digits 5 v (time-digits v e)
 filled Deriva v e = drift v e
-filled Revs v e = revs v e
 filled DataPrimaImm v e = digits 7 v (first-day-digits v e)
 filled AnnoPrimaImm v e = digits 3 v e
 filled PosAssiStaz v e = positions v e
+filled Targa v e = plate v e
+filled TempAmbiente v e = by-hand 3 v (temperature (bare v) e)
 filled NoKind v e = absurd (false≢true e)
 filled (Word l) v e = word l v e
 

@@ -5,7 +5,7 @@ use mathlib.Core.List.{List}
 use lib.IntN.{ℤ, pos, negℤ}
 use lib.ListN.{take, drop}
 use Rattle.kinds.specs.Digits.{number}
-use Rattle.kinds.specs.Value.{isNumber, isFixed, isDrift, isRevs, isFirstDay, pointPlace, startsWith, dayOf, monthOf, yearOf}
+use Rattle.kinds.specs.Value.{isNumber, isFixed, isDrift, bare, isFirstDay, pointPlace, startsWith, dayOf, monthOf, yearOf}
 use Rattle.kinds.specs.declared.NumberRead.{NumberRead}
 use Rattle.kinds.specs.declared.NumberRead.the-variants as NumberRead
 use Rattle.kinds.specs.declared.DriftRead.{DriftRead}
@@ -38,14 +38,10 @@ signedRead minus v = cond (isFixed 2 5 v) (DriftRead.Of (signed minus (hundredth
 
 -- "revs: N 5, with `#` before it where entered by hand"; 02, 1/14: "the number and whether `#` stood before it"
 unfoldable pub revs : List ℕ → Revs
-revs v = record { number = cond (startsWith 35 v) (number (drop 1 v)) (number v); byhand = startsWith 35 v }
+revs v = record { number = number (bare v); byhand = startsWith 35 v }
 
 unfoldable pub revsRead : List ℕ → RevsRead
-revsRead v = cond (isRevs v) (RevsRead.Of (revs v)) RevsRead.Wrong
-
--- the part behind `#` or without it, and which of the two it is
-unfoldable pub bareRead : Bool → List ℕ → RevsRead
-bareRead byhand v = cond (isNumber 5 v) (RevsRead.Of (record { number = number v; byhand = byhand })) RevsRead.Wrong
+revsRead v = cond (isNumber 5 (bare v)) (RevsRead.Of (revs v)) RevsRead.Wrong
 
 -- 01, Bookings: "the number yyyymmdd, zeros included"
 unfoldable pub dayNumber : List ℕ → ℕ

@@ -1,11 +1,11 @@
--- When a filled value is of its kind (01, Kinds of value).
+-- When a filled value is of its kind (01, Kinds of value; 02, 2/14 with 001, 3.3.3.7).
 use Prim.Native.Nat.{ℕ, zero, suc, max, _+_, _-_, _%_}
 use mathlib.Core.Bool.{Bool, true, false, cond, not, _&&_, _||_}
 use mathlib.Core.List.{List, [], _∷_}
 use lib.Dec.{eqb, leb, ltb}
 use lib.ListN.{length, getD, take, drop}
 use Rattle.lines.specs.Bytes.{allPrintable, sameBytes}
-use Rattle.kinds.specs.Kind.{words, vehicleTypes, categories, yesNo, petrolDirectives, brakeControls, links, gasLinks, counterLinks, Kind, S, C, N, Fixed, D, H, Deriva, Revs, DataPrimaImm, AnnoPrimaImm, PosAssiStaz, NoKind, Word}
+use Rattle.kinds.specs.Kind.{words, vehicleTypes, categories, yesNo, petrolDirectives, brakeControls, links, gasLinks, counterLinks, outcomes, Kind, S, C, N, NByHand, Fixed, FixedByHand, D, H, Deriva, DataPrimaImm, AnnoPrimaImm, PosAssiStaz, Targa, TempAmbiente, NoKind, Word}
 use Rattle.kinds.specs.Digits.{allDigits, number}
 
 -- 01, Kinds of value: "S w: 1 to w bytes, each 20 to 7E hex"
@@ -94,7 +94,7 @@ isWord ws v = ltb (wordIndex ws v) (length ws)
 unfoldable pub numberedLists : List (List (List ℕ))
 numberedLists =
     words vehicleTypes ∷ words categories ∷ words yesNo ∷ words petrolDirectives ∷ words brakeControls ∷
-    words links ∷ words gasLinks ∷ words counterLinks ∷ []
+    words links ∷ words gasLinks ∷ words counterLinks ∷ words outcomes ∷ []
 
 -- the words of a list number; a number that is not in the list has none
 unfoldable pub wordsOf : ℕ → List (List ℕ)
@@ -108,9 +108,17 @@ startsWith c v = leb 1 (length v) && eqb (getD v 0 0) c
 unfoldable pub isDrift : List ℕ → Bool
 isDrift v = cond (startsWith 45 v) (isFixed 2 5 (drop 1 v)) (isFixed 2 5 v)
 
--- "revs: N 5, with `#` before it where entered by hand"
-unfoldable pub isRevs : List ℕ → Bool
-isRevs v = cond (startsWith 35 v) (isNumber 5 (drop 1 v)) (isNumber 5 v)
+-- "with `#` before it where entered by hand": the value without that `#`
+unfoldable pub bare : List ℕ → List ℕ
+bare v = cond (startsWith 35 v) (drop 1 v) v
+
+-- 001, TempAmbiente: "Sono ammessi solo valori compresi tra -99 e 999"
+unfoldable pub isTemperature : List ℕ → Bool
+isTemperature v = cond (startsWith 45 v) (isNumber 2 (drop 1 v)) (isNumber 3 v)
+
+-- 001, Targa of opacity: S 10, "non deve essere inferiore a 4"
+unfoldable pub isPlate : List ℕ → Bool
+isPlate v = leb 4 (length v) && isString 10 v
 
 -- "DataPrimaImm is D, with day 00 allowed, and month 00 only with day 00"
 unfoldable pub isFirstDate : ℕ → ℕ → ℕ → Bool
@@ -135,14 +143,17 @@ unfoldable pub kindOk : Kind → List ℕ → Bool
 kindOk (S w) v = isString w v
 kindOk (C w) v = isExact w v
 kindOk (N w) v = isNumber w v
+kindOk (NByHand w) v = isNumber w (bare v)
 kindOk (Fixed d w) v = isFixed d w v
+kindOk (FixedByHand d w) v = isFixed d w (bare v)
 kindOk D v = isDay v
 kindOk H v = isTime v
 kindOk Deriva v = isDrift v
-kindOk Revs v = isRevs v
 kindOk DataPrimaImm v = isFirstDay v
 kindOk AnnoPrimaImm v = areDigits 4 v
 kindOk PosAssiStaz v = isPositions v
+kindOk Targa v = isPlate v
+kindOk TempAmbiente v = isTemperature (bare v)
 kindOk NoKind v = false
 kindOk (Word l) v = isWord (words l) v
 
@@ -155,18 +166,21 @@ unfoldable pub longest : List (List ℕ) → ℕ
 longest [] = 0
 longest (w ∷ ws) = max (length w) (longest ws)
 
--- the most bytes that a value of a kind has
+-- the most bytes that a value of a kind has; 001: with `#` "DIM +1"
 unfoldable pub width : Kind → ℕ
 width (S w) = w
 width (C w) = w
 width (N w) = w
+width (NByHand w) = suc w
 width (Fixed d w) = w
+width (FixedByHand d w) = suc w
 width D = 8
 width H = 6
 width Deriva = 6
-width Revs = 6
 width DataPrimaImm = 8
 width AnnoPrimaImm = 4
 width PosAssiStaz = 9
+width Targa = 10
+width TempAmbiente = 4
 width NoKind = 0
 width (Word l) = longest (words l)

@@ -8,10 +8,10 @@ ghost use mathlib.Core.Bool.{true};
 ghost use Prim.Native.Nat.{_+_, _≤_, _<_, _^_};
 ghost use lib.ListN.{length, take, drop};
 ghost use Rattle.lines.specs.Bytes.{allPrintable};
-ghost use Rattle.kinds.specs.Kind.{kindOf, words, vehicleTypes, categories, yesNo, petrolDirectives, brakeControls, links, gasLinks, counterLinks};
+ghost use Rattle.kinds.specs.Kind.{kindOf, words, vehicleTypes, categories, yesNo, petrolDirectives, brakeControls, links, gasLinks, counterLinks, outcomes};
 ghost use Rattle.kinds.specs.Digits.{isDigit, allDigits, number as Digits·number};
-ghost use Rattle.kinds.specs.Value.{isNumber, isFixed, isLeap, daysIn, isYear, isGregorian, areDigits, isDay, isTime, wordIndex, isWordAt, isWord, wordsOf, startsWith, isDrift, isRevs, isFirstDate, isFirstDay, isSorN, allSorN, isPositions, kindOk, kindKept};
-ghost use Rattle.kinds.specs.Meaning.{numberRead, hundredths as Meaning·hundredths, signed as Meaning·signed, signedRead, driftRead, bareRead, revs, revsRead, dayNumber, dayRead};
+ghost use Rattle.kinds.specs.Value.{isNumber, isFixed, isLeap, daysIn, isYear, isGregorian, areDigits, isDay, isTime, wordIndex, isWordAt, isWord, wordsOf, startsWith, isDrift, bare as Value·bare, isTemperature, isPlate, isFirstDate, isFirstDay, isSorN, allSorN, isPositions, kindOk, kindKept};
+ghost use Rattle.kinds.specs.Meaning.{numberRead, hundredths as Meaning·hundredths, signed as Meaning·signed, signedRead, driftRead, revs, revsRead, dayNumber, dayRead};
 
 // A number, or that the value is no such number.
 pub enum NumberRead {
@@ -257,14 +257,25 @@ fn is_drift(value: &[u8]) -> bool
     }
 }
 
-// revs
-fn is_revs(value: &[u8]) -> bool
-    ensures { λ r. ⌜ r ≡ isRevs (now (value .entry)) ⌝ }
+// A value without the `#` that stands before it where it was entered by hand.
+fn bare(value: &[u8]) -> &[u8]
+    ensures { λ r. ⌜ now r ≡ Value·bare (now (value .entry)) ⌝ }
 {
     if starts_with(value, b'#') {
-        is_number(&value[1..], 5)
+        &value[1..]
     } else {
-        is_number(value, 5)
+        value
+    }
+}
+
+// TempAmbiente without `#`: -99 to 999.
+fn is_temperature(value: &[u8]) -> bool
+    ensures { λ r. ⌜ r ≡ isTemperature (now (value .entry)) ⌝ }
+{
+    if starts_with(value, b'-') {
+        is_number(&value[1..], 2)
+    } else {
+        is_number(value, 3)
     }
 }
 
@@ -402,6 +413,17 @@ fn is_counter_link_at(k: usize, value: &[u8]) -> bool
     }
 }
 
+fn is_outcome_at(k: usize, value: &[u8]) -> bool
+    ensures { λ r. ⌜ r ≡ isWordAt (words outcomes) k (now (value .entry)) ⌝ }
+{
+    match k {
+        0 => lines::equal(value, b"R"),
+        1 => lines::equal(value, b"I"),
+        2 => lines::equal(value, b"N"),
+        _ => false,
+    }
+}
+
 fn is_word_at(list: u8, k: usize, value: &[u8]) -> bool
     ensures { λ r. ⌜ r ≡ isWordAt (wordsOf list) k (now (value .entry)) ⌝ }
 {
@@ -414,6 +436,7 @@ fn is_word_at(list: u8, k: usize, value: &[u8]) -> bool
         numbers::LINKS => is_link_at(k, value),
         numbers::GAS_LINKS => is_gas_link_at(k, value),
         numbers::COUNTER_LINKS => is_counter_link_at(k, value),
+        numbers::OUTCOMES => is_outcome_at(k, value),
         _ => false,
     }
 }
@@ -430,6 +453,7 @@ fn word_count(list: u8) -> usize
         numbers::LINKS => 2,
         numbers::GAS_LINKS => 3,
         numbers::COUNTER_LINKS => 2,
+        numbers::OUTCOMES => 3,
         _ => 0,
     }
 }
@@ -486,6 +510,16 @@ fn is_text(kind: u8, value: &[u8]) -> bool
     length_ok(kind, value)
 }
 
+// Targa
+fn is_plate(value: &[u8]) -> bool
+    ensures { λ r. ⌜ r ≡ isPlate (now (value .entry)) ⌝ }
+{
+    if value.len() < 4 {
+        return false;
+    }
+    is_text(numbers::S_10, value)
+}
+
 // All other kinds; a number that no kind has lets no value in.
 fn is_other(kind: u8, value: &[u8]) -> bool
     requires { ⌜ 7 ≤ kind ⌝ }
@@ -501,7 +535,7 @@ fn is_other(kind: u8, value: &[u8]) -> bool
         numbers::D => is_day(value),
         numbers::H => is_time(value),
         numbers::DERIVA => is_drift(value),
-        numbers::REVS => is_revs(value),
+        numbers::N_BY_HAND_5 => is_number(bare(value), 5),
         numbers::DATA_PRIMA_IMM => is_first_day(value),
         numbers::ANNO_PRIMA_IMM => are_digits(value, 4),
         numbers::POS_ASSI_STAZ => is_positions(value),
@@ -513,6 +547,12 @@ fn is_other(kind: u8, value: &[u8]) -> bool
         numbers::LINK => is_word(numbers::LINKS, value),
         numbers::GAS_LINK => is_word(numbers::GAS_LINKS, value),
         numbers::COUNTER_LINK => is_word(numbers::COUNTER_LINKS, value),
+        numbers::TARGA => is_plate(value),
+        numbers::FIXED_1_3 => is_fixed(value, 1, 3),
+        numbers::FIXED_BY_HAND_1_5 => is_fixed(bare(value), 1, 5),
+        numbers::TEMP_AMBIENTE => is_temperature(bare(value)),
+        numbers::N_BY_HAND_3 => is_number(bare(value), 3),
+        numbers::OUTCOME => is_word(numbers::OUTCOMES, value),
         _ => false,
     }
 }
@@ -597,19 +637,6 @@ pub fn read_drift(value: &[u8]) -> DriftRead
     }
 }
 
-// Revs without `#`, and whether it stood before them.
-fn read_bare(byhand: bool, value: &[u8]) -> RevsRead
-    ensures { λ r. ⌜ r ≡ bareRead byhand (now (value .entry)) ⌝ }
-{
-    if is_number(value, 5) {
-        return RevsRead::Of(Revs {
-            number: number(value),
-            byhand: byhand,
-        });
-    }
-    RevsRead::Wrong
-}
-
 // Whether revs were entered by hand (02, 1/14), where their number is not asked for.
 pub fn is_by_hand(value: &[u8]) -> bool
     ensures { λ r. ⌜ r ≡ revs (now (value .entry)) .byhand ⌝ }
@@ -621,11 +648,14 @@ pub fn is_by_hand(value: &[u8]) -> bool
 pub fn read_revs(value: &[u8]) -> RevsRead
     ensures { λ r. ⌜ r ≡ revsRead (now (value .entry)) ⌝ }
 {
-    if is_by_hand(value) {
-        read_bare(true, &value[1..])
-    } else {
-        read_bare(false, value)
+    let digits = bare(value);
+    if is_number(digits, 5) {
+        return RevsRead::Of(Revs {
+            number: number(digits),
+            byhand: is_by_hand(value),
+        });
     }
+    RevsRead::Wrong
 }
 
 // A day of D or DataPrimaImm as the number yyyymmdd.

@@ -32,7 +32,7 @@ pub const H: u8 = 14;
 
 pub const DERIVA: u8 = 15;
 
-pub const REVS: u8 = 16;
+pub const N_BY_HAND_5: u8 = 16;
 
 pub const DATA_PRIMA_IMM: u8 = 17;
 
@@ -56,8 +56,20 @@ pub const GAS_LINK: u8 = 26;
 
 pub const COUNTER_LINK: u8 = 27;
 
+pub const TARGA: u8 = 28;
+
+pub const FIXED_1_3: u8 = 29;
+
+pub const FIXED_BY_HAND_1_5: u8 = 30;
+
+pub const TEMP_AMBIENTE: u8 = 31;
+
+pub const N_BY_HAND_3: u8 = 32;
+
+pub const OUTCOME: u8 = 33;
+
 // How many kinds there are: a number from here on is no kind's.
-pub const KIND_COUNT: u8 = 28;
+pub const KIND_COUNT: u8 = 34;
 
 pub const VEHICLE_TYPES: u8 = 0;
 
@@ -74,3 +86,5 @@ pub const LINKS: u8 = 5;
 pub const GAS_LINKS: u8 = 6;
 
 pub const COUNTER_LINKS: u8 = 7;
+
+pub const OUTCOMES: u8 = 8;

@@ -13,7 +13,7 @@ pub struct Shape {
 }
 
 // These four numbers by the numbers of the kinds.
-const SHAPES: [[u32; 4]; 28] = [
+const SHAPES: [[u32; 4]; 34] = [
     [1, 10, 0, 0], // S 10
     [1, 64, 0, 0], // S 64
     [1, 92, 0, 0], // S 92
@@ -42,6 +42,12 @@ const SHAPES: [[u32; 4]; 28] = [
     [12, 4, 0, 2], // links
     [12, 14, 0, 3], // gas links
     [12, 9, 0, 2], // counter links
+    [13, 10, 0, 0], // Targa
+    [4, 3, 1, 0], // N(1) 3
+    [14, 6, 1, 0], // N(1) 5, by hand with `#`
+    [15, 4, 0, 0], // TempAmbiente
+    [8, 4, 0, 0], // N 3, by hand with `#`
+    [12, 1, 0, 3], // outcomes
 ];
 
 // The shape of a kind by its number; zeros for a number that no kind has.

@@ -10,7 +10,7 @@ ghost use Rattle.kinds.specs.Shapes.{wordsIn, listed, inRow};
 // As many bytes as the longest word has.
 pub type Row = [u8; 14];
 
-const ROWS: [Row; 37] = [
+const ROWS: [Row; 40] = [
     *b"LEGGERO       ",
     *b"PESANTE       ",
     *b"MOTOVEICOLO   ",
@@ -48,9 +48,12 @@ const ROWS: [Row; 37] = [
     *b"RS SENZA ESITO",
     *b"ESTERNO       ",
     *b"INTEGRATO     ",
+    *b"R             ",
+    *b"I             ",
+    *b"N             ",
 ];
 
-const LENGTHS: [usize; 37] = [
+const LENGTHS: [usize; 40] = [
     7, // LEGGERO
     7, // PESANTE
     11, // MOTOVEICOLO
@@ -88,10 +91,13 @@ const LENGTHS: [usize; 37] = [
     14, // RS SENZA ESITO
     7, // ESTERNO
     9, // INTEGRATO
+    1, // R
+    1, // I
+    1, // N
 ];
 
 // By the numbers of the kinds; 0 for a kind that lists no words.
-const FIRST_WORDS: [usize; 28] = [
+const FIRST_WORDS: [usize; 34] = [
     0, // S 10
     0, // S 64
     0, // S 92
@@ -120,6 +126,12 @@ const FIRST_WORDS: [usize; 28] = [
     30, // links
     32, // gas links
     35, // counter links
+    0, // Targa
+    0, // N(1) 3
+    0, // N(1) 5, by hand with `#`
+    0, // TempAmbiente
+    0, // N 3, by hand with `#`
+    37, // outcomes
 ];
 
 // Where a word of a kind stands among those of all lists, by its number in its own.

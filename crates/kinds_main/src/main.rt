@@ -6,6 +6,7 @@ ghost use lib.ListN.{length};
 use kinds::DriftRead;
 use kinds::NumberRead;
 use kinds::RevsRead;
+use kinds::numbers::OUTCOMES;
 
 fn show_number(read: NumberRead) {
     match read {
@@ -63,6 +64,7 @@ fn show_reading(kind: u8, value: &[u8]) {
         15 => show_drift(value),
         16 => show_revs(value),
         20..=27 => show_word(kind - 20, value),
+        33 => show_word(OUTCOMES, value),
         _ => (),
     }
 }

@@ -83,10 +83,10 @@ module _ (a b : List ℕ) (r : ℕ) where
   pub set-refused : (y : SetAnswer) (x : Refusal) → y ≡ SetAnswer.Refused x → Filled (refusalNumbers x) a b r → Filled (setNumbers (J.answerIs y)) a b r
   set-refused y x e h = rw e h
 
-  pub set-accepted : (y : SetAnswer) (x : Acceptance) → y ≡ SetAnswer.Accepted x → (d u g m : ℕ) →
-      d ≡ markNumber (x .driftmark) → u ≡ markNumber (x .suspensionmark) → g ≡ markNumber (x .gasmark) → m ≡ markNumber (x .gasbyhand) →
-      Filled (0 ∷ 0 ∷ 0 ∷ x .driftaxles ∷ x .suspensionaxles ∷ d ∷ u ∷ g ∷ 0 ∷ m ∷ []) a b r → Filled (setNumbers (J.answerIs y)) a b r
-  set-accepted y x e d u g m i j k o h = rw (e, ← i, ← j, ← k, ← o) h
+  pub set-accepted : (y : SetAnswer) (x : Acceptance) → y ≡ SetAnswer.Accepted x → (d u g o m : ℕ) →
+      d ≡ markNumber (x .driftmark) → u ≡ markNumber (x .suspensionmark) → g ≡ markNumber (x .gasmark) → o ≡ markNumber (x .opacitymark) → m ≡ markNumber (x .gasbyhand) →
+      Filled (0 ∷ 0 ∷ 0 ∷ x .driftaxles ∷ x .suspensionaxles ∷ d ∷ u ∷ g ∷ o ∷ m ∷ []) a b r → Filled (setNumbers (J.answerIs y)) a b r
+  set-accepted y x e d u g o m ed eu eg eo em h = rw (e, ← ed, ← eu, ← eg, ← eo, ← em) h
 
   pub column-refused : (y : ColumnAnswer) (x : Refusal) → y ≡ ColumnAnswer.Refused x → Filled (refusalNumbers x) a b r → Filled (dueNumbers (C.answerIs y)) a b r
   column-refused y x e h = rw e h

@@ -55,9 +55,19 @@ kindNumbers = numbersOf (λ a. a .form ∷ a .most ∷ a .decimals ∷ a .words 
 abbrev pub dueNumbers : Answer ColumnAcceptance → List ℕ
 dueNumbers = numbersOf (λ a. a .axles ∷ a .count ∷ [])
 
--- a judged set (01, Judging): "two axle counts .. and a mark per result file"; in number 9 whether gas's idle speed was entered by hand (02, 1/14)
+-- a judged set (01, Judging): "two axle counts .. and a mark per result file", in number 8 opacity's (02, 2/14); in number 9 whether
+-- gas's idle speed was entered by hand (02, 1/14)
 abbrev pub setNumbers : Answer Acceptance → List ℕ
-setNumbers = numbersOf (λ a. a .driftaxles ∷ a .suspensionaxles ∷ markNumber (a .driftmark) ∷ markNumber (a .suspensionmark) ∷ markNumber (a .gasmark) ∷ 0 ∷ markNumber (a .gasbyhand) ∷ [])
+setNumbers =
+    numbersOf (λ a.
+    a .driftaxles ∷
+    a .suspensionaxles ∷
+    markNumber (a .driftmark) ∷
+    markNumber (a .suspensionmark) ∷
+    markNumber (a .gasmark) ∷
+    markNumber (a .opacitymark) ∷
+    markNumber (a .gasbyhand) ∷
+    [])
 
 -- there are numbers, and the array has room for them
 pub record Room (ns lent : List ℕ) : Type 0 where

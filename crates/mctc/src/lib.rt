@@ -101,6 +101,7 @@ fn fill_judged(answer: &mut [u32], judged: SetAnswer) -> u32
             let drift = mark_number(a.driftmark);
             let suspension = mark_number(a.suspensionmark);
             let gas = mark_number(a.gasmark);
+            let opacity = mark_number(a.opacitymark);
             let driftaxles = a.driftaxles;
             let suspensionaxles = a.suspensionaxles;
             let byhand = mark_number(a.gasbyhand);
@@ -115,7 +116,7 @@ fn fill_judged(answer: &mut [u32], judged: SetAnswer) -> u32
                     drift,
                     suspension,
                     gas,
-                    0,
+                    opacity,
                     byhand,
                 ],
             )
@@ -123,7 +124,8 @@ fn fill_judged(answer: &mut [u32], judged: SetAnswer) -> u32
     }
 }
 
-// A whole set judged (01, Judging). With an answer array that is too short nothing is touched, here and in the others.
+// A whole set judged (01, Judging; slice 7: 02, 2/14). With an answer array that is too short nothing is touched, here and in
+// the others.
 #[no_mangle]
 pub extern "C" fn mctc_judge(
     stem: &[u8],
@@ -133,10 +135,13 @@ pub extern "C" fn mctc_judge(
     suspension: &[u8],
     gas: &[u8],
     identification: &[u8],
+    opacity: &[u8],
     places: &mut [u32],
     answer: &mut [u32],
 ) -> u32
-    ensures { λ r. ⌜ JudgeCall (callerOf (now (stem .entry))) (slicesOf (now (ac2 .entry)) (now (acc .entry)) (now (drift .entry)) (now (suspension .entry)) (now (gas .entry)) (now (identification .entry))) (now (places .entry)) (now (places .exit)) (now (answer .entry)) (now (answer .exit)) r ⌝ }
+    ensures { λ r. ⌜ JudgeCall (callerOf (now (stem .entry))) (slicesOf (now (ac2 .entry)) (now (acc .entry)) (now (drift .entry))
+        (now (suspension .entry)) (now (gas .entry)) (now (identification .entry)) (now (opacity .entry)))
+        (now (places .entry)) (now (places .exit)) (now (answer .entry)) (now (answer .exit)) r ⌝ }
 {
     if answer.len() < ANSWER_SIZE {
         return TOO_SHORT;
@@ -149,6 +154,7 @@ pub extern "C" fn mctc_judge(
         suspension,
         gas,
         identification,
+        opacity,
         places,
     );
     fill_judged(answer, judged)

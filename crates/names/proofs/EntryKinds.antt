@@ -11,13 +11,13 @@ use borrow.Author.Tests.{lt-ltb, le-ltb, ltb-true, ltb-false}
 use Rattle.kinds.specs.Kind.{Kind, kindOf}
 use Rattle.kinds.specs.Shapes.{wordsIn, shapeOf}
 use Rattle.kinds.specs.declared.shapes.Shape.{Shape}
-use Rattle.kinds.proofs.Laws.{by-test}
+use Rattle.kinds.proofs.Laws.{by-test, kindCount}
 use Rattle.kinds.proofs.ByKind.{map-at, is-kind}
 use Rattle.refusals.specs.Answer.{refusal, acceptance}
 use Rattle.tables.specs.Section.{Entry, Section, entriesOf}
 use Rattle.tables.specs.File.{tableOf}
 use Rattle.tables.specs.Row.{noEntry, rowKinds, rowKind}
-use Rattle.tables.proofs.Rows.{kindCount, heading-row, entry-row}
+use Rattle.tables.proofs.Rows.{heading-row, entry-row}
 use Rattle.names.specs.Names.{Name, nameWith, sectionOfEntry, entryName, entryKind, entryWord, kindAnswerOf}
 use Rattle.names.specs.Steps.{standing}
 

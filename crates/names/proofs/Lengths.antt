@@ -25,8 +25,12 @@ use Rattle.tables.specs.Entries.{
   allKeyBodies,
   analysis,
   fuelAnalysis,
+  opacimeter,
+  opacityTest,
+  opacityKeys,
+  opacityAnalysis,
 }
-use Rattle.tables.specs.File.{File, ac2, acc, drift, suspension, gas, fixedSections, axleEntries, axlesFrom, axleSections, sections, allSections, tableOf}
+use Rattle.tables.specs.File.{File, ac2, acc, drift, suspension, gas, opacity, fixedSections, axleEntries, axlesFrom, axleSections, sections, allSections, tableOf}
 use Rattle.tables.specs.Row.{names, headings, nameIn, nameAt, headingAt}
 use Rattle.tables.proofs.Files.{of-any}
 
@@ -46,12 +50,13 @@ short t = leb (length t) 10 && (allShort 27 (headings t) && shortNames t)
 
 each-short : (f : File) → short (allSections f) ≡ true
 unfolding allShort shortNames sections fixedSections axleSections axlesFrom axleEntries newBooking oldBooking tester protocol measurement sixteen driftAxle
-    suspensionAxle analyser counter speedTest allKeyDates allKeyBodies analysis fuelAnalysis
+    suspensionAxle analyser counter speedTest allKeyDates allKeyBodies analysis fuelAnalysis opacimeter opacityTest opacityKeys opacityAnalysis
 each-short ac2 = refl
 each-short acc = refl
 each-short drift = refl
 each-short suspension = refl
 each-short gas = refl
+each-short opacity = refl
 
 none-short : short [] ≡ true
 unfolding allShort shortNames

@@ -4,19 +4,19 @@ use mathlib.Core.Option.{none, some}
 use mathlib.Core.List.{[], _∷_, map}
 use lib.ListN.{length}
 use Rattle.lines.specs.Text.{bytes}
-use Rattle.kinds.specs.Kind.{S, N, Fixed, Deriva, PosAssiStaz, words}
+use Rattle.kinds.specs.Kind.{S, N, Fixed, Deriva, PosAssiStaz, TempAmbiente, words}
 use Rattle.kinds.specs.Shapes.{wordsIn}
 use Rattle.tables.specs.Section.{entriesOf}
-use Rattle.tables.specs.Entries.{newBooking, oldBooking, tester, protocol, measurement, sixteen, driftAxle, suspensionAxle, analyser, counter, speedTest, allKeyDates, allKeyBodies, analysis, fuelAnalysis}
+use Rattle.tables.specs.Entries.{newBooking, oldBooking, tester, protocol, measurement, sixteen, driftAxle, suspensionAxle, analyser, counter, speedTest, allKeyDates, allKeyBodies, analysis, fuelAnalysis, opacimeter, opacityTest, opacityKeys, opacityAnalysis}
 use Rattle.tables.specs.File.{files, fixedSections, axleEntries, axlesFrom, axleSections, sections, allSections, ofNumber, tableOf}
 use Rattle.tables.specs.Row.{nameIn}
 use Rattle.names.specs.Names.{nameWith, sectionOfEntry, entryName, headingName, entryKind, entryWord}
 
 pub counts :
-    (map (λ f. length (entriesOf (allSections f))) files ≡ 12 ∷ 6 ∷ 25 ∷ 43 ∷ 53 ∷ [])
-    × (map (λ f. length (allSections f)) files ≡ 1 ∷ 1 ∷ 10 ∷ 10 ∷ 2 ∷ [])
+    (map (λ f. length (entriesOf (allSections f))) files ≡ 12 ∷ 6 ∷ 25 ∷ 43 ∷ 53 ∷ 55 ∷ [])
+    × (map (λ f. length (allSections f)) files ≡ 1 ∷ 1 ∷ 10 ∷ 10 ∷ 2 ∷ 1 ∷ [])
 unfolding entriesOf newBooking oldBooking tester protocol measurement sixteen driftAxle suspensionAxle analyser counter speedTest allKeyDates allKeyBodies
-    analysis fuelAnalysis fixedSections axleEntries axlesFrom axleSections sections
+    analysis fuelAnalysis opacimeter opacityTest opacityKeys opacityAnalysis fixedSections axleEntries axlesFrom axleSections sections
 counts = (refl, refl)
 
 pub samples :
@@ -34,9 +34,12 @@ pub samples :
     × (headingName 4 9 ≡ some (nameWith (bytes "[SospensioniAsse_9]") 9))
     × (headingName 4 10 ≡ none)
     × (headingName 6 0 ≡ none)
+    × (entryName 7 54 ≡ some (nameWith (bytes "Operatore") 0))
+    × (headingName 7 0 ≡ some (nameWith (bytes "[AnalisiOpacita]") 0))
+    × (headingName 7 1 ≡ none)
 unfolding entryName headingName sectionOfEntry tableOf ofNumber nameIn entriesOf newBooking oldBooking tester protocol measurement sixteen driftAxle suspensionAxle
-    analyser counter speedTest allKeyDates allKeyBodies analysis fuelAnalysis fixedSections axleEntries axlesFrom axleSections sections
-samples = (refl, refl, refl, refl, refl, refl, refl, refl, refl, refl, refl, refl, refl, refl)
+    analyser counter speedTest allKeyDates allKeyBodies analysis fuelAnalysis opacimeter opacityTest opacityKeys opacityAnalysis fixedSections axleEntries axlesFrom axleSections sections
+samples = (refl, refl, refl, refl, refl, refl, refl, refl, refl, refl, refl, refl, refl, refl, refl, refl, refl)
 
 -- kinds and words of entries
 pub kind-samples :
@@ -52,6 +55,8 @@ pub kind-samples :
     × (entryWord 5 24 2 ≡ some (nameWith (bytes "RS SENZA ESITO") 0))
     × (entryWord 3 9 2 ≡ none)
     × (entryWord 1 0 0 ≡ none)
+    × (entryKind 7 32 ≡ some TempAmbiente)
+    × (entryWord 7 34 2 ≡ some (nameWith (bytes "N") 0))
 unfolding entryKind entryWord wordsIn words sectionOfEntry tableOf ofNumber entriesOf newBooking oldBooking tester protocol measurement sixteen driftAxle
-    suspensionAxle analyser counter speedTest allKeyDates allKeyBodies analysis fuelAnalysis fixedSections axleEntries axlesFrom axleSections sections
-kind-samples = (refl, refl, refl, refl, refl, refl, refl, refl, refl, refl, refl, refl)
+    suspensionAxle analyser counter speedTest allKeyDates allKeyBodies analysis fuelAnalysis opacimeter opacityTest opacityKeys opacityAnalysis fixedSections axleEntries axlesFrom axleSections sections
+kind-samples = (refl, refl, refl, refl, refl, refl, refl, refl, refl, refl, refl, refl, refl, refl)

@@ -22,7 +22,7 @@ use Rattle.orders.specs.Rows.{Row, headingRow, entryRow, rowValues}
 use Rattle.orders.proofs.Items.{Item, items, All, all-perm, all-join}
 use Rattle.orders.proofs.Complete.{entryItem, zip-section, order-items}
 use Rattle.reading.specs.Fitting.{joined, nameTable, FitsText, EachKept}
-use Rattle.reading.specs.Tables.{lineMost, cleanEntries, cleanTable, entriesLength, tableLength, valuesLength, widths, mostBytes, shortTable}
+use Rattle.reading.specs.Tables.{lineMost, entriesWithin, tableWithin, EachWithin, cleanEntries, cleanTable, entriesLength, tableLength, valuesLength, widths, mostBytes, shortTable}
 use Rattle.reading.proofs.Lookup.{tableRows}
 
 -- ---- as many values as entries
@@ -145,15 +145,6 @@ all-formed t vs s c f k = lines-formed none (f .lines) (of-lines FormedRow t vs 
 
 -- ---- no line of kept values is above m bytes, its CR LF not counted
 
--- the test, computed for a table
-unfoldable pub entriesWithin : ℕ → List Entry → Bool
-entriesWithin m [] = true
-entriesWithin m (e ∷ es) = leb (lineMost e) m && entriesWithin m es
-
-unfoldable pub tableWithin : ℕ → List Section → Bool
-tableWithin m [] = true
-tableWithin m (x ∷ t) = leb (length (x .heading)) m && (entriesWithin m (x .entries) && tableWithin m t)
-
 abbrev ShortRow : ℕ → Row → Value → Type 0
 ShortRow m (headingRow h) v = length (lineBytes (heading h)) ≤ m
 ShortRow m (entryRow g n) v = length (lineBytes (entry n v)) ≤ m
@@ -174,11 +165,6 @@ table-within m (x ∷ t) c =
       entries-within m (x .heading) (x .entries) (and-left _ (tableWithin m t) rest),
       table-within m t (and-right (entriesWithin m (x .entries)) _ rest),
     )
-
--- each of these lines has at most m bytes
-abbrev pub EachWithin : ℕ → List Line → Type 0
-EachWithin m [] = Unit {0}
-EachWithin m (l ∷ ls) = (length (lineBytes l) ≤ m) × EachWithin m ls
 
 lines-within : (m : ℕ) (cur : Option Name) (ls : List Line) → All (Has (ShortRow m)) (items cur ls) → EachWithin m ls
 lines-within m cur [] a = tt

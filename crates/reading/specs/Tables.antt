@@ -1,12 +1,13 @@
 -- Tests of a table, computed for each file: its rows can be told apart, its lines have form, its texts are not too long.
-use Prim.Native.Nat.{ℕ, _+_}
+use Prim.Native.Nat.{ℕ, _+_, _≤_}
 use mathlib.Core.Bool.{Bool, true, _&&_}
 use mathlib.Core.List.{List, [], _∷_}
 use lib.Dec.{leb}
 use lib.ListN.{length}
-use Rattle.lines.specs.Line.{heading, entry, wellFormed, writtenLength}
+use Rattle.lines.specs.Line.{Line, heading, entry, lineBytes, wellFormed, writtenLength}
 use Rattle.kinds.specs.Value.{width}
 use Rattle.tables.specs.Section.{Entry, Section, entriesOf}
+use Rattle.tables.specs.File.{File, ac2, acc, drift, suspension, gas, opacity}
 use Rattle.orders.specs.Rows as O
 use Rattle.reading.specs.Fitting.{nameTable}
 
@@ -26,6 +27,20 @@ cleanEntries (e ∷ es) = (wellFormed (entry (e .name) []) && leb (lineMost e) 5
 unfoldable pub cleanTable : List Section → Bool
 cleanTable [] = true
 cleanTable (s ∷ t) = (wellFormed (heading (s .heading)) && cleanEntries (s .entries)) && cleanTable t
+
+-- no line has more than m bytes, its CR LF not counted, with any value of its kind
+unfoldable pub entriesWithin : ℕ → List Entry → Bool
+entriesWithin m [] = true
+entriesWithin m (e ∷ es) = leb (lineMost e) m && entriesWithin m es
+
+unfoldable pub tableWithin : ℕ → List Section → Bool
+tableWithin m [] = true
+tableWithin m (s ∷ t) = leb (length (s .heading)) m && (entriesWithin m (s .entries) && tableWithin m t)
+
+-- each of these lines has at most m bytes
+abbrev pub EachWithin : ℕ → List Line → Type 0
+EachWithin m [] = Unit {0}
+EachWithin m (l ∷ ls) = (length (lineBytes l) ≤ m) × EachWithin m ls
 
 -- the length of a text whose values are empty
 unfoldable pub entriesLength : List Entry → ℕ
@@ -51,3 +66,12 @@ mostBytes = 16384
 
 unfoldable pub shortTable : List Section → Bool
 shortTable t = leb (tableLength t + widths (entriesOf t)) mostBytes
+
+-- the most bytes of each file, by its kinds alone
+abbrev pub fileMost : File → ℕ
+fileMost ac2 = 471
+fileMost acc = 396
+fileMost drift = 1401
+fileMost suspension = 1748
+fileMost gas = 3597
+fileMost opacity = 2957

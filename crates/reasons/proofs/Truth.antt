@@ -11,13 +11,13 @@ use lib.ListN.{length, getD, replicate}
 use Rattle.lines.specs.Bytes.{sameBytes}
 use Rattle.tables.specs.Section.{entriesOf}
 use Rattle.tables.specs.Entries.{newBooking, oldBooking, sixteen, tester, protocol, measurement}
-use Rattle.tables.specs.File.{File, ac2, acc, drift, suspension, gas, entries, sections, fixedSections, axleSections, axlesFrom, ofNumber}
-use Rattle.due.specs.Booking.{isL, isPetrol, bookingIn}
+use Rattle.tables.specs.File.{File, ac2, acc, drift, suspension, gas, opacity, entries, sections, fixedSections, axleSections, axlesFrom, ofNumber}
+use Rattle.due.specs.Booking.{isL, isPetrol, isDiesel, bookingIn}
 use Rattle.due.specs.Conditions.{isSerial, hasLinks, linksIn, conditionsOf}
-use Rattle.due.specs.Due.{exceptions, conditionOf, fixedConditions, conditionAt, conditionP, when, holdsIn, dueOf}
+use Rattle.due.specs.Due.{exceptions, conditionOf, fixedConditions, conditionAt, isMorN, conditionP, when, holdsIn, dueOf}
 use Rattle.due.specs.declared.Condition.{Condition}
 use Rattle.due.specs.declared.Condition.the-variants as Condition
-use Rattle.rules.specs.Slices.{statedOf, exactly, oldBookingRight, sliceRight, identificationRight}
+use Rattle.rules.specs.Slices.{statedOf, exactly, oldBookingRight, opacityDue, sliceRight, identificationRight}
 use Rattle.rules.specs.Identification.{sevenOf}
 use Rattle.reasons.specs.Tests.{ValueTest, moped, motorcycle, mOrN, notO, notL, sixBytes, petrol, diesel, lateDirective, noDirective, serialLink, externalCounter, version200, version210, nineStem, passes, testNumber, testOf, passesSome}
 use Rattle.reasons.specs.Reasons.{Source, entryOf, theStem, Reason, booked, own, reasonsOf, givenReasons, identificationReasons, oneHolds, eachHolds, valueFrom, reasonHolds, reasonsHold, sourceFile, sourceEntry}
@@ -75,6 +75,7 @@ linkless acc h = refl
 linkless drift h = refl
 linkless suspension h = refl
 linkless gas h = absurd (true≢false h)
+linkless opacity h = absurd (true≢false h)
 
 own-links : (f : File) (b : Bool) → hasLinks f ≡ b → (k : ℕ) → looksAtLinks (conditionAt f k) ≡ true → hasLinks f ≡ true
 unfolding conditionAt looksAtLinks
@@ -121,12 +122,13 @@ entry-due vs stem f i = asks vs stem f (conditionAt f i) (own-links f (hasLinks 
 -- 11: a slice is right exactly as what is asked of it and its reasons say
 pub slice-right : (vs : File → List (List ℕ)) (stem : List ℕ) (f : File) (given : Bool)
     → sliceRight f (statedOf stem) (bookingIn (vs ac2)) given ≡ rightBy (givenAsked f) (reasonsHold vs stem (givenReasons f)) given
-unfolding sliceRight oldBookingRight bookingIn givenAsked givenReasons oneHolds eachHolds passes
+unfolding sliceRight oldBookingRight opacityDue bookingIn givenAsked givenReasons oneHolds eachHolds passes
 slice-right vs stem ac2 given = refl
 slice-right vs stem acc given = ap (λ (b : Bool). not given || b) (either (not (isL (bookingIn (vs ac2) .category))) (statedOf stem .nine))
 slice-right vs stem drift given = refl
 slice-right vs stem suspension given = refl
 slice-right vs stem gas given = ap (λ (b : Bool). exactly b given) (one (isPetrol (bookingIn (vs ac2) .fuel)))
+slice-right vs stem opacity given = ap (λ (b : Bool). exactly b given) (both (isDiesel (bookingIn (vs ac2) .fuel)) (isMorN (bookingIn (vs ac2) .category)))
 
 -- and so is the identification answer, where gas is given
 pub identification-right : (vs : File → List (List ℕ)) (stem : List ℕ) (gasGiven given : Bool)
@@ -165,6 +167,7 @@ source-numbered vs stem (entryOf acc n) = refl
 source-numbered vs stem (entryOf drift n) = refl
 source-numbered vs stem (entryOf suspension n) = refl
 source-numbered vs stem (entryOf gas n) = refl
+source-numbered vs stem (entryOf opacity n) = refl
 source-numbered vs stem theStem = refl
 
 -- a reason holds where the value at its file and entry passes the test of its number

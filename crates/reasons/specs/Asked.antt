@@ -1,10 +1,10 @@
--- What is asked of an entry and of a file, and the numbers that say it (01, Due entries and row 11).
+-- What is asked of an entry and of a file, and the numbers that say it (01, Due entries and row 11; 02, 2/14).
 use Prim.Native.Nat.{ℕ, _-_}
 use mathlib.Core.Bool.{Bool, true, cond, not, _&&_, _||_}
 use mathlib.Core.List.{List, [], map}
 use lib.Dec.{eqb, leb, ltb}
 use lib.ListN.{getD}
-use Rattle.tables.specs.File.{File, ac2, acc, drift, suspension, gas, identificationNumber, ofNumber, room}
+use Rattle.tables.specs.File.{File, ac2, acc, drift, suspension, gas, opacity, identificationNumber, ofNumber, room}
 use Rattle.tables.specs.Value.{placeOf}
 use Rattle.due.specs.Due.{conditionAt, conditionIn, when}
 use Rattle.due.specs.declared.Due.{Due}
@@ -69,6 +69,7 @@ givenAsked acc = onlyWhen
 givenAsked drift = free
 givenAsked suspension = free
 givenAsked gas = exactlyWhen
+givenAsked opacity = exactlyWhen
 
 -- where gas is not given, the reason of the identification answer does not hold
 abbrev pub identificationAsked : Asked

@@ -1,11 +1,12 @@
--- Why an entry is due or not, and a file given or not: the values that decide, each with its test (01, Due entries and row 11).
+-- Why an entry is due or not, and a file given or not: the values that decide, each with its test (01, Due entries and row 11; 02, 2/14).
 use Prim.Native.Nat.{ℕ, _+_, _-_}
 use Prim.Native.String.{String}
-use mathlib.Core.Bool.{Bool, true, false, _&&_, _||_}
+use mathlib.Core.Bool.{Bool, true, false, cond, _&&_, _||_}
 use mathlib.Core.List.{List, [], _∷_, _++_}
 use lib.ListN.{length, replicate}
-use Rattle.tables.specs.File.{File, ac2, acc, drift, suspension, gas, fileNumber}
+use Rattle.tables.specs.File.{File, ac2, acc, drift, suspension, gas, opacity, fileNumber, ofNumber}
 use Rattle.tables.specs.Value.{placeOf, of}
+use Rattle.due.specs.Conditions.{hasLinks}
 use Rattle.due.specs.declared.Condition.{Condition}
 use Rattle.due.specs.declared.Condition.the-variants as Condition
 use Rattle.reasons.specs.Tests.{
@@ -28,6 +29,7 @@ use Rattle.reasons.specs.Tests.{
   passes,
   testNumber,
 }
+use Rattle.reasons.specs.declared.OwnEntries.{OwnEntries}
 
 -- where a value stands: an entry of a file, by its name, or the stem
 pub data Source : Type 0 where
@@ -74,13 +76,15 @@ reasonsOf f Condition.CounterChecksum = must (own f version200 "NumVersioneProto
 reasonsOf f Condition.SpeedTestKey = must (own f version210 "NumVersioneProtocolloProvaVelocita") ∷ conditionPs ∷ []
 reasonsOf f Condition.SpeedTestChecksum = must (own f version200 "NumVersioneProtocolloProvaVelocita") ∷ conditionPs ∷ []
 
--- row 11: "Gas is given exactly when AC2 has BENZINA"; ACC not "with L and a stem whose first digit isn't 9"
+-- row 11: "Gas is given exactly when AC2 has BENZINA", opacity "exactly when AC2 has DIESEL with an M or N category"; ACC not "with L and a
+-- stem whose first digit isn't 9"
 unfoldable pub givenReasons : File → List (List Reason)
 givenReasons ac2 = []
 givenReasons acc = either (booked notL "CategoriaInternazionale") (record { test = nineStem; source = theStem }) ∷ []
 givenReasons drift = []
 givenReasons suspension = []
 givenReasons gas = must (booked petrol "Alimentazione_1") ∷ []
+givenReasons opacity = must (booked diesel "Alimentazione_1") ∷ must (booked mOrN "CategoriaInternazionale") ∷ []
 
 -- "slice 6 exactly when gas has RS SENZA ESITO"
 abbrev pub identificationReasons : List (List Reason)
@@ -132,3 +136,24 @@ padded ns = ns ++ replicate (12 - length ns) 0
 
 abbrev pub reasonNumbers : List (List Reason) → List ℕ
 reasonNumbers gs = padded (numbersFrom 1 gs)
+
+-- ---- for the contracts of the code
+
+-- a file's number and the entries of its own that conditions look at; the number of its entries for one that it has not
+abbrev pub ownOf : File → OwnEntries
+ownOf f = record {
+  file = fileNumber f;
+  link = placeOf f "TipoCollegamento";
+  version = placeOf f "NumVersioneProtocollo";
+  counterlink = placeOf f "TipoCollegamentoContagiri";
+  counterversion = placeOf f "NumVersioneProtocolloContagiri";
+  benchversion = placeOf f "NumVersioneProtocolloProvaVelocita";
+}
+
+-- the file whose own entries are looked at for file f: gas for a file without links, no condition of which looks at any
+abbrev pub ownFile : File → File
+ownFile f = cond (hasLinks f) f gas
+
+-- by the file's number
+abbrev pub ownNumbered : ℕ → File
+ownNumbered n = ofNumber gas ownFile n

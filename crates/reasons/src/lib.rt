@@ -2,12 +2,12 @@
 // that decide, each with its file, its entry and the test that it must pass. Tests, too, are answered here, of a value alone.
 ghost use mathlib.Core.Path.{_≡_};
 ghost use mathlib.Core.Bool.{true};
-ghost use Rattle.tables.specs.File.{gas};
+ghost use Rattle.tables.specs.File.{File};
 ghost use Rattle.due.specs.Conditions.{is200, is210};
 ghost use Rattle.rules.specs.Slices.{statedOf};
 ghost use Rattle.due.specs.Booking.{categoryIn};
 ghost use Rattle.reasons.specs.Tests.{isTest, testOf, passesSome};
-ghost use Rattle.reasons.specs.Reasons.{reasonNumbers, reasonsOf};
+ghost use Rattle.reasons.specs.Reasons.{reasonNumbers, reasonsOf, ownOf, ownNumbered};
 ghost use Rattle.reasons.specs.Asked.{askedNumber, askedOf, entryAsked, entryReasons, fileAsked, fileReasons, isOfSeven, fieldEntry};
 use due::Condition;
 use due::Version;
@@ -17,6 +17,7 @@ use tables::ACC;
 use tables::DRIFT;
 use tables::GAS;
 use tables::IDENTIFICATION;
+use tables::OPACITY;
 use tables::SUSPENSION;
 use tables::pairs;
 
@@ -71,17 +72,39 @@ const CAR_DIRECTIVE: u32 = pairs::AC2_DIRETTIVA_BENZINA_AUTO as u32;
 
 const MOTORCYCLE_DIRECTIVE: u32 = pairs::AC2_DIRETTIVA_MOTOCICLO as u32;
 
-const COUNTER_LINK: u32 = (pairs::GAS_TIPO_COLLEGAMENTO_CONTAGIRI - pairs::GAS_FIRST) as u32;
-
-const COUNTER_VERSION: u32 = (pairs::GAS_NUM_VERSIONE_PROTOCOLLO_CONTAGIRI
-    - pairs::GAS_FIRST) as u32;
-
-const BENCH_VERSION: u32 = (pairs::GAS_NUM_VERSIONE_PROTOCOLLO_PROVA_VELOCITA
-    - pairs::GAS_FIRST) as u32;
-
 const VERSION: u32 = (pairs::GAS_NUM_VERSIONE_PROTOCOLLO - pairs::GAS_FIRST) as u32;
 
 const LINK: u32 = (pairs::GAS_TIPO_COLLEGAMENTO - pairs::GAS_FIRST) as u32;
+
+// The number of a file with links, and its own entries that conditions look at; the number of its entries for one that it
+// has not.
+struct OwnEntries {
+    file: u32,
+    link: u32,
+    version: u32,
+    counterlink: u32,
+    counterversion: u32,
+    benchversion: u32,
+}
+
+const GAS_ENTRIES: OwnEntries = OwnEntries {
+    file: GAS,
+    link: LINK,
+    version: VERSION,
+    counterlink: (pairs::GAS_TIPO_COLLEGAMENTO_CONTAGIRI - pairs::GAS_FIRST) as u32,
+    counterversion: (pairs::GAS_NUM_VERSIONE_PROTOCOLLO_CONTAGIRI - pairs::GAS_FIRST) as u32,
+    benchversion: (pairs::GAS_NUM_VERSIONE_PROTOCOLLO_PROVA_VELOCITA - pairs::GAS_FIRST) as u32,
+};
+
+const OPACITY_ENTRIES: OwnEntries = OwnEntries {
+    file: OPACITY,
+    link: (pairs::OPACITY_TIPO_COLLEGAMENTO - pairs::OPACITY_FIRST) as u32,
+    version: (pairs::OPACITY_NUM_VERSIONE_PROTOCOLLO - pairs::OPACITY_FIRST) as u32,
+    counterlink: (pairs::OPACITY_TIPO_COLLEGAMENTO_CONTAGIRI - pairs::OPACITY_FIRST) as u32,
+    counterversion: (pairs::OPACITY_NUM_VERSIONE_PROTOCOLLO_CONTAGIRI
+        - pairs::OPACITY_FIRST) as u32,
+    benchversion: 55,
+};
 
 // The seven of the identification answer, in the order of its fields.
 const FIELDS: [u32; 7] = [
@@ -206,6 +229,7 @@ pub fn file_asked(file: u32) -> u32
         SUSPENSION => FREE,
         GAS => WHEN,
         IDENTIFICATION => WHEN,
+        OPACITY => WHEN,
         _ => 0,
     }
 }
@@ -214,9 +238,19 @@ pub fn file_asked(file: u32) -> u32
 // one reason must hold.
 const NO_REASONS: [u32; 12] = [0, 0, 0, 0, 0, 0, 0, 0, 0, 0, 0, 0];
 
-// Of gas, the file with links, whichever condition it is; conditions that look at AC2 alone have the same in every file.
-fn condition_reasons(condition: Condition) -> [u32; 12]
-    ensures { λ r. ⌜ r ≡ reasonNumbers (reasonsOf gas condition) ⌝ }
+// Whose own entries are looked at for the file of this number; of a file without links no condition looks at any.
+fn own_of(file: u32) -> OwnEntries
+    ensures { λ r. ⌜ r ≡ ownOf (ownNumbered file) ⌝ }
+{
+    match file {
+        OPACITY => OPACITY_ENTRIES,
+        _ => GAS_ENTRIES,
+    }
+}
+
+// The reasons of a condition in the file that has these entries.
+fn condition_reasons(condition: Condition, own: OwnEntries) -> [u32; 12]
+    ensures { λ r. ⌜ ((f : File) → own ≡ ownOf f → r ≡ reasonNumbers (reasonsOf f condition)) ⌝ }
 {
     match condition {
         Condition::Always => NO_REASONS,
@@ -268,8 +302,8 @@ fn condition_reasons(condition: Condition) -> [u32; 12]
         ],
         Condition::ExternalCounter => [
             EXTERNAL_COUNTER,
-            GAS,
-            COUNTER_LINK,
+            own.file,
+            own.counterlink,
             1,
             0,
             0,
@@ -296,12 +330,12 @@ fn condition_reasons(condition: Condition) -> [u32; 12]
         ],
         Condition::DeviceKey => [
             VERSION_210,
-            GAS,
-            VERSION,
+            own.file,
+            own.version,
             1,
             SERIAL_LINK,
-            GAS,
-            LINK,
+            own.file,
+            own.link,
             2,
             0,
             0,
@@ -310,12 +344,12 @@ fn condition_reasons(condition: Condition) -> [u32; 12]
         ],
         Condition::DeviceChecksum => [
             VERSION_200,
-            GAS,
-            VERSION,
+            own.file,
+            own.version,
             1,
             SERIAL_LINK,
-            GAS,
-            LINK,
+            own.file,
+            own.link,
             2,
             0,
             0,
@@ -324,12 +358,12 @@ fn condition_reasons(condition: Condition) -> [u32; 12]
         ],
         Condition::CounterKey => [
             VERSION_210,
-            GAS,
-            COUNTER_VERSION,
+            own.file,
+            own.counterversion,
             1,
             EXTERNAL_COUNTER,
-            GAS,
-            COUNTER_LINK,
+            own.file,
+            own.counterlink,
             2,
             0,
             0,
@@ -338,12 +372,12 @@ fn condition_reasons(condition: Condition) -> [u32; 12]
         ],
         Condition::CounterChecksum => [
             VERSION_200,
-            GAS,
-            COUNTER_VERSION,
+            own.file,
+            own.counterversion,
             1,
             EXTERNAL_COUNTER,
-            GAS,
-            COUNTER_LINK,
+            own.file,
+            own.counterlink,
             2,
             0,
             0,
@@ -352,8 +386,8 @@ fn condition_reasons(condition: Condition) -> [u32; 12]
         ],
         Condition::SpeedTestKey => [
             VERSION_210,
-            GAS,
-            BENCH_VERSION,
+            own.file,
+            own.benchversion,
             1,
             MOPED,
             AC2,
@@ -366,8 +400,8 @@ fn condition_reasons(condition: Condition) -> [u32; 12]
         ],
         Condition::SpeedTestChecksum => [
             VERSION_200,
-            GAS,
-            BENCH_VERSION,
+            own.file,
+            own.benchversion,
             1,
             MOPED,
             AC2,
@@ -385,7 +419,7 @@ fn condition_reasons(condition: Condition) -> [u32; 12]
 pub fn entry_reasons(file: u32, entry: u32) -> [u32; 12]
     ensures { λ r. ⌜ r ≡ entryReasons file entry ⌝ }
 {
-    condition_reasons(due::condition_at(file, entry as usize))
+    condition_reasons(due::condition_at(file, entry as usize), own_of(file))
 }
 
 // The reasons for which a file is given or not.
@@ -396,6 +430,7 @@ pub fn file_reasons(file: u32) -> [u32; 12]
         ACC => [NOT_L, AC2, CATEGORY, 1, NINE_STEM, 0, 0, 1, 0, 0, 0, 0],
         GAS => [PETROL, AC2, FUEL, 1, 0, 0, 0, 0, 0, 0, 0, 0],
         IDENTIFICATION => [SERIAL_LINK, GAS, LINK, 1, 0, 0, 0, 0, 0, 0, 0, 0],
+        OPACITY => [DIESEL, AC2, FUEL, 1, M_OR_N, AC2, CATEGORY, 2, 0, 0, 0, 0],
         _ => NO_REASONS,
     }
 }

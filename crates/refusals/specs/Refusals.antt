@@ -36,7 +36,7 @@ numberOf DifferenceRule = 13
 numberOf IdentificationForm = 14
 -- answer differs from gas
 numberOf IdentificationDiffers = 15
--- file not 1 to 5; axles not 1 to 9, or not 0
+-- no such file; axles not 1 to 9, or not 0
 numberOf FileOrAxles = 16
 -- start plus length of a pair is above the text's length
 numberOf PairOutside = 17

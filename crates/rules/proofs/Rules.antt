@@ -11,7 +11,7 @@ use Rattle.kinds.specs.Value.{wordIndex, isWord}
 use Rattle.places.specs.Places.{startOf, lengthOf, pairsAt, valueOf}
 use Rattle.tables.specs.Section.{entriesOf}
 use Rattle.tables.specs.Entries.{newBooking, oldBooking, tester, protocol, measurement, sixteen, driftAxle, suspensionAxle, analyser, counter, speedTest, allKeyDates, allKeyBodies, analysis, fuelAnalysis}
-use Rattle.tables.specs.File.{File, ac2, acc, drift, suspension, gas, fixedSections, axleEntries, axlesFrom, axleSections, sections, entries, room, rooms, firstPair}
+use Rattle.tables.specs.File.{File, ac2, acc, drift, suspension, gas, opacity, fixedSections, axleEntries, axlesFrom, axleSections, sections, entries, room, rooms, firstPair}
 use Rattle.tables.specs.Value.{placeOf, axlePlaceOf, valuesOf, Held, pairOf}
 use Rattle.due.specs.Booking.{bookingIn}
 use Rattle.due.specs.Conditions.{isSerialLink, isSerial}
@@ -28,7 +28,7 @@ use Rattle.rules.specs.declared.RuleCheck.the-variants.{Kept}
 use Rattle.refusals.specs.declared.RefusalKind.the-variants.{BookingRule, DifferenceRule}
 use Rattle.places.proofs.Values.{within-at, value-length}
 use Rattle.tables.proofs.Numbers.{first-pairs}
-use Rattle.tables.proofs.Values.{drift-pairs, suspension-pairs, gas-code, value-held, drift-count, suspension-count, gas-count}
+use Rattle.tables.proofs.Values.{drift-pairs, suspension-pairs, gas-code, opacity-code, value-held, drift-count, suspension-count, gas-count, opacity-count}
 
 -- ---- names to pairs
 
@@ -126,6 +126,10 @@ module _ (t p : List ℕ) (a : List (List ℕ)) (n : ℕ) where
   unfolding rulesOf firstBroken
   gas-rules = refl
 
+  pub opacity-rules : firstBroken opacity (rulesOf opacity a (valuesOf opacity n t p) n) ≡ Kept
+  unfolding rulesOf firstBroken
+  opacity-rules = refl
+
   pub old-any : Held acc n t p → Held acc 0 t p
   unfolding entries sections fixedSections axleSections entriesOf
   old-any h = h
@@ -148,6 +152,9 @@ module _ (n : ℕ) (t p : List ℕ) where
 
   pub gas-marked : Held gas n t p → isMarked gas (valuesOf gas n t p) ≡ ltb 0 (lengthOf p 127)
   gas-marked h = marked-at gas n t p 127 gas-code (omega (arith, gas-code, first-pairs .4, gas-count n)) h
+
+  pub opacity-marked : Held opacity n t p → isMarked opacity (valuesOf opacity n t p) ≡ ltb 0 (lengthOf p 189)
+  opacity-marked h = marked-at opacity n t p 189 opacity-code (omega (arith, opacity-code, first-pairs .11, opacity-count n)) h
 
   pub new-marked : isMarked ac2 (valuesOf ac2 n t p) ≡ false
   unfolding isMarked placeOf wordIndex sameBytes entries sections fixedSections axleSections entriesOf newBooking pairsAt firstPair rooms

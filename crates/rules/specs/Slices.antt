@@ -1,13 +1,14 @@
--- The stem, which slices are due, and which files are read (01, Due entries and Judging: rows 2 and 11).
+-- The stem, which slices are due, and which files are read (01, Due entries and Judging: rows 2 and 11; 02, 2/14).
 use Prim.Native.Nat.{ℕ}
 use mathlib.Core.Bool.{Bool, true, cond, not, _&&_, _||_}
 use mathlib.Core.List.{List}
 use lib.Dec.{leb, eqb}
 use lib.ListN.{length, getD, drop}
 use Rattle.kinds.specs.Digits.{allDigits}
-use Rattle.tables.specs.File.{File, ac2, acc, drift, suspension, gas}
-use Rattle.due.specs.Booking.{isL, isPetrol}
+use Rattle.tables.specs.File.{File, ac2, acc, drift, suspension, gas, opacity}
+use Rattle.due.specs.Booking.{isL, isPetrol, isDiesel}
 use Rattle.due.specs.Conditions.{isSerial}
+use Rattle.due.specs.Due.{isMorN}
 use Rattle.due.specs.declared.Booking.{Booking}
 use Rattle.rules.specs.declared.Stated.{Stated}
 
@@ -30,6 +31,10 @@ exactly due given = cond due given (not given)
 unfoldable pub oldBookingRight : Stated → ℕ → Bool → Bool
 oldBookingRight s category given = not given || (not (isL category) || s .nine)
 
+-- 02, 2/14: "given exactly when AC2 has DIESEL with an M or N category"
+unfoldable pub opacityDue : Booking → Bool
+opacityDue b = isDiesel (b .fuel) && isMorN (b .category)
+
 -- "Gas is given exactly when AC2 has BENZINA (ours); .. the rest, but AC2, is optional", ACC with the clause on the stem
 unfoldable pub sliceRight : File → Stated → Booking → Bool → Bool
 sliceRight ac2 s b given = given
@@ -37,6 +42,7 @@ sliceRight acc s b given = oldBookingRight s (b .category) given
 sliceRight drift s b given = true
 sliceRight suspension s b given = true
 sliceRight gas s b given = exactly (isPetrol (b .fuel)) given
+sliceRight opacity s b given = exactly (opacityDue b) given
 
 -- 01, Judging: "each file that is read (every given one, but ACC with L)"
 unfoldable pub isRead : File → Booking → Bool → Bool
@@ -45,6 +51,7 @@ isRead acc b given = given && not (isL (b .category))
 isRead drift b given = given
 isRead suspension b given = given
 isRead gas b given = given
+isRead opacity b given = given
 
 -- "slice 6 exactly when gas has RS SENZA ESITO": when gas is given and has it
 unfoldable pub identificationRight : Bool → List (List ℕ) → Bool → Bool

@@ -25,6 +25,7 @@ use tables::AC2;
 use tables::ACC;
 use tables::DRIFT;
 use tables::GAS;
+use tables::OPACITY;
 use tables::SUSPENSION;
 
 // The word that TipoVeicolo must be.
@@ -101,6 +102,7 @@ pub fn first_broken(
         DRIFT => RuleCheck::Kept,
         SUSPENSION => differences::check_differences(axles, text, places),
         GAS => RuleCheck::Kept,
+        OPACITY => RuleCheck::Kept,
         _ => RuleCheck::Kept,
     }
 }

@@ -6,6 +6,7 @@ ghost use Rattle.tables.specs.Value.{valuesOf, NumberHeld};
 ghost use Rattle.rules.specs.Marks.{isMarked};
 use tables::DRIFT;
 use tables::GAS;
+use tables::OPACITY;
 use tables::SUSPENSION;
 use tables::pairs;
 
@@ -18,6 +19,7 @@ pub fn is_marked(file: u32, axles: usize, text: &[u8], places: &[u32]) -> bool
         DRIFT => places::length_of(places, pairs::DRIFT_COD_ERRORE) > 0,
         SUSPENSION => places::length_of(places, pairs::SUSPENSION_COD_ERRORE) > 0,
         GAS => places::length_of(places, pairs::GAS_COD_ERRORE) > 0,
+        OPACITY => places::length_of(places, pairs::OPACITY_COD_ERRORE) > 0,
         _ => false,
     }
 }

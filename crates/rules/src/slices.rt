@@ -6,11 +6,12 @@ ghost use lib.Dec.{ltb};
 ghost use lib.ListN.{length};
 ghost use Rattle.tables.specs.File.{gas, ofNumber};
 ghost use Rattle.tables.specs.Value.{valuesOf, Held};
-ghost use Rattle.rules.specs.Slices.{isCapital, goodStem, statedOf, exactly, oldBookingRight, sliceRight, isRead, identificationRight};
+ghost use Rattle.rules.specs.Slices.{isCapital, goodStem, statedOf, exactly, oldBookingRight, opacityDue, sliceRight, isRead, identificationRight};
 use crate::Stated;
 use tables::AC2;
 use tables::ACC;
 use tables::GAS;
+use tables::OPACITY;
 use tables::pairs;
 
 fn is_capital(c: u8) -> bool
@@ -67,6 +68,17 @@ fn old_booking_right(stated: Stated, category: usize, given: bool) -> bool
     stated.nine
 }
 
+// DIESEL with a category M or N
+fn opacity_due(b: due::Booking) -> bool
+    ensures { λ r. ⌜ r ≡ opacityDue b ⌝ }
+{
+    let fuel = b.fuel;
+    if due::is_diesel(fuel) {
+        return due::is_m_or_n(b.category);
+    }
+    false
+}
+
 // 11 of the file of this number.
 pub fn slice_right(file: u32, stated: Stated, booking: due::Booking, given: bool) -> bool
     ensures { λ r. ⌜ r ≡ ofNumber true (λ f. sliceRight f stated booking given) file ⌝ }
@@ -78,6 +90,7 @@ pub fn slice_right(file: u32, stated: Stated, booking: due::Booking, given: bool
             let fuel = booking.fuel;
             is_exactly(due::is_petrol(fuel), given)
         }
+        OPACITY => is_exactly(opacity_due(booking), given),
         _ => true,
     }
 }

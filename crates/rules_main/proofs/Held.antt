@@ -11,7 +11,7 @@ use lib.ListN.{length}
 use Rattle.places.specs.Places.{startOf, lengthOf, pairsAt, Within}
 use Rattle.tables.specs.File.{File, ac2, gas, entries, firstPair, fileNumber, ofNumber}
 use Rattle.tables.specs.Value.{Held, NumberHeld}
-use Rattle.tables.proofs.Files.{of-number, of-others}
+use Rattle.tables.proofs.Files.{of-number, NoFile, of-none}
 use Rattle.tables.proofs.Values.{number-held}
 
 -- ---- pairs one after the other
@@ -39,16 +39,13 @@ more-within t p a (suc n) w h =
 
 module _ (m n r : ℕ) where
   abbrev pub Counts : Type 0
-  Counts = (r ≡ ofNumber 0 (λ (f : File). length (entries f n)) m) × (ofNumber 0 firstPair m + r ≤ 139)
+  Counts = (r ≡ ofNumber 0 (λ (f : File). length (entries f n)) m) × (ofNumber 0 firstPair m + r ≤ 194)
 
-  pub counts : (f : File) → m ≡ fileNumber f → r ≡ length (entries f n) → firstPair f + r ≤ 139 → Counts
+  pub counts : (f : File) → m ≡ fileNumber f → r ≡ length (entries f n) → firstPair f + r ≤ 194 → Counts
   counts f e h l = (h ∙ sym (of-number 0 (λ (f : File). length (entries f n)) f m e), rw (of-number 0 firstPair f m e) l)
 
-pub no-counts : (m n : ℕ) → (m ≡ 1 → ⊥) → (m ≡ 2 → ⊥) → (m ≡ 3 → ⊥) → (m ≡ 4 → ⊥) → (m ≡ 5 → ⊥) → Counts m n 0
-no-counts m n h1 h2 h3 h4 h5 =
-    let a = of-others 0 (λ (f : File). length (entries f n)) m (λ e. absurd (h1 e)) (λ e. absurd (h2 e)) (λ e. absurd (h3 e)) (λ e. absurd (h4 e)) (λ e. absurd (h5 e)) in
-    let b = of-others 0 firstPair m (λ e. absurd (h1 e)) (λ e. absurd (h2 e)) (λ e. absurd (h3 e)) (λ e. absurd (h4 e)) (λ e. absurd (h5 e)) in
-    (sym a, rw b (omega arith))
+pub no-counts : (m n : ℕ) → NoFile m → Counts m n 0
+no-counts m n h = (sym (of-none 0 (λ (f : File). length (entries f n)) m h), rw (of-none 0 firstPair m h) (omega arith))
 
 -- ---- AC2 and gas by their numbers
 

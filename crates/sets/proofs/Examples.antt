@@ -1,4 +1,4 @@
--- Lawful records are there: two of them, each with a set that it fits, by computation. Assumes nothing.
+-- Lawful records are there: three of them, each with a set that it fits, by computation; and sets that none fits. Assumes nothing.
 use Prim.Native.Nat.{ℕ}
 use Prim.Native.String.{String}
 use mathlib.Core.Path.{_≡_, refl, ap, _∙_, subst}
@@ -13,6 +13,7 @@ use Rattle.refusals.specs.Answer.{acceptance}
 use Rattle.places.specs.Places.{Pair, valueAt}
 use Rattle.reading.specs.Tables.{mostBytes}
 use Rattle.files.specs.Files.{readBy, readFile, axlesOf}
+use Rattle.files.proofs.Theorem.{file-unique}
 use Rattle.rules.specs.declared.Stated.{Stated}
 use Rattle.lines.specs.Bytes.{sameBytes, allPrintable, without}
 use Rattle.lines.specs.Line.{Line, heading, entry, textOf, wellFormed, allWellFormed}
@@ -20,10 +21,10 @@ use Rattle.lines.specs.Layout.{Layout, layoutOf}
 use Rattle.kinds.specs.Kind.{words}
 use Rattle.kinds.specs.Digits.{allDigits, numberFrom}
 use Rattle.kinds.specs.Meaning.{dayNumber}
-use Rattle.kinds.specs.Value.{isString, isExact, isNumber, isFixed, isLeap, daysIn, isYear, isGregorian, areDigits, isDay, isTime, wordIndex, isWord, startsWith, isDrift, isRevs, isFirstDate, isFirstDay, allSorN, isPositions, kindOk, kindKept}
+use Rattle.kinds.specs.Value.{isString, isExact, isNumber, isFixed, isLeap, daysIn, isYear, isGregorian, areDigits, isDay, isTime, wordIndex, isWord, startsWith, isDrift, bare, isTemperature, isPlate, isFirstDate, isFirstDay, allSorN, isPositions, kindOk, kindKept}
 use Rattle.tables.specs.Section.{entriesOf}
-use Rattle.tables.specs.Entries.{newBooking, oldBooking, tester, protocol, measurement, sixteen, driftAxle, suspensionAxle, analyser, counter, speedTest, allKeyDates, allKeyBodies, analysis, fuelAnalysis}
-use Rattle.tables.specs.File.{File, ac2, acc, drift, suspension, gas, allSections, fixedSections, axleEntries, axlesFrom, axleSections, sections, leastSections, entries}
+use Rattle.tables.specs.Entries.{newBooking, oldBooking, tester, protocol, measurement, sixteen, driftAxle, suspensionAxle, analyser, counter, speedTest, allKeyDates, allKeyBodies, analysis, fuelAnalysis, opacimeter, opacityTest, opacityKeys, opacityAnalysis}
+use Rattle.tables.specs.File.{File, ac2, acc, drift, suspension, gas, opacity, allSections, fixedSections, axleEntries, axlesFrom, axleSections, sections, leastSections, entries}
 use Rattle.tables.specs.Row.{rowCount, rowAt}
 use Rattle.tables.specs.Value.{placeOf, axlePlaceOf}
 use Rattle.reading.specs.Reading.{Reading, read, refused, readScan, readText, emptySlots, scan, firstWrong, firstAbsent, ownerRow}
@@ -34,14 +35,14 @@ use Rattle.rules.specs.Rule.{firstBroken}
 use Rattle.rules.specs.Rules.{rulesOf}
 use Rattle.rules.specs.Bookings.{typeOf, parkingBrakeFits, newRules, descriptionsOf, yearFits, directiveOf, periodAt, periodOf, dieselFits, fuelFits, oldBrakeFits, numberIs, countOf, parkingAxlesFit, oldRules}
 use Rattle.rules.specs.Differences.{differenceFits, differencesFrom}
-use Rattle.rules.specs.Slices.{statedOf, oldBookingRight, sliceRight, isRead, identificationRight}
+use Rattle.rules.specs.Slices.{statedOf, oldBookingRight, opacityDue, sliceRight, isRead, identificationRight}
 use Rattle.rules.specs.Identification.{sevenOf}
 use Rattle.serial.specs.Identification.{separated, sum, hexDigit, checksum, identificationOf, addressOk, fieldOk, allFieldsOk, sevenOk}
 use Rattle.sets.specs.Records.{Slices, eachFile, slicesOf, isGiven, Record, Lawful, Fits}
 use Rattle.sets.specs.Judge.{passed, fileChecks, firstFailed, FileRead, notRead, judgeFile, judgeIdentification, SetRead}
 use Rattle.sets.proofs.File.{file-sound, file-accepted}
 use Rattle.sets.proofs.Identification.{identification-sound, identification-complete}
-use Rattle.sets.proofs.Set.{recordOf, same-record, of-each, SetPassed, passed-lawful, passed-fits}
+use Rattle.sets.proofs.Set.{recordOf, same-record, of-each, SetPassed, passed-lawful, passed-fits, file-of}
 
 abbrev h : String → Line
 h s = heading (bytes s)
@@ -133,18 +134,18 @@ abbrev pub motorcycleStem : List ℕ
 motorcycleStem = bytes "AA912345"
 
 abbrev pub motorcycleSet : Slices
-motorcycleSet = slicesOf (textOf motorcycle) (bytes "no line") [] [] [] []
+motorcycleSet = slicesOf (textOf motorcycle) (bytes "no line") [] [] [] [] []
 
 abbrev pub motorcycleRecord : Record
 motorcycleRecord = record {
-  given = eachFile true true false false false;
+  given = eachFile true true false false false false;
   identificationGiven = false;
   axles = λ f. 0;
-  values = eachFile motorcycleValues [] [] [] [];
+  values = eachFile motorcycleValues [] [] [] [] [];
   address = [];
 }
 
--- ---- a petrol car with all six slices: RS SENZA ESITO, version 210, CodErrore filled in drift, sections and entries in another order
+-- ---- a petrol car with slices 1 to 6: RS SENZA ESITO, version 210, CodErrore filled in drift, sections and entries in another order
 
 abbrev pub carNew : List Line
 carNew =
@@ -316,18 +317,125 @@ abbrev pub carIdentification : List ℕ
 carIdentification = 2 ∷ bytes "GAS" ++ (23 ∷ bytes "12" ++ (23 ∷ bytes "ID" ++ (23 ∷ bytes "BETA" ++ (23 ∷ bytes "A2" ++ (23 ∷ bytes "OM77" ++ (23 ∷ bytes "77" ++ (23 ∷ bytes "30062025" ++ (23 ∷ bytes "2.1" ++ (23 ∷ bytes "210" ++ (bytes "57" ++ (3 ∷ [])))))))))))
 
 abbrev pub carSet : Slices
-carSet = slicesOf (textOf carNew) (textOf carOld) (textOf carDrift) (textOf carSuspension) (textOf carGas) carIdentification
+carSet = slicesOf (textOf carNew) (textOf carOld) (textOf carDrift) (textOf carSuspension) (textOf carGas) carIdentification []
 
 abbrev pub carValues : File → List (List ℕ)
-carValues = eachFile carNewValues carOldValues carDriftValues carSuspensionValues carGasValues
+carValues = eachFile carNewValues carOldValues carDriftValues carSuspensionValues carGasValues []
 
 abbrev pub carRecord : Record
 carRecord = record {
-  given = λ f. true;
+  given = eachFile true true true true true false;
   identificationGiven = true;
-  axles = eachFile 0 0 2 1 0;
+  axles = eachFile 0 0 2 1 0 0;
   values = carValues;
   address = bytes "12";
+}
+
+-- ---- a diesel van with opacity, of document 02: RS SENZA ESITO with version 200, the rev counter ESTERNO with 210, CodErrore filled, and
+-- the entries in another order
+
+abbrev pub vanNew : List Line
+vanNew =
+    h "[DatiLibrettoVeicolo]" ∷
+    e "TipoVeicolo" "LEGGERO" ∷
+    e "CorrettorePressione" "N" ∷
+    e "AzionamentoFrenoStazionamento" "MANO" ∷
+    e "TargaNominale" "FG456HJ" ∷
+    e "Turbo" "S" ∷
+    e "PosAssiStaz" "NSNNNNNNN" ∷
+    e "DataPrimaImm" "20032015" ∷
+    e "Alimentazione_1" "DIESEL" ∷
+    e "CategoriaInternazionale" "N1" ∷
+    e "DirettivaEmissioniGasBenzinaAuto" "" ∷
+    e "DirettivaEmissioniGasMotociclo" "" ∷
+    e "CodiceCIC" "" ∷ []
+
+abbrev pub vanNewValues : List (List ℕ)
+vanNewValues =
+    map bytes (
+    "FG456HJ" ∷ "LEGGERO" ∷ "N1" ∷ "" ∷ "20032015" ∷ "DIESEL" ∷ "S" ∷ "N" ∷ "" ∷ "" ∷ "MANO" ∷ "NSNNNNNNN" ∷ [])
+
+abbrev pub vanOpacity : List Line
+vanOpacity =
+    h "[AnalisiOpacita]" ∷
+    e "PressAtmosferica" "101.3" ∷
+    e "ValoreK3" "0.43" ∷
+    e "DataScadenzaContagiri" "30062025" ∷
+    e "ValoreK1" "0.45" ∷
+    e "ChecksumContagiriRS" "" ∷
+    e "ValoreK8" "" ∷
+    e "MarcaOpacimetro" "BETA" ∷
+    e "Note" "" ∷
+    e "NumVersioneProtocollo" "200" ∷
+    e "TempMinOlioMotore" "" ∷
+    e "DataMisura" "02032024" ∷
+    e "NumVersSoftwareContagiri" "3.0" ∷
+    e "NumOmologaContagiri" "OM9" ∷
+    e "LimiteK" "2.5" ∷
+    e "InizioMisura" "103000" ∷
+    e "UmiditaRelativa" "#60" ∷
+    e "NumGiriMotoreMaxMis" "4480" ∷
+    e "IDChiaveContagiriRS" "AB12C" ∷
+    e "FineMisura" "104000" ∷
+    e "ModuloChiaveRS" "" ∷
+    e "DirettivaEmissioni" "715/2007" ∷
+    e "EsponenteChiaveRS" "" ∷
+    e "DataRegChiaveContagiriRS" "01022023" ∷
+    e "ModuloChiaveContagiriRS" "MIGfMA0GCSqGSIb3DQEBAQUAA4GNADCBiQKBgQC7MIGfMA0GCSqGSIb3DQEBAQUAA4GNADCBiQKBgQC7MIGfMA0GCSqGSIb3DQEBAQUAA4GNADCBiQKBgQC7MIGfMA0GCSqGSIb3DQEBAQUAA4GNADCBiQKBgQC7MIGfMA0GCSqG" ∷
+    e "TipoCollegamentoContagiri" "ESTERNO" ∷
+    e "TipoCollegamento" "RS SENZA ESITO" ∷
+    e "ValoreK7" "" ∷
+    e "TipoOpacimetro" "O5" ∷
+    e "NumGiriMotoreMinMis" "820" ∷
+    e "OpacitaMedia" "0.43" ∷
+    e "Operatore" "ROSSI" ∷
+    e "Targa" "FG456HJ" ∷
+    e "TipoContagiri" "G3" ∷
+    e "ChecksumRS" "5F2A" ∷
+    e "CircolareApplicata" "C1" ∷
+    e "IDChiaveRS" "" ∷
+    e "NumGiriMotoreMax" "#4500" ∷
+    e "EsponenteChiaveContagiriRS" "AQAB" ∷
+    e "ValoreK5" "" ∷
+    e "ValoreK6" "" ∷
+    e "DataScadenzaOpacimetro" "30062025" ∷
+    e "NumOmologaOpacimetro" "OM55" ∷
+    e "NumVersioneProtocolloContagiri" "210" ∷
+    e "TempAmbiente" "-5" ∷
+    e "CodErrore" "E7" ∷
+    e "DataVersioneProtocollo" "01012020" ∷
+    e "ValoreK2" "0.41" ∷
+    e "MarcaContagiri" "GIRI" ∷
+    e "Esito" "R" ∷
+    e "NumVersSoftwareOpacimetro" "1.4" ∷
+    e "NumSerieOpacimetro" "501" ∷
+    e "DataRegChiaveRS" "" ∷
+    e "ValoreK4" "" ∷
+    e "NumSerieContagiri" "9" ∷
+    e "TempOlioMotore" "#85.0" ∷ []
+
+abbrev pub vanOpacityValues : List (List ℕ)
+vanOpacityValues =
+    map bytes (
+    "BETA" ∷ "O5" ∷ "OM55" ∷ "501" ∷ "1.4" ∷ "30062025" ∷ "GIRI" ∷ "G3" ∷ "OM9" ∷ "9" ∷ "3.0" ∷ "30062025" ∷ "ESTERNO" ∷ "210" ∷ "FG456HJ" ∷
+    "#4500" ∷ "2.5" ∷ "715/2007" ∷ "820" ∷ "4480" ∷ "#85.0" ∷ "" ∷ "0.45" ∷ "0.41" ∷ "0.43" ∷ "" ∷ "" ∷ "" ∷ "" ∷ "" ∷ "0.43" ∷ "101.3" ∷ "-5" ∷
+    "#60" ∷ "R" ∷ "" ∷ "200" ∷ "01012020" ∷ "RS SENZA ESITO" ∷ "C1" ∷ "" ∷ "" ∷ "AB12C" ∷ "01022023" ∷ "5F2A" ∷ "" ∷ "" ∷ "" ∷
+    "MIGfMA0GCSqGSIb3DQEBAQUAA4GNADCBiQKBgQC7MIGfMA0GCSqGSIb3DQEBAQUAA4GNADCBiQKBgQC7MIGfMA0GCSqGSIb3DQEBAQUAA4GNADCBiQKBgQC7MIGfMA0GCSqGSIb3DQEBAQUAA4GNADCBiQKBgQC7MIGfMA0GCSqG" ∷
+    "AQAB" ∷ "E7" ∷ "02032024" ∷ "103000" ∷ "104000" ∷ "ROSSI" ∷ [])
+
+abbrev pub vanStem : List ℕ
+vanStem = bytes "CD654321"
+
+abbrev pub vanSet : Slices
+vanSet = slicesOf (textOf vanNew) [] [] [] [] [] (textOf vanOpacity)
+
+abbrev pub vanRecord : Record
+vanRecord = record {
+  given = eachFile true false false false false true;
+  identificationGiven = false;
+  axles = λ f. 0;
+  values = eachFile vanNewValues [] [] [] [] vanOpacityValues;
+  address = [];
 }
 
 -- ---- by computation
@@ -337,6 +445,9 @@ motorcycleStated = statedOf motorcycleStem
 
 abbrev carStated : Stated
 carStated = statedOf carStem
+
+abbrev vanStated : Stated
+vanStated = statedOf vanStem
 
 computed :
     Computed ac2 motorcycleStated motorcycleValues motorcycle 1 motorcycleValues
@@ -354,7 +465,16 @@ computed :
     × (addressOk (bytes "12") ≡ true)
     × (carIdentification ≡ identificationOf (bytes "12") (sevenOf carGasValues))
     × (sevenOk (sevenOf carGasValues) ≡ true)
-unfolding sameBytes allPrintable without textOf wellFormed allWellFormed layoutOf words allDigits numberFrom dayNumber isString isExact isNumber isFixed isLeap daysIn isYear isGregorian areDigits isDay isTime wordIndex isWord startsWith isDrift isRevs isFirstDate isFirstDay allSorN isPositions kindOk kindKept entriesOf newBooking oldBooking tester protocol measurement sixteen driftAxle suspensionAxle analyser counter speedTest allKeyDates allKeyBodies analysis fuelAnalysis fixedSections axleEntries axlesFrom axleSections sections leastSections entries rowCount rowAt placeOf axlePlaceOf scan firstWrong firstAbsent ownerRow isM isN isO isL fuelIn isLate bookingIn versionIn linksIn conditionsOf exceptions conditionOf conditionAt isMoped isMotorcycle isMorN conditionP holdsIn dueOf firstNotAsDueFrom firstNotAsDue firstBroken rulesOf typeOf parkingBrakeFits newRules descriptionsOf yearFits directiveOf periodAt periodOf dieselFits fuelFits oldBrakeFits numberIs countOf parkingAxlesFit oldRules differenceFits differencesFrom statedOf oldBookingRight sliceRight isRead isSerialLink identificationRight sevenOf separated sum hexDigit checksum identificationOf addressOk fieldOk allFieldsOk sevenOk judgeFile judgeIdentification
+    × (judgeFile opacity motorcycleStated motorcycleValues [] ≡ acceptance notRead)
+    × (judgeFile opacity carStated carNewValues [] ≡ acceptance notRead)
+    × Computed ac2 vanStated vanNewValues vanNew 1 vanNewValues
+    × (judgeFile acc vanStated vanNewValues [] ≡ acceptance notRead)
+    × (judgeFile drift vanStated vanNewValues [] ≡ acceptance notRead)
+    × (judgeFile suspension vanStated vanNewValues [] ≡ acceptance notRead)
+    × (judgeFile gas vanStated vanNewValues [] ≡ acceptance notRead)
+    × Computed opacity vanStated vanNewValues vanOpacity 1 vanOpacityValues
+    × (opacityDue (bookingIn vanNewValues) ≡ true)
+unfolding sameBytes allPrintable without textOf wellFormed allWellFormed layoutOf words allDigits numberFrom dayNumber isString isExact isNumber isFixed isLeap daysIn isYear isGregorian areDigits isDay isTime wordIndex isWord startsWith isDrift bare isTemperature isPlate isFirstDate isFirstDay allSorN isPositions kindOk kindKept entriesOf newBooking oldBooking tester protocol measurement sixteen driftAxle suspensionAxle analyser counter speedTest allKeyDates allKeyBodies analysis fuelAnalysis opacimeter opacityTest opacityKeys opacityAnalysis fixedSections axleEntries axlesFrom axleSections sections leastSections entries rowCount rowAt placeOf axlePlaceOf scan firstWrong firstAbsent ownerRow isM isN isO isL fuelIn isLate bookingIn versionIn linksIn conditionsOf exceptions conditionOf conditionAt isMoped isMotorcycle isMorN conditionP holdsIn dueOf firstNotAsDueFrom firstNotAsDue firstBroken rulesOf typeOf parkingBrakeFits newRules descriptionsOf yearFits directiveOf periodAt periodOf dieselFits fuelFits oldBrakeFits numberIs countOf parkingAxlesFit oldRules differenceFits differencesFrom statedOf oldBookingRight opacityDue sliceRight isRead isSerialLink identificationRight sevenOf separated sum hexDigit checksum identificationOf addressOk fieldOk allFieldsOk sevenOk judgeFile judgeIdentification
 computed = (
   record { slice = refl; is-read = refl; well-formed = refl; short = refl; reads = refl; values = refl; checks = refl },
   refl,
@@ -371,40 +491,65 @@ computed = (
   refl,
   refl,
   refl,
+  refl,
+  refl,
+  record { slice = refl; is-read = refl; well-formed = refl; short = refl; reads = refl; values = refl; checks = refl },
+  refl,
+  refl,
+  refl,
+  refl,
+  record { slice = refl; is-read = refl; well-formed = refl; short = refl; reads = refl; values = refl; checks = refl },
+  refl,
 )
 
 -- ---- the records
 
 abbrev motorcycleRead : File → FileRead
-motorcycleRead = eachFile (given ac2 motorcycle 1 motorcycleValues) notRead notRead notRead notRead
+motorcycleRead = eachFile (given ac2 motorcycle 1 motorcycleValues) notRead notRead notRead notRead notRead
 
 pub motorcycle-lawful : Lawful (statedOf motorcycleStem) motorcycleRecord × Fits motorcycleRecord motorcycleSet
 unfolding textOf fixedSections
 motorcycle-lawful =
     subst (λ (r : Record). Lawful motorcycleStated r × Fits r motorcycleSet)
-    (same-record _ motorcycleRecord (of-each _ refl refl refl refl refl) refl (of-each _ refl refl refl refl refl) (of-each _ refl refl refl refl refl) refl)
+    (same-record _ motorcycleRecord (of-each _ refl refl refl refl refl refl) refl (of-each _ refl refl refl refl refl refl) (of-each _ refl refl refl refl refl refl) refl)
     (record-fits motorcycleStated motorcycleSet (record { file = motorcycleRead; address = [] })
-    (of-each _ (computed-accepted ac2 motorcycleStated motorcycleValues motorcycle 1 motorcycleValues (computed .0)) (computed .1) (computed .2) (computed .3) (computed .4))
+    (of-each _ (computed-accepted ac2 motorcycleStated motorcycleValues motorcycle 1 motorcycleValues (computed .0)) (computed .1) (computed .2) (computed .3) (computed .4) (computed .15))
     (computed .5))
 
 abbrev carRead : File → FileRead
 carRead =
     eachFile (given ac2 carNew 1 carNewValues) (given acc carOld 1 carOldValues) (given drift carDrift 3 carDriftValues)
-    (given suspension carSuspension 2 carSuspensionValues) (given gas carGas 2 carGasValues)
+    (given suspension carSuspension 2 carSuspensionValues) (given gas carGas 2 carGasValues) notRead
 
 pub car-lawful : Lawful (statedOf carStem) carRecord × Fits carRecord carSet
 unfolding textOf fixedSections
 car-lawful =
     subst (λ (r : Record). Lawful carStated r × Fits r carSet)
-    (same-record _ carRecord (of-each _ refl refl refl refl refl) refl (of-each _ refl refl refl refl refl) (of-each _ refl refl refl refl refl) refl)
+    (same-record _ carRecord (of-each _ refl refl refl refl refl refl) refl (of-each _ refl refl refl refl refl refl) (of-each _ refl refl refl refl refl refl) refl)
     (record-fits carStated carSet (record { file = carRead; address = bytes "12" })
     (of-each _
     (computed-accepted ac2 carStated carNewValues carNew 1 carNewValues (computed .6))
     (computed-accepted acc carStated carNewValues carOld 1 carOldValues (computed .7))
     (computed-accepted drift carStated carNewValues carDrift 3 carDriftValues (computed .8))
     (computed-accepted suspension carStated carNewValues carSuspension 2 carSuspensionValues (computed .9))
-    (computed-accepted gas carStated carNewValues carGas 2 carGasValues (computed .10)))
+    (computed-accepted gas carStated carNewValues carGas 2 carGasValues (computed .10))
+    (computed .16))
     (identification-complete true carGasValues true carIdentification (bytes "12") refl (computed .11) (computed .12) (λ q. (computed .13, computed .14))))
+
+abbrev vanRead : File → FileRead
+vanRead = eachFile (given ac2 vanNew 1 vanNewValues) notRead notRead notRead notRead (given opacity vanOpacity 1 vanOpacityValues)
+
+pub van-lawful : Lawful (statedOf vanStem) vanRecord × Fits vanRecord vanSet
+unfolding textOf fixedSections
+van-lawful =
+    subst (λ (r : Record). Lawful vanStated r × Fits r vanSet)
+    (same-record _ vanRecord (of-each _ refl refl refl refl refl refl) refl (of-each _ refl refl refl refl refl refl) (of-each _ refl refl refl refl refl refl) refl)
+    (record-fits vanStated vanSet (record { file = vanRead; address = [] })
+    (of-each _
+    (computed-accepted ac2 vanStated vanNewValues vanNew 1 vanNewValues (computed .17))
+    (computed .18) (computed .19) (computed .20) (computed .21)
+    (computed-accepted opacity vanStated vanNewValues vanOpacity 1 vanOpacityValues (computed .22)))
+    (computed .5))
 
 -- ---- not every set has one
 
@@ -414,3 +559,19 @@ unfolding sliceRight
 no-booking st r s none l f =
     let given : false ≡ true = rw (f .given ac2, none) at (l .slices ac2) in
     clash (cc)
+
+-- 02, 2/14: a record whose AC2 is of an M or N diesel fits no set without opacity
+pub without-opacity : (st : Stated) (r : Record) (s : Slices) → s .file opacity ≡ [] → opacityDue (bookingIn (r .values ac2)) ≡ true → Lawful st r → Fits r s → ⊥
+unfolding sliceRight
+without-opacity st r s none due l f =
+    let given : false ≡ true = rw (due, f .given opacity, none) at (l .slices opacity) in
+    clash (cc)
+
+-- so none fits the van's set with the opacity file left out, whatever else is given
+pub van-without : (st : Stated) (r : Record) (s : Slices) → s .file ac2 ≡ textOf vanNew → s .file opacity ≡ [] → Lawful st r → Fits r s → ⊥
+unfolding sliceRight isRead
+van-without st r s new none l f =
+    let mine = file-of st s r l f ac2 (l .slices ac2) .1 in
+    let vans = file-of vanStated vanSet vanRecord (van-lawful .0) (van-lawful .1) ac2 refl .1 in
+    let same : r .values ac2 ≡ vanNewValues = file-unique ac2 _ _ _ _ _ (rw new at mine) vans .1 in
+    without-opacity st r s none (rw same (computed .23)) l f

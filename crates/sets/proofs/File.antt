@@ -1,4 +1,4 @@
--- One file of a set: what the judge lets through is what is lawful and fits, for any of the five. Assumes nothing.
+-- One file of a set: what the judge lets through is what is lawful and fits, for any file. Assumes nothing.
 use Prim.Native.Nat.{ℕ, _<_}
 use native.Mathlib.Omega.{arith}
 use mathlib.Core.Path.{_≡_, refl, sym, subst}

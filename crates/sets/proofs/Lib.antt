@@ -7,3 +7,4 @@ pub mod Set
 pub mod Theorem
 pub mod Speeds
 pub mod Examples
+pub mod FirstSix

@@ -6,7 +6,7 @@ use mathlib.Core.List.{List, [], _∷_}
 use lib.ListN.{length, getD, drop}
 use Rattle.places.specs.Places.{Pair, placeSize, startOf, lengthOf, setPairs, pairsAt, cleared, Within}
 use Rattle.places.proofs.Laws.{set-length, numbers-before, numbers-after, pairs-set, drop-pairs, cleared-length, cleared-drop, cleared-zero}
-use Rattle.tables.specs.File.{File, ac2, acc, drift, suspension, gas, files, room, firstPair, leastPlaces}
+use Rattle.tables.specs.File.{File, ac2, acc, drift, suspension, gas, opacity, files, room, firstPair, leastPlaces}
 use Rattle.tables.proofs.Numbers.{first-pairs, room-in}
 use Rattle.sets.specs.Judge.{SetRead, setFiles}
 
@@ -52,7 +52,7 @@ chained = (
       omega (arith, first-pairs),
       (
         omega (arith, first-pairs),
-        (omega (arith, first-pairs), tt),
+        (omega (arith, first-pairs), (omega (arith, first-pairs), tt)),
       ),
     ),
   ),
@@ -68,6 +68,7 @@ among acc = there here
 among drift = there (there here)
 among suspension = there (there (there here))
 among gas = there (there (there (there here)))
+among opacity = there (there (there (there (there here))))
 
 starts-after : (k : ℕ) (fs : List File) → Chained k fs → (f : File) → Among f fs → k ≤ firstPair f
 starts-after k (_ ∷ fs) c f here = omega (arith, c)

@@ -5,7 +5,7 @@ use mathlib.Core.Bool.{Bool, true, false, true≢false, _&&_}
 use mathlib.Core.List.{List, [], _∷_}
 use Rattle.kinds.proofs.Laws.{and-true, by-test}
 use Rattle.refusals.specs.Answer.{acceptance, givenBy}
-use Rattle.tables.specs.File.{File, ac2, acc, drift, suspension, gas, hasAxles}
+use Rattle.tables.specs.File.{File, ac2, acc, drift, suspension, gas, opacity, hasAxles}
 use Rattle.files.specs.Files.{AxleCount, IsFile}
 use Rattle.due.specs.Booking.{bookingIn}
 use Rattle.due.specs.declared.Booking.{Booking}
@@ -35,12 +35,13 @@ pub same-record : (q r : Record) → ((f : File) → q .given f ≡ r .given f) 
 same-record q r a b c d e = λ i. record { given = λ f. a f i; identificationGiven = b i; axles = λ f. c f i; values = λ f. d f i; address = e i }
 
 -- what holds of each file
-pub of-each : (P : File → Type 0) → P ac2 → P acc → P drift → P suspension → P gas → (f : File) → P f
-of-each P a o d u g ac2 = a
-of-each P a o d u g acc = o
-of-each P a o d u g drift = d
-of-each P a o d u g suspension = u
-of-each P a o d u g gas = g
+pub of-each : (P : File → Type 0) → P ac2 → P acc → P drift → P suspension → P gas → P opacity → (f : File) → P f
+of-each P a o d u g y ac2 = a
+of-each P a o d u g y acc = o
+of-each P a o d u g y drift = d
+of-each P a o d u g y suspension = u
+of-each P a o d u g y gas = g
+of-each P a o d u g y opacity = y
 
 -- ---- a file that is read is given, and one that is not read has no axles
 
@@ -52,6 +53,7 @@ read-given acc b false e = e
 read-given drift b false e = e
 read-given suspension b false e = e
 read-given gas b false e = e
+read-given opacity b false e = e
 
 pub not-read : (f : File) (b : Booking) (given : Bool) → given ≡ false → isRead f b given ≡ false
 not-read f b given e = by-test (isRead f b given) (λ h. absurd (true≢false (sym (read-given f b given h) ∙ e))) (λ h. h)
@@ -63,6 +65,7 @@ no-axles acc b given e = refl
 no-axles drift b given e = e
 no-axles suspension b given e = e
 no-axles gas b given e = refl
+no-axles opacity b given e = refl
 
 -- ---- each slice by itself
 
@@ -98,6 +101,7 @@ module _ (st : Stated) (s : Slices) (a : List (List ℕ)) where
   all-files g e v w drift = w .1 .0
   all-files g e v w suspension = w .1 .1 .0
   all-files g e v w gas = w .1 .1 .1 .0
+  all-files g e v w opacity = w .1 .1 .1 .1 .1 .0
 
 -- a set that passed
 pub record SetPassed (st : Stated) (s : Slices) (x : SetRead) : Type 0 where
@@ -168,7 +172,7 @@ module _ (st : Stated) (s : Slices) (r : Record) (l : Lawful st r) (h : Fits r s
   axles-none : (f : File) → NotRead r f → r .axles f ≡ 0
   axles-none f q = subst (λ (b : Bool). AxleCount b (r .axles f)) (no-axles f (bookingIn own) (r .given f) q) (l .counts f)
 
-  file-of : (f : File) → Read r f → RulesKept f own (r .axles f) (r .values f) × IsFile f (r .axles f) (r .values f) (s .file f)
+  pub file-of : (f : File) → Read r f → RulesKept f own (r .axles f) (r .values f) × IsFile f (r .axles f) (r .values f) (s .file f)
   file-of f q = (
     record { dues = l .dueEntries f q; rules = l .rules f q },
     record {

@@ -36,7 +36,7 @@ pub record Returned (r : Record) (s : Slices) (before : List ℕ) (answer : Answ
   pub used : (f : File) (i : ℕ) → i < length (r .values f) → Placed r s after f i
   -- "Unused pairs (of a file not read or an axle not there) are 0"
   pub unused : (f : File) (i : ℕ) → length (r .values f) ≤ i → i < room f → IsZero after f i
-  -- "numbers past 278 stay"
+  -- "numbers past 278 stay"; 388 from 02, 2/14 on
   pub beyond : drop leastPlaces after ≡ drop leastPlaces before
   pub same-length : length after ≡ length before
 
@@ -64,11 +64,11 @@ pub record Demand3 (caller : Caller) (s : Slices) (before : List ℕ) (answer : 
 
 -- what a judging leaves in the places, where `refused` says that the set was refused
 pub record Leaves (refused : Type 0) (before after : List ℕ) : Type 0 where
-  -- demand 1: "After a refused set the first 278 places .., if so many were lent, hold 0"
+  -- demand 1: "After a refused set the first 278 places (388 ..), if so many were lent, hold 0"
   pub zero : refused → leastPlaces ≤ length before → (j : ℕ) → j < leastPlaces → getD after j 0 ≡ 0
   -- row 1: "places too short; they stay"
   pub short : length before < leastPlaces → after ≡ before
-  -- "numbers past 278 stay"
+  -- "numbers past 278 stay"; 388 from 02, 2/14 on
   pub beyond : drop leastPlaces after ≡ drop leastPlaces before
   pub same-length : length after ≡ length before
 

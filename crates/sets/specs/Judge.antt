@@ -1,4 +1,4 @@
--- The judge of a set (01, Judging): the answer and the places, by one definition over the inputs.
+-- The judge of a set (01, Judging; 02, 2/14): the answer and the places, by one definition over the inputs.
 use Prim.Native.Nat.{ℕ}
 use mathlib.Core.Bool.{Bool, cond}
 use mathlib.Core.List.{List, [], _∷_, map}
@@ -7,7 +7,7 @@ use lib.ListN.{length, getD}
 use Rattle.places.specs.Places.{Pair, valueAt, setPairs, cleared}
 use Rattle.refusals.specs.Refusals.{numberOf}
 use Rattle.refusals.specs.Answer.{Answer, refusal, acceptance, refusalOf, require, followed, givenBy}
-use Rattle.tables.specs.File.{File, ac2, acc, drift, suspension, gas, files, fileNumber, identificationNumber, firstPair, leastPlaces}
+use Rattle.tables.specs.File.{File, ac2, acc, drift, suspension, gas, opacity, files, fileNumber, identificationNumber, firstPair, leastPlaces}
 use Rattle.reading.specs.Reading.{Reading, refused, read}
 use Rattle.files.specs.Files.{readFile, axlesOf, isByHand}
 use Rattle.due.specs.Booking.{bookingIn}
@@ -43,16 +43,17 @@ answerIs (Refused x) = refusalOf x
 abbrev pub figuresFrom : File → ℕ → List (List ℕ) → Figures
 figuresFrom f n vs = record { axles = n; mark = isMarked f vs; byhand = isByHand f vs }
 
--- "acceptance, with two axle counts (0 for a file not given) and a mark per result file": of drift, suspension and gas;
--- 02, 1/14: "acceptance carries that mark for the gas file"
-abbrev pub acceptanceWith : Figures → Figures → Figures → Acceptance
-acceptanceWith d u g = record {
+-- "acceptance, with two axle counts (0 for a file not given) and a mark per result file": of drift, suspension, gas and, by 02,
+-- 2/14, opacity; 02, 1/14: "acceptance carries that mark for the gas file", and with it alone
+abbrev pub acceptanceWith : Figures → Figures → Figures → Figures → Acceptance
+acceptanceWith d u g y = record {
   driftaxles = d .axles;
   suspensionaxles = u .axles;
   driftmark = d .mark;
   suspensionmark = u .mark;
   gasmark = g .mark;
   gasbyhand = g .byhand;
+  opacitymark = y .mark;
 }
 
 -- from the files' axle counts and values
@@ -62,6 +63,7 @@ acceptanceOf axles values =
     (figuresFrom drift (axles drift) (values drift))
     (figuresFrom suspension (axles suspension) (values suspension))
     (figuresFrom gas (axles gas) (values gas))
+    (figuresFrom opacity (axles opacity) (values opacity))
 
 -- ---- the checks of a file that is read
 
@@ -169,9 +171,9 @@ pub data Slice : Type 0 where
   fileSlice : File → Slice
   identificationSlice : Slice
 
--- "slices 1 to 6": those after AC2 in their order
+-- "slices 1 to 6": those after AC2 in their order; 02, 2/14: slice 7 "after slice 6"
 abbrev pub laterSlices : List Slice
-laterSlices = fileSlice acc ∷ fileSlice drift ∷ fileSlice suspension ∷ fileSlice gas ∷ identificationSlice ∷ []
+laterSlices = fileSlice acc ∷ fileSlice drift ∷ fileSlice suspension ∷ fileSlice gas ∷ identificationSlice ∷ fileSlice opacity ∷ []
 
 -- the first of these slices that is refused; where none is, x
 abbrev pub eachAccepted : {A : Type 0} → Stated → Slices → List (List ℕ) → List Slice → A → Answer A
@@ -179,22 +181,29 @@ eachAccepted stated s a [] x = acceptance x
 eachAccepted stated s a (fileSlice f ∷ cs) x = followed (fileStep stated s a f) (λ g. eachAccepted stated s a cs x)
 eachAccepted stated s a (identificationSlice ∷ cs) x = followed (identificationStep stated s a) (λ v. eachAccepted stated s a cs x)
 
--- AC2 first, then the others by its values
+-- AC2 first, then these slices by its values
+abbrev pub judgeThrough : List Slice → Stated → Slices → Answer SetRead
+judgeThrough cs stated s =
+    followed (judgeBooking (s .file ac2)) (λ b. eachAccepted stated s (b .values) cs (setRead stated s (b .values)))
+
 unfoldable pub judgeSlices : Stated → Slices → Answer SetRead
-judgeSlices stated s =
-    followed (judgeBooking (s .file ac2)) (λ b. eachAccepted stated s (b .values) laterSlices (setRead stated s (b .values)))
+judgeSlices stated s = judgeThrough laterSlices stated s
 
 -- the pairs of these files, each from its first pair on
 abbrev pub setFiles : List File → SetRead → List ℕ → List ℕ
 setFiles [] x p = p
 setFiles (f ∷ fs) x p = setFiles fs x (setPairs (firstPair f) (x .file f .pairs) p)
 
--- "Unused pairs .. are 0; numbers past 278 stay"; after a refusal all pairs are 0
-abbrev pub settled : List ℕ → Answer SetRead → Answer Acceptance × List ℕ
-settled p (refusal k f l) = (refusal k f l, cleared leastPlaces p)
-settled p (acceptance x) = (acceptance (acceptanceOf (λ f. x .file f .axles) (λ f. x .file f .values)), setFiles files x (cleared leastPlaces p))
+-- "Unused pairs .. are 0; numbers past 278 stay", from 02, 2/14 on 388; after a refusal all pairs are 0. Of these files, the pairs.
+abbrev pub settledBy : List File → List ℕ → Answer SetRead → Answer Acceptance × List ℕ
+settledBy fs p (refusal k f l) = (refusal k f l, cleared leastPlaces p)
+settledBy fs p (acceptance x) =
+    (acceptance (acceptanceOf (λ f. x .file f .axles) (λ f. x .file f .values)), setFiles fs x (cleared leastPlaces p))
 
--- "Order: 1, 2, then slices 1 to 6"; with 1 the places stay
+abbrev pub settled : List ℕ → Answer SetRead → Answer Acceptance × List ℕ
+settled p a = settledBy files p a
+
+-- "Order: 1, 2, then slices 1 to 6", then slice 7; with 1 the places stay
 unfoldable pub judge : Caller → Slices → List ℕ → Answer Acceptance × List ℕ
 judge caller s p =
     cond (leb leastPlaces (length p))

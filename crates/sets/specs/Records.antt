@@ -1,11 +1,11 @@
--- Records of a set: when one is lawful, and when it fits a set (01, Judging: "A lawful record ..").
+-- Records of a set: when one is lawful, and when it fits a set (01, Judging: "A lawful record .."; 02, 2/14).
 use Prim.Native.Nat.{ℕ, _<_}
 use mathlib.Core.Path.{_≡_}
 use mathlib.Core.Bool.{Bool, true, false, _&&_}
 use mathlib.Core.List.{List, []}
 use lib.Dec.{ltb}
 use lib.ListN.{length, getD}
-use Rattle.tables.specs.File.{File, ac2, acc, drift, suspension, gas, hasAxles, sections, entries}
+use Rattle.tables.specs.File.{File, ac2, acc, drift, suspension, gas, opacity, hasAxles, sections, entries}
 use Rattle.reading.specs.Fitting.{FitsText, EachKept}
 use Rattle.files.specs.Files.{AxleCount}
 use Rattle.due.specs.Booking.{bookingIn}
@@ -36,16 +36,17 @@ abbrev pub statedIn : Caller → Stated
 statedIn c = statedOf (c .stem)
 
 -- what there is for each file, in their order
-abbrev pub eachFile : {A : Type 0} → A → A → A → A → A → File → A
-eachFile a o d u g ac2 = a
-eachFile a o d u g acc = o
-eachFile a o d u g drift = d
-eachFile a o d u g suspension = u
-eachFile a o d u g gas = g
+abbrev pub eachFile : {A : Type 0} → A → A → A → A → A → A → File → A
+eachFile a o d u g y ac2 = a
+eachFile a o d u g y acc = o
+eachFile a o d u g y drift = d
+eachFile a o d u g y suspension = u
+eachFile a o d u g y gas = g
+eachFile a o d u g y opacity = y
 
--- "1 new booking (AC2), 2 old booking (ACC), 3 drift, 4 suspension, 5 gas, 6 the analyser's identification answer"
-abbrev pub slicesOf : List ℕ → List ℕ → List ℕ → List ℕ → List ℕ → List ℕ → Slices
-slicesOf a o d u g i = record { file = eachFile a o d u g; identification = i }
+-- "1 new booking (AC2), 2 old booking (ACC), 3 drift, 4 suspension, 5 gas, 6 the analyser's identification answer"; 02, 2/14: 7 opacity
+abbrev pub slicesOf : List ℕ → List ℕ → List ℕ → List ℕ → List ℕ → List ℕ → List ℕ → Slices
+slicesOf a o d u g i y = record { file = eachFile a o d u g y; identification = i }
 
 -- "An empty slice means "not given""
 abbrev pub isGiven : List ℕ → Bool

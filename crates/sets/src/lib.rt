@@ -8,8 +8,8 @@ pub struct Figures {
     pub byhand: bool,
 }
 
-// "acceptance, with two axle counts (0 for a file not given) and a mark per result file", and whether gas's idle speed
-// was entered by hand (02, 1/14).
+// "acceptance, with two axle counts (0 for a file not given) and a mark per result file", opacity's too (02, 2/14), and
+// whether gas's idle speed was entered by hand (02, 1/14).
 pub struct Acceptance {
     pub driftaxles: u32,
     pub suspensionaxles: u32,
@@ -17,6 +17,7 @@ pub struct Acceptance {
     pub suspensionmark: bool,
     pub gasmark: bool,
     pub gasbyhand: bool,
+    pub opacitymark: bool,
 }
 
 // The answer of a judged set.

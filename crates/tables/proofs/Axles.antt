@@ -17,6 +17,7 @@ use Rattle.tables.specs.File.{
   drift,
   suspension,
   gas,
+  opacity,
   hasAxles,
   mostAxles,
   fixedSections,
@@ -59,6 +60,7 @@ sections-fixed acc n e = refl
 sections-fixed drift n e = absurd (false≢true (sym e))
 sections-fixed suspension n e = absurd (false≢true (sym e))
 sections-fixed gas n e = refl
+sections-fixed opacity n e = refl
 
 pub sections-length : (f : File) (n : ℕ) → hasAxles f ≡ true → length (sections f n) ≡ length (fixedSections f) + n
 unfolding sections fixedSections axleSections
@@ -67,6 +69,7 @@ sections-length acc n e = absurd (false≢true e)
 sections-length drift n e = omega (arith, axles-length "[DerivaAsse_" (axleEntries drift) 1 n)
 sections-length suspension n e = omega (arith, axles-length "[SospensioniAsse_" (axleEntries suspension) 1 n)
 sections-length gas n e = absurd (false≢true e)
+sections-length opacity n e = absurd (false≢true e)
 
 -- with a section x before them
 prefix-after : (h : String) (es : List Entry) (x : Section) (n m : ℕ) → n ≤ m
@@ -80,6 +83,7 @@ sections-prefix acc n l = refl
 sections-prefix drift n l = prefix-after "[DerivaAsse_" (axleEntries drift) (sectionWith "[Deriva]" sixteen) n mostAxles l
 sections-prefix suspension n l = prefix-after "[SospensioniAsse_" (axleEntries suspension) (sectionWith "[Sospensioni]" sixteen) n mostAxles l
 sections-prefix gas n l = refl
+sections-prefix opacity n l = refl
 
 axle-entries-length : (f : File) (n : ℕ) → length (entriesOf (axleSections f n)) ≡ n * length (axleEntries f)
 unfolding axleSections axleEntries entriesOf
@@ -88,6 +92,7 @@ axle-entries-length acc n = omega arith
 axle-entries-length drift n = axles-entries "[DerivaAsse_" driftAxle 1 n
 axle-entries-length suspension n = axles-entries "[SospensioniAsse_" suspensionAxle 1 n
 axle-entries-length gas n = omega arith
+axle-entries-length opacity n = omega arith
 
 entries-sum : (f : File) (n : ℕ) → length (entries f n) ≡ length (entriesOf (fixedSections f)) + n * length (axleEntries f)
 unfolding entries sections

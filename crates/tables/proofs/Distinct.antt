@@ -13,7 +13,7 @@ use Rattle.lines.proofs.Bools.{and-left, and-right}
 use Rattle.kinds.specs.Value.{wordIndex}
 use Rattle.kinds.proofs.Laws.{by-test}
 use Rattle.tables.specs.Section.{Section}
-use Rattle.tables.specs.File.{File, ac2, acc, drift, suspension, gas, fixedSections, axleSections, axlesFrom, sections, allSections, tableOf}
+use Rattle.tables.specs.File.{File, ac2, acc, drift, suspension, gas, opacity, fixedSections, axleSections, axlesFrom, sections, allSections, tableOf}
 use Rattle.tables.specs.Row.{headings, headingAt, indexOf, sectionOf}
 use Rattle.tables.specs.Groups.{likelySection}
 use Rattle.tables.specs.Test.{distinct, distinctHeadings}
@@ -87,6 +87,7 @@ headings-likely acc = (refl, tt)
 headings-likely drift = (refl, (refl, (refl, (refl, (refl, (refl, (refl, (refl, (refl, (refl, tt))))))))))
 headings-likely suspension = (refl, (refl, (refl, (refl, (refl, (refl, (refl, (refl, (refl, (refl, tt))))))))))
 headings-likely gas = (refl, (refl, tt))
+headings-likely opacity = (refl, tt)
 
 pub heading-none : (n : ℕ) (s : List ℕ) → (likelySection s < length (tableOf n) → sameBytes s (headingAt (tableOf n) (likelySection s)) ≡ false) → sectionOf (tableOf n) s ≡ length (tableOf n)
 unfolding tableOf

@@ -26,6 +26,10 @@ use Rattle.tables.specs.Entries.{
   allKeyBodies,
   analysis,
   fuelAnalysis,
+  opacimeter,
+  opacityTest,
+  opacityKeys,
+  opacityAnalysis,
 }
 use Rattle.tables.specs.File.{
   File,
@@ -34,6 +38,7 @@ use Rattle.tables.specs.File.{
   drift,
   suspension,
   gas,
+  opacity,
   fileNumber,
   ofNumber,
   tableOf,
@@ -135,14 +140,16 @@ stands-no n c s e w =
 -- the first section's entries begin a group
 pub stands-first : (n : ℕ) → StandsAt n 0 0
 unfolding tableOf ofNumber group groupOf testers gasEntries sections fixedSections axleSections newBooking oldBooking tester protocol measurement sixteen driftAxle
-    suspensionAxle analyser counter speedTest allKeyDates allKeyBodies analysis fuelAnalysis
+    suspensionAxle analyser counter speedTest allKeyDates allKeyBodies analysis fuelAnalysis opacimeter opacityTest opacityKeys opacityAnalysis
 stands-first zero = stands-no 0 0 0 refl (omega arith)
 stands-first (suc zero) = stands ac2 refl 0 0 newBooking refl refl (omega arith)
 stands-first (suc (suc zero)) = stands acc refl 0 0 oldBooking refl refl (omega arith)
 stands-first (suc (suc (suc zero))) = stands drift refl 0 0 sixteen refl refl (omega arith)
 stands-first (suc (suc (suc (suc zero)))) = stands suspension refl 0 0 sixteen refl refl (omega arith)
 stands-first (suc (suc (suc (suc (suc zero))))) = stands gas refl 0 0 analysis refl refl (omega arith)
-stands-first (suc (suc (suc (suc (suc (suc n)))))) = stands-no (suc (suc (suc (suc (suc (suc n)))))) 0 0 refl (omega arith)
+stands-first (suc (suc (suc (suc (suc (suc zero)))))) = stands-no 6 0 0 refl (omega arith)
+stands-first (suc (suc (suc (suc (suc (suc (suc zero))))))) = stands opacity refl 0 0 opacityAnalysis refl refl (omega arith)
+stands-first (suc (suc (suc (suc (suc (suc (suc (suc n)))))))) = stands-no (suc (suc (suc (suc (suc (suc (suc (suc n)))))))) 0 0 refl (omega arith)
 
 module _ {n c : ℕ} (o : c ≡ 0 → ⊥) where
   pub stands-drift : n ≡ fileNumber drift → StandsAt n c 16
@@ -174,7 +181,9 @@ stands-other (suc (suc zero)) c o t = stands-none acc refl c 0 (omega arith) (om
 stands-other (suc (suc (suc zero))) c o t = absurd (t .0 .0 .1 refl)
 stands-other (suc (suc (suc (suc zero)))) c o t = absurd (t .0 .1 refl)
 stands-other (suc (suc (suc (suc (suc zero))))) c o t = absurd (t .1 refl)
-stands-other (suc (suc (suc (suc (suc (suc n)))))) c o t = stands-no (suc (suc (suc (suc (suc (suc n)))))) c 0 refl (omega arith)
+stands-other (suc (suc (suc (suc (suc (suc zero)))))) c o t = stands-no 6 c 0 refl (omega arith)
+stands-other (suc (suc (suc (suc (suc (suc (suc zero))))))) c o t = stands-none opacity refl c 0 (omega arith) (omega arith)
+stands-other (suc (suc (suc (suc (suc (suc (suc (suc n)))))))) c o t = stands-no (suc (suc (suc (suc (suc (suc (suc (suc n)))))))) c 0 refl (omega arith)
 
 -- ---- the names of a file's group, lent
 
@@ -212,24 +221,31 @@ pub gas-group : {n : ℕ} → n ≡ fileNumber gas → groupOf n ≡ gasEntries
 unfolding group
 gas-group e = group-at gas e
 
-pub other-group : (n : ℕ) → ((((Unit {0} × (n ≡ 2 → ⊥)) × (n ≡ 3 → ⊥)) × (n ≡ 4 → ⊥)) × (n ≡ 5 → ⊥)) → groupOf n ≡ newBooking
+pub opacity-group : {n : ℕ} → n ≡ fileNumber opacity → groupOf n ≡ opacityAnalysis
+unfolding group
+opacity-group e = group-at opacity e
+
+pub other-group : (n : ℕ) → (((((Unit {0} × (n ≡ 2 → ⊥)) × (n ≡ 3 → ⊥)) × (n ≡ 4 → ⊥)) × (n ≡ 5 → ⊥)) × (n ≡ 7 → ⊥)) → groupOf n ≡ newBooking
 unfolding group groupOf ofNumber
 other-group zero t = refl
 other-group (suc zero) t = refl
-other-group (suc (suc zero)) t = absurd (t .0 .0 .0 .1 refl)
-other-group (suc (suc (suc zero))) t = absurd (t .0 .0 .1 refl)
-other-group (suc (suc (suc (suc zero)))) t = absurd (t .0 .1 refl)
-other-group (suc (suc (suc (suc (suc zero))))) t = absurd (t .1 refl)
-other-group (suc (suc (suc (suc (suc (suc n)))))) t = refl
+other-group (suc (suc zero)) t = absurd (t .0 .0 .0 .0 .1 refl)
+other-group (suc (suc (suc zero))) t = absurd (t .0 .0 .0 .1 refl)
+other-group (suc (suc (suc (suc zero)))) t = absurd (t .0 .0 .1 refl)
+other-group (suc (suc (suc (suc (suc zero))))) t = absurd (t .0 .1 refl)
+other-group (suc (suc (suc (suc (suc (suc zero)))))) t = refl
+other-group (suc (suc (suc (suc (suc (suc (suc zero))))))) t = absurd (t .1 refl)
+other-group (suc (suc (suc (suc (suc (suc (suc (suc n)))))))) t = refl
 
 few-of : (f : File) → length (group f) ≤ mostRows
 unfolding group testers gasEntries newBooking oldBooking tester protocol measurement sixteen driftAxle suspensionAxle analyser counter speedTest allKeyDates
-    allKeyBodies analysis fuelAnalysis
+    allKeyBodies analysis fuelAnalysis opacimeter opacityTest opacityKeys opacityAnalysis
 few-of ac2 = omega arith
 few-of acc = omega arith
 few-of drift = omega arith
 few-of suspension = omega arith
 few-of gas = omega arith
+few-of opacity = omega arith
 
 few-else : length newBooking ≤ mostRows
 unfolding newBooking

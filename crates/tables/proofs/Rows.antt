@@ -9,6 +9,7 @@ use lib.ListN.{length, getD, set, take, length-append, length-map, List·getD-eq
 use lib.Seq.{take-suc, take-suc-set, take-all}
 use borrow.Author.Tests.{le-ltb, lt-ltb}
 use Rattle.kinds.specs.Kind.{Kind, numbered, kindOf}
+use Rattle.kinds.proofs.Laws.{kindCount}
 use Rattle.tables.specs.Section.{Section, entriesOf}
 use Rattle.tables.specs.Entries.{
   newBooking,
@@ -26,6 +27,10 @@ use Rattle.tables.specs.Entries.{
   allKeyBodies,
   analysis,
   fuelAnalysis,
+  opacimeter,
+  opacityTest,
+  opacityKeys,
+  opacityAnalysis,
 }
 use Rattle.tables.specs.File.{
   File,
@@ -34,6 +39,7 @@ use Rattle.tables.specs.File.{
   drift,
   suspension,
   gas,
+  opacity,
   fileNumber,
   tableOf,
   allSections,
@@ -74,12 +80,13 @@ few-none = omega arith
 
 few : (f : File) → rowCount (allSections f) ≤ mostRows
 unfolding rowCount sections fixedSections axleSections axlesFrom axleEntries newBooking oldBooking tester protocol measurement sixteen driftAxle
-    suspensionAxle analyser counter speedTest allKeyDates allKeyBodies analysis fuelAnalysis
+    suspensionAxle analyser counter speedTest allKeyDates allKeyBodies analysis fuelAnalysis opacimeter opacityTest opacityKeys opacityAnalysis
 few ac2 = omega arith
 few acc = omega arith
 few drift = omega arith
 few suspension = omega arith
 few gas = omega arith
+few opacity = omega arith
 
 pub rows-few : (n : ℕ) → rowCount (tableOf n) ≤ mostRows
 unfolding tableOf
@@ -91,10 +98,6 @@ kinds-count [] = refl
 kinds-count (x ∷ t) = let i = kinds-count t in simp (length-append, length-map) (omega arith)
 
 -- ---- the numbers of rows
-
--- as many kinds as have a number
-abbrev pub kindCount : ℕ
-kindCount = 28
 
 pub heading-row : (n : ℕ) → kindCount ≤ n → rowKind n ≡ none
 unfolding rowKind numbered

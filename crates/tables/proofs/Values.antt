@@ -10,8 +10,8 @@ use Rattle.kinds.specs.Value.{wordIndex}
 use Rattle.places.specs.Places.{startOf, lengthOf, pairsAt, valueAt, valueOf, Within}
 use Rattle.places.proofs.Values.{within-at}
 use Rattle.tables.specs.Section.{entriesOf}
-use Rattle.tables.specs.Entries.{newBooking, oldBooking, tester, protocol, measurement, sixteen, driftAxle, suspensionAxle, analyser, counter, speedTest, allKeyDates, allKeyBodies, analysis, fuelAnalysis}
-use Rattle.tables.specs.File.{File, ac2, acc, drift, suspension, gas, fixedSections, axleEntries, axlesFrom, axleSections, sections, entries, room, rooms, firstPair, leastPlaces, fileNumber, ofNumber, mostAxles}
+use Rattle.tables.specs.Entries.{newBooking, oldBooking, tester, protocol, measurement, sixteen, driftAxle, suspensionAxle, analyser, counter, speedTest, allKeyDates, allKeyBodies, analysis, fuelAnalysis, opacimeter, opacityTest, opacityKeys, opacityAnalysis}
+use Rattle.tables.specs.File.{File, ac2, acc, drift, suspension, gas, opacity, fixedSections, axleEntries, axlesFrom, axleSections, sections, entries, room, rooms, firstPair, leastPlaces, fileNumber, ofNumber, mostAxles}
 use Rattle.tables.specs.Value.{placeOf, axlePlaceOf, valuesOf, pairOf, Held, NumberHeld, PairHeld}
 use Rattle.tables.proofs.Numbers.{first-pairs, room-in}
 use Rattle.tables.proofs.Axles.{entries-length, entries-most}
@@ -44,6 +44,14 @@ gas-code = ap (λ (l : List ℕ). getD l 11 0) gas-pairs
 pub gas-speed : pairOf gas "NumGiriMotoreMin" ≡ 137
 gas-speed = ap (λ (l : List ℕ). getD l 12 0) gas-pairs
 
+pub opacity-pairs : map (pairOf opacity) ("TipoCollegamentoContagiri" ∷ "NumVersioneProtocolloContagiri" ∷ "NumVersioneProtocollo" ∷ "TipoCollegamento" ∷ "CodErrore" ∷ [])
+    ≡ 151 ∷ 152 ∷ 175 ∷ 177 ∷ 189 ∷ []
+unfolding placeOf wordIndex sameBytes entries sections fixedSections axleSections axlesFrom axleEntries entriesOf newBooking oldBooking sixteen tester protocol measurement driftAxle suspensionAxle analysis analyser counter speedTest allKeyDates allKeyBodies fuelAnalysis opacimeter opacityTest opacityKeys opacityAnalysis firstPair rooms room
+opacity-pairs = refl
+
+pub opacity-code : pairOf opacity "CodErrore" ≡ 189
+opacity-code = ap (λ (l : List ℕ). getD l 4 0) opacity-pairs
+
 -- ---- how many entries a file has
 
 pub new-count : (n : ℕ) → length (entries ac2 n) ≡ 12
@@ -57,6 +65,10 @@ old-count n = refl
 pub gas-count : (n : ℕ) → length (entries gas n) ≡ 53
 unfolding entries sections fixedSections axleSections entriesOf analysis analyser counter speedTest protocol allKeyDates allKeyBodies measurement fuelAnalysis
 gas-count n = refl
+
+pub opacity-count : (n : ℕ) → length (entries opacity n) ≡ 55
+unfolding entries sections fixedSections axleSections entriesOf protocol measurement counter opacimeter opacityTest opacityKeys opacityAnalysis
+opacity-count n = refl
 
 pub drift-count : (n : ℕ) → length (entries drift n) ≡ 16 + n
 unfolding entries sections fixedSections axleSections axlesFrom axleEntries entriesOf sixteen tester protocol measurement driftAxle
@@ -95,6 +107,9 @@ module _ (t p : List ℕ) where
 
   pub gas-held : Held gas 0 t p → (k : ℕ) → k < 53 → PairHeld t p (86 + k)
   gas-held h k l = pair-held gas 0 t p k (86 + k) (omega arith) h (rw (gas-count 0) l) (rw (first-pairs .4) refl)
+
+  pub opacity-held : Held opacity 0 t p → (k : ℕ) → k < 55 → PairHeld t p (139 + k)
+  opacity-held h k l = pair-held opacity 0 t p k (139 + k) (omega arith) h (rw (opacity-count 0) l) (rw (first-pairs .11) refl)
 
   pub axle-held : (n : ℕ) → n ≤ mostAxles → Held suspension n t p → (k m : ℕ) → k < 16 + 3 * n → 43 + k ≡ m → PairHeld t p m
   axle-held n s h k m l e = pair-held suspension n t p k m s h (rw (suspension-count n) l) (rw (first-pairs .3) e)

@@ -1,4 +1,4 @@
--- The entries of each section in table order, with their kinds (01, Bookings and Results).
+-- The entries of each section in table order, with their kinds (01, Bookings and Results; 02, 2/14 with 001, 3.3.3.7).
 use Prim.Native.Nat.{ℕ}
 use Prim.Native.String.{String}
 use mathlib.Core.List.{List, [], _∷_, _++_}
@@ -8,7 +8,9 @@ use Rattle.kinds.specs.Kind.{
   S,
   C,
   N,
+  NByHand,
   Fixed,
+  FixedByHand,
   D,
   H,
   Deriva,
@@ -16,6 +18,8 @@ use Rattle.kinds.specs.Kind.{
   DataPrimaImm,
   AnnoPrimaImm,
   PosAssiStaz,
+  Targa,
+  TempAmbiente,
   Word,
   WordList,
   vehicleTypes,
@@ -26,6 +30,7 @@ use Rattle.kinds.specs.Kind.{
   links,
   gasLinks,
   counterLinks,
+  outcomes,
 }
 use Rattle.tables.specs.Section.{Entry}
 
@@ -118,14 +123,14 @@ analyser =
     entryOf "DataScadenzaAnalizzatore" D ∷
     []
 
--- MarcaContagiri to NumVersioneProtocolloContagiri
-unfoldable pub counter : List Entry
-counter =
+-- MarcaContagiri to NumVersioneProtocolloContagiri, with the name of the software version
+unfoldable pub counter : String → List Entry
+counter version =
     entryOf "MarcaContagiri" plainS ∷
     entryOf "TipoContagiri" plainS ∷
     entryOf "NumOmologaContagiri" plainS ∷
     entryOf "NumSerieContagiri" plainS ∷
-    entryOf "NumVersioneSoftwareContagiri" plainS ∷
+    entryOf version plainS ∷
     entryOf "DataScadenzaContagiri" D ∷
     entryOf "TipoCollegamentoContagiri" (Word counterLinks) ∷
     entryOf "NumVersioneProtocolloContagiri" (N 3) ∷
@@ -172,7 +177,8 @@ allKeyBodies = keyBodies "" ++ (keyBodies "Contagiri" ++ keyBodies "ProvaVelocit
 
 -- 01, Results: Gas, the first section
 unfoldable pub analysis : List Entry
-analysis = analyser ++ (counter ++ (speedTest ++ (protocol gasLinks ++ (allKeyDates ++ (allKeyBodies ++ measurement)))))
+analysis =
+    analyser ++ (counter "NumVersioneSoftwareContagiri" ++ (speedTest ++ (protocol gasLinks ++ (allKeyDates ++ (allKeyBodies ++ measurement)))))
 
 -- 01, Results: [AnalisiGasAlimentazione_1]
 unfoldable pub fuelAnalysis : List Entry
@@ -185,3 +191,49 @@ fuelAnalysis =
     entryOf "NumGiriMotoreMin" Revs ∷
     entryOf "COMinAcc" (Fixed 3 5) ∷
     []
+
+-- 02, 2/14 with 001, 3.3.3.7: MarcaOpacimetro to DataScadenzaOpacimetro
+unfoldable pub opacimeter : List Entry
+opacimeter =
+    entryOf "MarcaOpacimetro" plainS ∷
+    entryOf "TipoOpacimetro" plainS ∷
+    entryOf "NumOmologaOpacimetro" plainS ∷
+    entryOf "NumSerieOpacimetro" plainS ∷
+    entryOf "NumVersSoftwareOpacimetro" plainS ∷
+    entryOf "DataScadenzaOpacimetro" D ∷
+    []
+
+-- Targa to Esito
+unfoldable pub opacityTest : List Entry
+opacityTest =
+    entryOf "Targa" Targa ∷
+    entryOf "NumGiriMotoreMax" Revs ∷
+    entryOf "LimiteK" (Fixed 1 3) ∷
+    entryOf "DirettivaEmissioni" plainS ∷
+    entryOf "NumGiriMotoreMinMis" Revs ∷
+    entryOf "NumGiriMotoreMaxMis" Revs ∷
+    entryOf "TempOlioMotore" (FixedByHand 1 5) ∷
+    entryOf "TempMinOlioMotore" (N 2) ∷
+    entryOf "ValoreK1" (Fixed 2 5) ∷
+    entryOf "ValoreK2" (Fixed 2 5) ∷
+    entryOf "ValoreK3" (Fixed 2 5) ∷
+    entryOf "ValoreK4" (Fixed 2 5) ∷
+    entryOf "ValoreK5" (Fixed 2 5) ∷
+    entryOf "ValoreK6" (Fixed 2 5) ∷
+    entryOf "ValoreK7" (Fixed 2 5) ∷
+    entryOf "ValoreK8" (Fixed 2 5) ∷
+    entryOf "OpacitaMedia" (Fixed 2 5) ∷
+    entryOf "PressAtmosferica" (FixedByHand 1 5) ∷
+    entryOf "TempAmbiente" TempAmbiente ∷
+    entryOf "UmiditaRelativa" (NByHand 3) ∷
+    entryOf "Esito" (Word outcomes) ∷
+    []
+
+-- the keys of opacity's device, then of its rev counter: of each the ID and its date, then of each the other three
+unfoldable pub opacityKeys : List Entry
+opacityKeys = keyDates "" ++ (keyDates "Contagiri" ++ (keyBodies "" ++ keyBodies "Contagiri"))
+
+-- 001, 3.3.3.7: [AnalisiOpacita]; its link has the words of gas's
+unfoldable pub opacityAnalysis : List Entry
+opacityAnalysis =
+    opacimeter ++ (counter "NumVersSoftwareContagiri" ++ (opacityTest ++ (protocol gasLinks ++ (opacityKeys ++ measurement))))

@@ -1,4 +1,4 @@
--- The files, their sections, and the pairs of each (01, Bookings, Results and Judging).
+-- The files, their sections, and the pairs of each (01, Bookings, Results and Judging; 02, 2/14).
 use Prim.Native.Nat.{ℕ, zero, suc, _+_, _*_}
 use Prim.Native.String.{String}
 use mathlib.Core.List.{List, [], _∷_, _++_, map}
@@ -9,19 +9,19 @@ use lib.ListN.{length, getD}
 use Rattle.lines.specs.Text.{bytes}
 use Rattle.places.specs.Places.{placeSize}
 use Rattle.tables.specs.Section.{Entry, Section, entriesOf}
-use Rattle.tables.specs.Entries.{newBooking, oldBooking, sixteen, driftAxle, suspensionAxle, analysis, fuelAnalysis}
+use Rattle.tables.specs.Entries.{newBooking, oldBooking, sixteen, driftAxle, suspensionAxle, analysis, fuelAnalysis, opacityAnalysis}
 
--- 01, the set: "1 new booking (AC2), 2 old booking (ACC), 3 drift, 4 suspension, 5 gas"
+-- 01, the set: "1 new booking (AC2), 2 old booking (ACC), 3 drift, 4 suspension, 5 gas"; 02, 2/14: 7, "the opacity file"
 pub data File : Type 0 where
-  ac2 acc drift suspension gas : File
+  ac2 acc drift suspension gas opacity : File
 
 -- all of them, in the order of their pairs
 abbrev pub files : List File
-files = ac2 ∷ acc ∷ drift ∷ suspension ∷ gas ∷ []
+files = ac2 ∷ acc ∷ drift ∷ suspension ∷ gas ∷ opacity ∷ []
 
 -- the file of each number, from 0 on
 abbrev pub numberedFiles : List (Option File)
-numberedFiles = none ∷ some ac2 ∷ some acc ∷ some drift ∷ some suspension ∷ some gas ∷ []
+numberedFiles = none ∷ some ac2 ∷ some acc ∷ some drift ∷ some suspension ∷ some gas ∷ none ∷ some opacity ∷ []
 
 abbrev pub fileNumber : File → ℕ
 fileNumber ac2 = 1
@@ -29,6 +29,7 @@ fileNumber acc = 2
 fileNumber drift = 3
 fileNumber suspension = 4
 fileNumber gas = 5
+fileNumber opacity = 7
 
 -- "6 the analyser's identification answer", which is no file of sections and entries
 abbrev pub identificationNumber : ℕ
@@ -59,6 +60,7 @@ fixedSections acc = sectionWith "[DatiLibrettoVeicolo]" oldBooking ∷ []
 fixedSections drift = sectionWith "[Deriva]" sixteen ∷ []
 fixedSections suspension = sectionWith "[Sospensioni]" sixteen ∷ []
 fixedSections gas = sectionWith "[AnalisiGas]" analysis ∷ sectionWith "[AnalisiGasAlimentazione_1]" fuelAnalysis ∷ []
+fixedSections opacity = sectionWith "[AnalisiOpacita]" opacityAnalysis ∷ []
 
 abbrev pub hasAxles : File → Bool
 hasAxles ac2 = false
@@ -66,6 +68,7 @@ hasAxles acc = false
 hasAxles drift = true
 hasAxles suspension = true
 hasAxles gas = false
+hasAxles opacity = false
 
 -- the entries of each axle
 unfoldable pub axleEntries : File → List Entry
@@ -74,6 +77,7 @@ axleEntries acc = []
 axleEntries drift = driftAxle
 axleEntries suspension = suspensionAxle
 axleEntries gas = []
+axleEntries opacity = []
 
 -- the section of axle n, whose heading begins with h: "n one digit", 1 to 9 (48 is `0`)
 abbrev pub axleSection : String → List Entry → ℕ → Section
@@ -91,6 +95,7 @@ axleSections acc n = []
 axleSections drift n = axlesFrom "[DerivaAsse_" (axleEntries drift) 1 n
 axleSections suspension n = axlesFrom "[SospensioniAsse_" (axleEntries suspension) 1 n
 axleSections gas n = []
+axleSections opacity n = []
 
 -- a file with n axles: its fixed sections, then its axles by number
 unfoldable pub sections : File → ℕ → List Section
@@ -136,7 +141,7 @@ firstPair f = rooms (filesBefore f files)
 unfoldable pub pairCount : ℕ
 pairCount = rooms files
 
--- 01, Judging: "at least 278 numbers"
+-- 01, Judging: "at least 278 numbers"; 02, 2/14: it "grows there too, by two for each entry"
 unfoldable pub leastPlaces : ℕ
 leastPlaces = placeSize * pairCount
 

@@ -8,8 +8,8 @@ use lib.Dec.{leb, ltb}
 use lib.ListN.{length, getD, take, drop, replicate}
 use Rattle.tables.specs.Section.{Entry}
 use Rattle.tables.specs.declared.SectionPlace.{SectionPlace}
-use Rattle.tables.specs.Entries.{newBooking, oldBooking, sixteen, driftAxle, suspensionAxle, analysis, fuelAnalysis}
-use Rattle.tables.specs.File.{File, ac2, acc, drift, suspension, gas, ofNumber, tableOf}
+use Rattle.tables.specs.Entries.{newBooking, oldBooking, sixteen, driftAxle, suspensionAxle, analysis, fuelAnalysis, opacityAnalysis}
+use Rattle.tables.specs.File.{File, ac2, acc, drift, suspension, gas, opacity, ofNumber, tableOf}
 use Rattle.tables.specs.Row.{names, entriesIn, rowsBefore}
 
 -- drift and suspension: what both have, then the axles of each
@@ -25,6 +25,7 @@ group acc = oldBooking
 group drift = testers
 group suspension = testers
 group gas = gasEntries
+group opacity = opacityAnalysis
 
 -- of a number that no file has: that of AC2, of which nothing is looked for
 unfoldable pub groupOf : ℕ → List Entry

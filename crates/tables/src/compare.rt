@@ -3,13 +3,14 @@ use crate::AC2;
 use crate::ACC;
 use crate::DRIFT;
 use crate::GAS;
+use crate::OPACITY;
 use crate::SUSPENSION;
 ghost use mathlib.Core.Path.{_≡_};
 ghost use mathlib.Core.List.{_∷_, _++_};
 ghost use Prim.Native.Nat.{_+_, _≤_};
 ghost use Rattle.lines.specs.Bytes.{sameBytes};
 ghost use Rattle.lines.specs.Text.{bytes};
-ghost use Rattle.tables.specs.File.{ac2, drift, suspension, gas, allSections, tableOf, mostAxles};
+ghost use Rattle.tables.specs.File.{ac2, drift, suspension, gas, opacity, allSections, tableOf, mostAxles};
 ghost use Rattle.tables.specs.Row.{headingAt};
 
 // Whether a part is the heading of an axle: the stem, one digit, `]`. The digit first: it tells one axle from another.
@@ -73,6 +74,15 @@ fn is_gas_heading(section: usize, part: &[u8]) -> bool
     }
 }
 
+fn is_opacity_heading(section: usize, part: &[u8]) -> bool
+    ensures { λ r. ⌜ r ≡ sameBytes (now (part .entry)) (headingAt (allSections opacity) section) ⌝ }
+{
+    match section {
+        0 => lines::equal(part, b"[AnalisiOpacita]"),
+        _ => lines::equal(part, b""),
+    }
+}
+
 // Whether a section of a file has that heading.
 pub fn is_heading(file: u32, section: usize, part: &[u8]) -> bool
     ensures { λ r. ⌜ r ≡ sameBytes (now (part .entry)) (headingAt (tableOf file) section) ⌝ }
@@ -83,6 +93,7 @@ pub fn is_heading(file: u32, section: usize, part: &[u8]) -> bool
         DRIFT => is_drift_heading(section, part),
         SUSPENSION => is_suspension_heading(section, part),
         GAS => is_gas_heading(section, part),
+        OPACITY => is_opacity_heading(section, part),
         _ => lines::equal(part, b""),
     }
 }

@@ -4,7 +4,7 @@
 ghost use mathlib.Core.Path.{_≡_};
 ghost use mathlib.Core.List.{map};
 ghost use lib.ListN.{length};
-ghost use Rattle.tables.specs.Entries.{newBooking, oldBooking};
+ghost use Rattle.tables.specs.Entries.{newBooking, oldBooking, opacityAnalysis};
 ghost use Rattle.tables.specs.Row.{names};
 ghost use Rattle.tables.specs.Groups.{testers, gasEntries, inRow, tagOf};
 
@@ -320,6 +320,180 @@ const GAS_TAGS: [u8; 53] = [
     123, // COMinAcc
 ];
 
+const OPACITY_ROWS: [Row; 55] = [
+    *b"MarcaOpacimetro                   ",
+    *b"TipoOpacimetro                    ",
+    *b"NumOmologaOpacimetro              ",
+    *b"NumSerieOpacimetro                ",
+    *b"NumVersSoftwareOpacimetro         ",
+    *b"DataScadenzaOpacimetro            ",
+    *b"MarcaContagiri                    ",
+    *b"TipoContagiri                     ",
+    *b"NumOmologaContagiri               ",
+    *b"NumSerieContagiri                 ",
+    *b"NumVersSoftwareContagiri          ",
+    *b"DataScadenzaContagiri             ",
+    *b"TipoCollegamentoContagiri         ",
+    *b"NumVersioneProtocolloContagiri    ",
+    *b"Targa                             ",
+    *b"NumGiriMotoreMax                  ",
+    *b"LimiteK                           ",
+    *b"DirettivaEmissioni                ",
+    *b"NumGiriMotoreMinMis               ",
+    *b"NumGiriMotoreMaxMis               ",
+    *b"TempOlioMotore                    ",
+    *b"TempMinOlioMotore                 ",
+    *b"ValoreK1                          ",
+    *b"ValoreK2                          ",
+    *b"ValoreK3                          ",
+    *b"ValoreK4                          ",
+    *b"ValoreK5                          ",
+    *b"ValoreK6                          ",
+    *b"ValoreK7                          ",
+    *b"ValoreK8                          ",
+    *b"OpacitaMedia                      ",
+    *b"PressAtmosferica                  ",
+    *b"TempAmbiente                      ",
+    *b"UmiditaRelativa                   ",
+    *b"Esito                             ",
+    *b"Note                              ",
+    *b"NumVersioneProtocollo             ",
+    *b"DataVersioneProtocollo            ",
+    *b"TipoCollegamento                  ",
+    *b"CircolareApplicata                ",
+    *b"IDChiaveRS                        ",
+    *b"DataRegChiaveRS                   ",
+    *b"IDChiaveContagiriRS               ",
+    *b"DataRegChiaveContagiriRS          ",
+    *b"ChecksumRS                        ",
+    *b"ModuloChiaveRS                    ",
+    *b"EsponenteChiaveRS                 ",
+    *b"ChecksumContagiriRS               ",
+    *b"ModuloChiaveContagiriRS           ",
+    *b"EsponenteChiaveContagiriRS        ",
+    *b"CodErrore                         ",
+    *b"DataMisura                        ",
+    *b"InizioMisura                      ",
+    *b"FineMisura                        ",
+    *b"Operatore                         ",
+];
+
+const OPACITY_LENGTHS: [u8; 55] = [
+    15, // MarcaOpacimetro
+    14, // TipoOpacimetro
+    20, // NumOmologaOpacimetro
+    18, // NumSerieOpacimetro
+    25, // NumVersSoftwareOpacimetro
+    22, // DataScadenzaOpacimetro
+    14, // MarcaContagiri
+    13, // TipoContagiri
+    19, // NumOmologaContagiri
+    17, // NumSerieContagiri
+    24, // NumVersSoftwareContagiri
+    21, // DataScadenzaContagiri
+    25, // TipoCollegamentoContagiri
+    30, // NumVersioneProtocolloContagiri
+    5, // Targa
+    16, // NumGiriMotoreMax
+    7, // LimiteK
+    18, // DirettivaEmissioni
+    19, // NumGiriMotoreMinMis
+    19, // NumGiriMotoreMaxMis
+    14, // TempOlioMotore
+    17, // TempMinOlioMotore
+    8, // ValoreK1
+    8, // ValoreK2
+    8, // ValoreK3
+    8, // ValoreK4
+    8, // ValoreK5
+    8, // ValoreK6
+    8, // ValoreK7
+    8, // ValoreK8
+    12, // OpacitaMedia
+    16, // PressAtmosferica
+    12, // TempAmbiente
+    15, // UmiditaRelativa
+    5, // Esito
+    4, // Note
+    21, // NumVersioneProtocollo
+    22, // DataVersioneProtocollo
+    16, // TipoCollegamento
+    18, // CircolareApplicata
+    10, // IDChiaveRS
+    15, // DataRegChiaveRS
+    19, // IDChiaveContagiriRS
+    24, // DataRegChiaveContagiriRS
+    10, // ChecksumRS
+    14, // ModuloChiaveRS
+    17, // EsponenteChiaveRS
+    19, // ChecksumContagiriRS
+    23, // ModuloChiaveContagiriRS
+    26, // EsponenteChiaveContagiriRS
+    9, // CodErrore
+    10, // DataMisura
+    12, // InizioMisura
+    10, // FineMisura
+    9, // Operatore
+];
+
+const OPACITY_TAGS: [u8; 55] = [
+    1, // MarcaOpacimetro
+    4, // TipoOpacimetro
+    22, // NumOmologaOpacimetro
+    14, // NumSerieOpacimetro
+    42, // NumVersSoftwareOpacimetro
+    20, // DataScadenzaOpacimetro
+    205, // MarcaContagiri
+    208, // TipoContagiri
+    226, // NumOmologaContagiri
+    218, // NumSerieContagiri
+    246, // NumVersSoftwareContagiri
+    224, // DataScadenzaContagiri
+    0, // TipoCollegamentoContagiri
+    14, // NumVersioneProtocolloContagiri
+    112, // Targa
+    78, // NumGiriMotoreMax
+    192, // LimiteK
+    212, // DirettivaEmissioni
+    50, // NumGiriMotoreMinMis
+    50, // NumGiriMotoreMaxMis
+    180, // TempOlioMotore
+    192, // TempMinOlioMotore
+    254, // ValoreK1
+    6, // ValoreK2
+    14, // ValoreK3
+    22, // ValoreK4
+    30, // ValoreK5
+    38, // ValoreK6
+    46, // ValoreK7
+    54, // ValoreK8
+    135, // OpacitaMedia
+    152, // PressAtmosferica
+    172, // TempAmbiente
+    153, // UmiditaRelativa
+    209, // Esito
+    134, // Note
+    26, // NumVersioneProtocollo
+    20, // DataVersioneProtocollo
+    12, // TipoCollegamento
+    147, // CircolareApplicata
+    9, // IDChiaveRS
+    24, // DataRegChiaveRS
+    45, // IDChiaveContagiriRS
+    60, // DataRegChiaveContagiriRS
+    3, // ChecksumRS
+    29, // ModuloChiaveRS
+    33, // EsponenteChiaveRS
+    39, // ChecksumContagiriRS
+    65, // ModuloChiaveContagiriRS
+    69, // EsponenteChiaveContagiriRS
+    143, // CodErrore
+    116, // DataMisura
+    129, // InizioMisura
+    118, // FineMisura
+    155, // Operatore
+];
+
 pub fn new_booking_rows() -> [Row; 12]
     ensures { λ r. ⌜ r ≡ map inRow (names newBooking) ⌝ }
 {
@@ -390,4 +564,22 @@ pub fn gas_tags() -> [u8; 53]
     ensures { λ r. ⌜ r ≡ map tagOf (names gasEntries) ⌝ }
 {
     GAS_TAGS
+}
+
+pub fn opacity_rows() -> [Row; 55]
+    ensures { λ r. ⌜ r ≡ map inRow (names opacityAnalysis) ⌝ }
+{
+    OPACITY_ROWS
+}
+
+pub fn opacity_lengths() -> [u8; 55]
+    ensures { λ r. ⌜ r ≡ map length (names opacityAnalysis) ⌝ }
+{
+    OPACITY_LENGTHS
+}
+
+pub fn opacity_tags() -> [u8; 55]
+    ensures { λ r. ⌜ r ≡ map tagOf (names opacityAnalysis) ⌝ }
+{
+    OPACITY_TAGS
 }

@@ -31,6 +31,8 @@ pub const GAS: u32 = 5;
 // No file of sections and entries: the identification answer.
 pub const IDENTIFICATION: u32 = 6;
 
+pub const OPACITY: u32 = 7;
+
 // As many rows as any table has: the size of an array with a number for each row.
 pub const MOST_ROWS: usize = 64;
 
@@ -65,7 +67,7 @@ fn of_file(table: &[u8], file: u32) -> usize
 pub fn section_count(file: u32) -> usize
     ensures { λ r. ⌜ r ≡ length (tableOf file) ⌝ }
 {
-    of_file(&[0, 1, 1, 10, 10, 2], file)
+    of_file(&[0, 1, 1, 10, 10, 2, 0, 1], file)
 }
 
 // Whether a file has that number.
@@ -79,35 +81,35 @@ pub fn is_file(file: u32) -> bool
 pub fn fixed_section_count(file: u32) -> usize
     ensures { λ r. ⌜ r ≡ ofNumber 0 (λ f. length (fixedSections f)) file ⌝ }
 {
-    of_file(&[0, 1, 1, 1, 1, 2], file)
+    of_file(&[0, 1, 1, 1, 1, 2, 0, 1], file)
 }
 
 // How many of a file's sections must be there.
 pub fn least_sections(file: u32) -> usize
     ensures { λ r. ⌜ r ≡ ofNumber 0 leastSections file ⌝ }
 {
-    of_file(&[0, 1, 1, 2, 2, 2], file)
+    of_file(&[0, 1, 1, 2, 2, 2, 0, 1], file)
 }
 
 // The first pair of a file's places.
 pub fn first_pair(file: u32) -> usize
     ensures { λ r. ⌜ r ≡ ofNumber 0 firstPair file ⌝ }
 {
-    of_file(&[0, 0, 12, 18, 43, 86], file)
+    of_file(&[0, 0, 12, 18, 43, 86, 0, 139], file)
 }
 
 // How many pairs a file has.
 pub fn room(file: u32) -> usize
     ensures { λ r. ⌜ r ≡ ofNumber 0 roomOf file ⌝ }
 {
-    of_file(&[0, 12, 6, 25, 43, 53], file)
+    of_file(&[0, 12, 6, 25, 43, 53, 0, 55], file)
 }
 
 // How many numbers a caller lends at least for the places (01, Judging).
 pub fn least_places() -> usize
     ensures { λ r. ⌜ r ≡ leastPlaces ⌝ }
 {
-    278
+    388
 }
 
 // How many entries a section has.
@@ -136,6 +138,10 @@ pub fn entry_count(file: u32, section: usize) -> usize
         GAS => match section {
             0 => 46,
             1 => 7,
+            _ => 0,
+        },
+        OPACITY => match section {
+            0 => 55,
             _ => 0,
         },
         _ => 0,
@@ -185,6 +191,10 @@ pub fn rows_before(file: u32, section: usize) -> usize
             1 => 47,
             _ => 55,
         },
+        OPACITY => match section {
+            0 => 0,
+            _ => 56,
+        },
         _ => 0,
     }
 }
@@ -201,7 +211,7 @@ pub fn entries_before(file: u32, section: usize) -> usize
 pub fn row_count(file: u32) -> usize
     ensures { λ r. ⌜ r ≡ rowCount (tableOf file) ⌝ }
 {
-    of_file(&[0, 13, 7, 35, 53, 55], file)
+    of_file(&[0, 13, 7, 35, 53, 55, 0, 56], file)
 }
 
 // The digit 1 to 9 that a byte is; 0 for any other byte.
@@ -412,6 +422,14 @@ fn write_listed(file: u32, row: usize, value: &[u8], out: &mut [u8], at: usize) 
         GAS => write_row(
             &groups::gas_rows(),
             &groups::gas_lengths(),
+            row,
+            value,
+            out,
+            at,
+        ),
+        OPACITY => write_row(
+            &groups::opacity_rows(),
+            &groups::opacity_lengths(),
             row,
             value,
             out,

@@ -81,3 +81,15 @@ pub const GAS_TIPO_COLLEGAMENTO: usize = 110;
 pub const GAS_COD_ERRORE: usize = 127;
 
 pub const GAS_NUM_GIRI_MOTORE_MIN: usize = 137;
+
+pub const OPACITY_FIRST: usize = 139;
+
+pub const OPACITY_TIPO_COLLEGAMENTO_CONTAGIRI: usize = 151;
+
+pub const OPACITY_NUM_VERSIONE_PROTOCOLLO_CONTAGIRI: usize = 152;
+
+pub const OPACITY_NUM_VERSIONE_PROTOCOLLO: usize = 175;
+
+pub const OPACITY_TIPO_COLLEGAMENTO: usize = 177;
+
+pub const OPACITY_COD_ERRORE: usize = 189;

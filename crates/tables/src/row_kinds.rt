@@ -3,13 +3,14 @@ use crate::AC2;
 use crate::ACC;
 use crate::DRIFT;
 use crate::GAS;
+use crate::OPACITY;
 use crate::SUSPENSION;
 ghost use mathlib.Core.Path.{_≡_};
 ghost use Prim.Native.Nat.{_≤_};
 ghost use mathlib.Core.List.{map};
 ghost use mathlib.Core.Option.{none};
 ghost use lib.ListN.{length, getD, take};
-ghost use Rattle.tables.specs.File.{ac2, acc, drift, suspension, gas, allSections, tableOf};
+ghost use Rattle.tables.specs.File.{ac2, acc, drift, suspension, gas, opacity, allSections, tableOf};
 ghost use Rattle.tables.specs.Row.{rowCount, rowKinds, rowKind};
 use kinds::numbers;
 
@@ -190,8 +191,67 @@ const GAS_KINDS: [u8; 55] = [
     numbers::FIXED_2_5, // CO2Min
     numbers::N_5, // HCMin
     numbers::FIXED_2_5, // O2Min
-    numbers::REVS, // NumGiriMotoreMin
+    numbers::N_BY_HAND_5, // NumGiriMotoreMin
     numbers::FIXED_3_5, // COMinAcc
+];
+
+const OPACITY_KINDS: [u8; 56] = [
+    HEADING, // [AnalisiOpacita]
+    numbers::S_64, // MarcaOpacimetro
+    numbers::S_64, // TipoOpacimetro
+    numbers::S_64, // NumOmologaOpacimetro
+    numbers::S_64, // NumSerieOpacimetro
+    numbers::S_64, // NumVersSoftwareOpacimetro
+    numbers::D, // DataScadenzaOpacimetro
+    numbers::S_64, // MarcaContagiri
+    numbers::S_64, // TipoContagiri
+    numbers::S_64, // NumOmologaContagiri
+    numbers::S_64, // NumSerieContagiri
+    numbers::S_64, // NumVersSoftwareContagiri
+    numbers::D, // DataScadenzaContagiri
+    numbers::COUNTER_LINK, // TipoCollegamentoContagiri
+    numbers::N_3, // NumVersioneProtocolloContagiri
+    numbers::TARGA, // Targa
+    numbers::N_BY_HAND_5, // NumGiriMotoreMax
+    numbers::FIXED_1_3, // LimiteK
+    numbers::S_64, // DirettivaEmissioni
+    numbers::N_BY_HAND_5, // NumGiriMotoreMinMis
+    numbers::N_BY_HAND_5, // NumGiriMotoreMaxMis
+    numbers::FIXED_BY_HAND_1_5, // TempOlioMotore
+    numbers::N_2, // TempMinOlioMotore
+    numbers::FIXED_2_5, // ValoreK1
+    numbers::FIXED_2_5, // ValoreK2
+    numbers::FIXED_2_5, // ValoreK3
+    numbers::FIXED_2_5, // ValoreK4
+    numbers::FIXED_2_5, // ValoreK5
+    numbers::FIXED_2_5, // ValoreK6
+    numbers::FIXED_2_5, // ValoreK7
+    numbers::FIXED_2_5, // ValoreK8
+    numbers::FIXED_2_5, // OpacitaMedia
+    numbers::FIXED_BY_HAND_1_5, // PressAtmosferica
+    numbers::TEMP_AMBIENTE, // TempAmbiente
+    numbers::N_BY_HAND_3, // UmiditaRelativa
+    numbers::OUTCOME, // Esito
+    numbers::S_320, // Note
+    numbers::N_3, // NumVersioneProtocollo
+    numbers::D, // DataVersioneProtocollo
+    numbers::GAS_LINK, // TipoCollegamento
+    numbers::S_64, // CircolareApplicata
+    numbers::C_5, // IDChiaveRS
+    numbers::D, // DataRegChiaveRS
+    numbers::C_5, // IDChiaveContagiriRS
+    numbers::D, // DataRegChiaveContagiriRS
+    numbers::S_92, // ChecksumRS
+    numbers::C_172, // ModuloChiaveRS
+    numbers::C_4, // EsponenteChiaveRS
+    numbers::S_92, // ChecksumContagiriRS
+    numbers::C_172, // ModuloChiaveContagiriRS
+    numbers::C_4, // EsponenteChiaveContagiriRS
+    numbers::S_64, // CodErrore
+    numbers::D, // DataMisura
+    numbers::H, // InizioMisura
+    numbers::H, // FineMisura
+    numbers::S_64, // Operatore
 ];
 
 fn ac2_kinds() -> [u8; 13]
@@ -224,6 +284,12 @@ fn gas_kinds() -> [u8; 55]
     GAS_KINDS
 }
 
+fn opacity_kinds() -> [u8; 56]
+    ensures { λ r. ⌜ map rowKind r ≡ rowKinds (allSections opacity) ⌝ }
+{
+    OPACITY_KINDS
+}
+
 // The number of a row among those of a table.
 fn kind_at(numbers: &[u8], row: usize) -> u8
     ensures { λ r. ⌜ rowKind r ≡ getD (map rowKind (now (numbers .entry))) row none ⌝ }
@@ -246,6 +312,7 @@ pub fn row_kind(file: u32, row: usize) -> u8
         DRIFT => kind_at(&drift_kinds(), row),
         SUSPENSION => kind_at(&suspension_kinds(), row),
         GAS => kind_at(&gas_kinds(), row),
+        OPACITY => kind_at(&opacity_kinds(), row),
         _ => HEADING,
     }
 }
@@ -274,6 +341,7 @@ pub fn write_kinds(file: u32, kinds: &mut [u8])
         DRIFT => put(&drift_kinds(), kinds),
         SUSPENSION => put(&suspension_kinds(), kinds),
         GAS => put(&gas_kinds(), kinds),
+        OPACITY => put(&opacity_kinds(), kinds),
         _ => {}
     }
 }

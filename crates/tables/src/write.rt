@@ -3,6 +3,7 @@ use crate::AC2;
 use crate::ACC;
 use crate::DRIFT;
 use crate::GAS;
+use crate::OPACITY;
 use crate::SUSPENSION;
 ghost use mathlib.Core.List.{_∷_, _++_};
 ghost use Prim.Native.Nat.{_+_, _≤_};
@@ -10,7 +11,7 @@ ghost use lib.ListN.{length};
 ghost use Rattle.lines.specs.Line.{heading as headingLine, writtenLine, writtenLength};
 ghost use Rattle.lines.specs.Text.{bytes};
 ghost use Rattle.lines.specs.Writing.{Wrote};
-ghost use Rattle.tables.specs.File.{ac2, drift, suspension, gas, allSections, tableOf, mostAxles};
+ghost use Rattle.tables.specs.File.{ac2, drift, suspension, gas, opacity, allSections, tableOf, mostAxles};
 ghost use Rattle.tables.specs.Row.{headingAt};
 
 fn write_drift_axle_heading(axle: usize, out: &mut [u8], at: usize) -> usize
@@ -74,6 +75,16 @@ fn write_gas_heading(section: usize, out: &mut [u8], at: usize) -> usize
     }
 }
 
+fn write_opacity_heading(section: usize, out: &mut [u8], at: usize) -> usize
+    requires { ⌜ at + writtenLength (headingLine (headingAt (allSections opacity) section)) ≤ length (now out) ⌝ }
+    ensures { λ r. ⌜ Wrote (now (out .entry)) at (writtenLine (headingLine (headingAt (allSections opacity) section))) (now (out .exit)) r ⌝ }
+{
+    match section {
+        0 => lines::write_heading(out, at, b"[AnalisiOpacita]"),
+        _ => lines::write_heading(out, at, b""),
+    }
+}
+
 // The line of a heading.
 pub fn write_heading(file: u32, section: usize, out: &mut [u8], at: usize) -> usize
     requires { ⌜ at + writtenLength (headingLine (headingAt (tableOf file) section)) ≤ length (now out) ⌝ }
@@ -85,6 +96,7 @@ pub fn write_heading(file: u32, section: usize, out: &mut [u8], at: usize) -> us
         DRIFT => write_drift_heading(section, out, at),
         SUSPENSION => write_suspension_heading(section, out, at),
         GAS => write_gas_heading(section, out, at),
+        OPACITY => write_opacity_heading(section, out, at),
         _ => lines::write_heading(out, at, b""),
     }
 }

@@ -13,10 +13,11 @@ use borrow.Author.Tests.{lt-ltb, le-ltb, ltb-false, not-false}
 use Rattle.lines.proofs.Bools.{clash}
 use Rattle.kinds.specs.Kind.{Kind, kindOf}
 use Rattle.kinds.specs.Value.{kindKept}
+use Rattle.kinds.proofs.Laws.{kindCount}
 use Rattle.places.specs.Places.{Pair, startOf, lengthOf, pairsAt, valueAt, Within, placeSize}
 use Rattle.tables.specs.Section.{Entry, Section, entriesOf}
 use Rattle.tables.specs.Row.{rowKinds, rowKind}
-use Rattle.tables.proofs.Rows.{kindCount, heading-row, entry-row}
+use Rattle.tables.proofs.Rows.{heading-row, entry-row}
 use Rattle.reading.specs.Fitting.{EachKept}
 use Rattle.reading.specs.Reading.{Check, passes, fails}
 use Rattle.writing.specs.Writing.{firstWrongPair, isOutside, isWrongKind}

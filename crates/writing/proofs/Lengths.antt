@@ -10,8 +10,8 @@ use lib.Seq.{length-take-le}
 use Rattle.lines.specs.Text.{bytes}
 use Rattle.places.specs.Places.{Pair, lengthOf, pairsAt, valueAt, Within}
 use Rattle.tables.specs.Section.{Entry, Section}
-use Rattle.tables.specs.Entries.{newBooking, oldBooking, tester, protocol, measurement, sixteen, driftAxle, suspensionAxle, analyser, counter, speedTest, allKeyDates, allKeyBodies, analysis, fuelAnalysis}
-use Rattle.tables.specs.File.{File, ac2, acc, drift, suspension, gas, fixedSections, axleEntries, axlesFrom, axleSections, sections, fileNumber, ofNumber}
+use Rattle.tables.specs.Entries.{newBooking, oldBooking, tester, protocol, measurement, sixteen, driftAxle, suspensionAxle, analyser, counter, speedTest, allKeyDates, allKeyBodies, analysis, fuelAnalysis, opacimeter, opacityTest, opacityKeys, opacityAnalysis}
+use Rattle.tables.specs.File.{File, ac2, acc, drift, suspension, gas, opacity, fixedSections, axleEntries, axlesFrom, axleSections, sections, fileNumber, ofNumber}
 use Rattle.tables.proofs.Files.{of-file}
 use Rattle.reading.specs.Tables.{entriesLength, tableLength, valuesLength}
 use Rattle.writing.specs.Steps.{pairLengths}
@@ -63,8 +63,9 @@ table-append (x ∷ t) u = omega (arith, table-append t u)
 
 all-fixed : (tableLength (fixedSections ac2) ≡ 268) × (tableLength (fixedSections acc) ≡ 135) × (tableLength (fixedSections drift) ≡ 247)
     × (tableLength (fixedSections suspension) ≡ 252) × (tableLength (fixedSections gas) ≡ 1162) × (entriesLength driftAxle ≡ 9) × (entriesLength suspensionAxle ≡ 42)
-unfolding tableLength entriesLength newBooking oldBooking tester protocol measurement sixteen driftAxle suspensionAxle analyser counter speedTest allKeyDates allKeyBodies analysis fuelAnalysis fixedSections
-all-fixed = (refl, refl, refl, refl, refl, refl, refl)
+    × (tableLength (fixedSections opacity) ≡ 1007)
+unfolding tableLength entriesLength newBooking oldBooking tester protocol measurement sixteen driftAxle suspensionAxle analyser counter speedTest allKeyDates allKeyBodies analysis fuelAnalysis opacimeter opacityTest opacityKeys opacityAnalysis fixedSections
+all-fixed = (refl, refl, refl, refl, refl, refl, refl, refl)
 
 -- the code's numbers
 abbrev pub tableSize : File → ℕ → ℕ
@@ -73,6 +74,7 @@ tableSize acc n = 135
 tableSize drift n = 247 + 25 * n
 tableSize suspension n = 252 + 63 * n
 tableSize gas n = 1162
+tableSize opacity n = 1007
 
 with-axles : (f : File) (n : ℕ) → tableLength (sections f n) ≡ tableLength (fixedSections f) + tableLength (axleSections f n)
 unfolding sections
@@ -85,6 +87,7 @@ table-size acc n = omega (arith, with-axles acc n, all-fixed .1)
 table-size drift n = omega (arith, with-axles drift n, all-fixed .2, axles-length "[DerivaAsse_" driftAxle 1 n, ap (λ (k : ℕ). n * (12 + 4 + k)) (all-fixed .5))
 table-size suspension n = omega (arith, with-axles suspension n, all-fixed .3, axles-length "[SospensioniAsse_" suspensionAxle 1 n, ap (λ (k : ℕ). n * (17 + 4 + k)) (all-fixed .6))
 table-size gas n = omega (arith, with-axles gas n, all-fixed .4)
+table-size opacity n = omega (arith, with-axles opacity n, all-fixed .7)
 
 pub size-of : (f : File) (n : ℕ) {file : ℕ} → file ≡ fileNumber f → tableSize f n ≡ ofNumber 0 (λ g. tableLength (sections g n)) file
 size-of f n e = sym (ap (ofNumber 0 (λ g. tableLength (sections g n))) e ∙ of-file 0 (λ g. tableLength (sections g n)) f ∙ table-size f n)

@@ -14,7 +14,7 @@ use Rattle.places.specs.Places.{Pair, pairsAt, placeSize}
 use Rattle.places.proofs.Laws.{pairs-length}
 use Rattle.tables.specs.Section.{Section, entriesOf}
 use Rattle.tables.specs.Row.{rowsBefore, rowCount, rowKinds, mostRows}
-use Rattle.tables.specs.File.{File, ac2, acc, drift, suspension, gas, fileNumber, ofNumber, hasAxles, leastAxles, mostAxles, fixedSections, sections, allSections, leastSections, entries, firstPair, leastPlaces, tableOf}
+use Rattle.tables.specs.File.{File, ac2, acc, drift, suspension, gas, opacity, fileNumber, ofNumber, hasAxles, leastAxles, mostAxles, fixedSections, sections, allSections, leastSections, entries, firstPair, leastPlaces, tableOf}
 use Rattle.tables.proofs.Files.{of-file, of-none, of-any, table-of, NoFile}
 use Rattle.tables.proofs.Axles.{sections-fixed, sections-length, sections-prefix, entries-most}
 use Rattle.tables.proofs.Numbers.{room-in}
@@ -48,7 +48,9 @@ right-file (suc (suc zero)) n e = record { of = acc; number-is = refl; axles = e
 right-file (suc (suc (suc zero))) n e = record { of = drift; number-is = refl; axles = e }
 right-file (suc (suc (suc (suc zero)))) n e = record { of = suspension; number-is = refl; axles = e }
 right-file (suc (suc (suc (suc (suc zero))))) n e = record { of = gas; number-is = refl; axles = e }
-right-file (suc (suc (suc (suc (suc (suc k)))))) n e = absurd (false≢true e)
+right-file (suc (suc (suc (suc (suc (suc zero)))))) n e = absurd (false≢true e)
+right-file (suc (suc (suc (suc (suc (suc (suc zero))))))) n e = record { of = opacity; number-is = refl; axles = e }
+right-file (suc (suc (suc (suc (suc (suc (suc (suc k)))))))) n e = absurd (false≢true e)
 
 module _ {file n : ℕ} (r : RightFile file n) where
   -- what is said of the number is said of the file
@@ -95,6 +97,7 @@ fixed-few file = of-any 0 (λ f. length (fixedSections f)) (λ k. k ≤ 2) (omeg
     two drift = omega arith
     two suspension = omega arith
     two gas = omega arith
+    two opacity = omega arith
 
 -- ---- 1 and 16
 

@@ -9,7 +9,7 @@ use Rattle.lines.specs.Bytes.{allPrintable}
 use Rattle.kinds.specs.Value.{kindKept, kindOk, isString, isDrift, startsWith, isFixed}
 use Rattle.places.specs.Places.{pairsAt}
 use Rattle.tables.specs.Section.{entriesOf}
-use Rattle.tables.specs.Entries.{newBooking, oldBooking, tester, protocol, measurement, sixteen, driftAxle, suspensionAxle, analyser, counter, speedTest, allKeyDates, allKeyBodies, analysis, fuelAnalysis}
+use Rattle.tables.specs.Entries.{newBooking, oldBooking, tester, protocol, measurement, sixteen, driftAxle, suspensionAxle, analyser, counter, speedTest, allKeyDates, allKeyBodies, analysis, fuelAnalysis, opacimeter, opacityTest, opacityKeys, opacityAnalysis}
 use Rattle.tables.specs.File.{fixedSections, axleEntries, axlesFrom, axleSections, sections, entries, room, rooms, firstPair, pairCount, leastPlaces, ofNumber}
 use Rattle.orders.specs.AnyOrder.{linesOf}
 use Rattle.reading.specs.Writing.{groupsOf, writeText}
@@ -20,20 +20,22 @@ abbrev zeros : ℕ → List ℕ
 zeros n = replicate n 0
 
 abbrev first : ℕ → ℕ → List ℕ
-first a n = set (set (zeros 278) 36 a) 37 n
+first a n = set (set (zeros 388) 36 a) 37 n
 
 abbrev axle : ℕ → ℕ → List ℕ
-axle a n = set (set (zeros 278) 70 a) 71 n
+axle a n = set (set (zeros 388) 70 a) 71 n
 
 pub samples :
-    (quoteFile 2 0 [] (zeros 277) ≡ refuse 1 0)
-    × (quoteFile 2 0 [] (zeros 278) ≡ quote 135)
-    × (quoteFile 0 0 [] (zeros 278) ≡ refuse 16 0)
-    × (quoteFile 6 0 [] (zeros 278) ≡ refuse 16 0)
-    × (quoteFile 2 1 [] (zeros 278) ≡ refuse 16 0)
-    × (quoteFile 3 0 [] (zeros 278) ≡ refuse 16 0)
-    × (quoteFile 3 10 [] (zeros 278) ≡ refuse 16 0)
-    × (quoteFile 3 9 [] (zeros 278) ≡ quote 472)
+    (quoteFile 2 0 [] (zeros 387) ≡ refuse 1 0)
+    × (quoteFile 2 0 [] (zeros 388) ≡ quote 135)
+    × (quoteFile 0 0 [] (zeros 388) ≡ refuse 16 0)
+    × (quoteFile 6 0 [] (zeros 388) ≡ refuse 16 0)
+    × (quoteFile 7 0 [] (zeros 388) ≡ quote 1007)
+    × (quoteFile 7 1 [] (zeros 388) ≡ refuse 16 0)
+    × (quoteFile 2 1 [] (zeros 388) ≡ refuse 16 0)
+    × (quoteFile 3 0 [] (zeros 388) ≡ refuse 16 0)
+    × (quoteFile 3 10 [] (zeros 388) ≡ refuse 16 0)
+    × (quoteFile 3 9 [] (zeros 388) ≡ quote 472)
     -- 17 for length 0 too, with the line behind the heading's
     × (quoteFile 3 1 (bytes "ab") (first 3 0) ≡ refuse 17 2)
     × (quoteFile 3 1 (bytes "ab") (first 2 0) ≡ quote 272)
@@ -45,6 +47,6 @@ pub samples :
     × (quoteFile 3 2 (bytes "ab") (axle 3 0) ≡ refuse 17 21)
     × (quoteFile 3 2 (bytes "ab") (axle 0 1) ≡ refuse 9 21)
 unfolding quoteFile isRight quoteRight ofNumber firstWrongPair pairsAt writeText groupsOf linesOf textOf entriesOf kindKept kindOk isString isDrift startsWith isFixed allPrintable
-    newBooking oldBooking tester protocol measurement sixteen driftAxle suspensionAxle analyser counter speedTest allKeyDates allKeyBodies analysis fuelAnalysis
+    newBooking oldBooking tester protocol measurement sixteen driftAxle suspensionAxle analyser counter speedTest allKeyDates allKeyBodies analysis fuelAnalysis opacimeter opacityTest opacityKeys opacityAnalysis
     fixedSections axleEntries axlesFrom axleSections sections entries room rooms firstPair pairCount leastPlaces
-samples = (refl, refl, refl, refl, refl, refl, refl, refl, refl, refl, refl, refl, refl, refl, refl)
+samples = (refl, refl, refl, refl, refl, refl, refl, refl, refl, refl, refl, refl, refl, refl, refl, refl, refl)

@@ -22,7 +22,7 @@ use Rattle.writing.specs.declared.WriteAnswer.the-variants.{Written, Ref
 use Rattle.writing.specs.declared.Quoted.{Quoted}
 use Rattle.writing.specs.declared.Quoted.the-variants.{Length, Refused as Stopped}
 
--- 16: "axles not 1 to 9 in 3, 4, or not 0 in 1, 2, 5"
+-- 16: "axles not 1 to 9 in 3, 4, or not 0 in 1, 2, 5"; 02, 2/14: "file 7 with 0 axles, which 16 now lets through"
 abbrev pub axlesRight : Bool → ℕ → Bool
 axlesRight true n = leb leastAxles n && leb n mostAxles
 axlesRight false n = eqb n 0
@@ -59,7 +59,7 @@ quotePairs f n s p =
     (unless (firstWrongPair (isWrongKind s) 9 (rowKinds (sections f n)) 1 (pairsOf f n p))
     (quote (length (writeText (sections f n) (valuesOf f n s p)))))
 
--- 16: "file not 1 to 5", and the axles
+-- 16: "file not 1 to 5", which 02, 2/14 adds 7 to, and the axles
 unfoldable pub isRight : ℕ → ℕ → Bool
 isRight file n = ofNumber false (λ f. axlesRight (hasAxles f) n) file
 

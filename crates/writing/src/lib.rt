@@ -6,6 +6,7 @@ use tables::AC2;
 use tables::ACC;
 use tables::DRIFT;
 use tables::GAS;
+use tables::OPACITY;
 use tables::SUSPENSION;
 use tables::row_kinds;
 ghost use mathlib.Core.Path.{_≡_};
@@ -48,7 +49,7 @@ fn are_axles(axles: u32) -> bool
     }
 }
 
-// Number 16: whether the file is one of the five and has so many axles.
+// Number 16: whether there is such a file and it can have so many axles.
 fn is_right(file: u32, axles: u32) -> bool
     ensures { λ r. ⌜ r ≡ isRight file axles ⌝ }
 {
@@ -58,6 +59,7 @@ fn is_right(file: u32, axles: u32) -> bool
         DRIFT => are_axles(axles),
         SUSPENSION => are_axles(axles),
         GAS => axles == 0,
+        OPACITY => axles == 0,
         _ => false,
     }
 }
@@ -141,6 +143,7 @@ fn table_length(file: u32, axles: u32) -> usize
         DRIFT => 247 + 25 * axles as usize,
         SUSPENSION => 252 + 63 * axles as usize,
         GAS => 1162,
+        OPACITY => 1007,
         _ => 0,
     }
 }

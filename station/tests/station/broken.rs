@@ -11,8 +11,28 @@ use std::process::Command;
 use crate::common::{empty_folder, repository, run};
 use crate::transcripts::check;
 
-/// The stem of the sample that most sets are made from.
-const CAR: &str = "AA123456";
+/// A sample that broken sets are made from.
+pub struct Sample {
+    folder: &'static str,
+    pub stem: &'static str,
+}
+
+const CAR: Sample = Sample {
+    folder: "accepted-car",
+    stem: "AA123456",
+};
+
+pub const DIESEL: Sample = Sample {
+    folder: "accepted-diesel",
+    stem: "AE305518",
+};
+
+impl Sample {
+    /// The file of its copy.
+    fn file(&self, folder: &Path, ending: &str) -> PathBuf {
+        folder.join(format!("{}.{ending}", self.stem))
+    }
+}
 
 /// The folder in which the broken sets are made.
 struct Broken {
@@ -32,21 +52,33 @@ impl Broken {
     }
 
     fn car(&self, name: &str) -> PathBuf {
-        self.copy(name, "accepted-car")
+        self.copy(name, CAR.folder)
+    }
+
+    fn diesel(&self, name: &str) -> PathBuf {
+        self.copy(name, DIESEL.folder)
     }
 
     /// A copy of the car with one file changed.
     fn edit(&self, name: &str, ending: &str, change: impl FnOnce(Vec<u8>) -> Vec<u8>) {
-        let path = file_of_car(&self.car(name), ending);
-        let before = fs::read(&path).expect("a file");
-        let after = change(before.clone());
-        assert_ne!(before, after, "{name}: the sample has changed");
-        fs::write(&path, after).expect("a file is written");
+        change_file(&file_of_car(&self.car(name), ending), change);
     }
 
     /// A copy of the car in which these bytes stand instead of those.
     fn replace(&self, name: &str, ending: &str, old: &[u8], new: &[u8]) {
         self.edit(name, ending, |text| replaced(&text, old, new));
+    }
+
+    /// A copy of the diesel in whose opacity file this stands instead of that.
+    fn opacity(&self, name: &str, old: &str, new: &str) {
+        self.diesel_file(name, "OPA", old, new);
+    }
+
+    /// The same in any of its files.
+    fn diesel_file(&self, name: &str, ending: &str, old: &str, new: &str) {
+        change_file(&DIESEL.file(&self.diesel(name), ending), |text| {
+            replaced(&text, old.as_bytes(), new.as_bytes())
+        });
     }
 
     /// A copy of the car without one file; its path.
@@ -57,6 +89,13 @@ impl Broken {
     }
 }
 
+fn change_file(path: &Path, change: impl FnOnce(Vec<u8>) -> Vec<u8>) {
+    let before = fs::read(path).expect("a file");
+    let after = change(before.clone());
+    assert_ne!(before, after, "{}: the sample has changed", path.display());
+    fs::write(path, after).expect("a file is written");
+}
+
 /// The files of a folder.
 pub fn files(folder: &Path) -> Vec<PathBuf> {
     let entries = fs::read_dir(folder).expect("a folder");
@@ -64,7 +103,7 @@ pub fn files(folder: &Path) -> Vec<PathBuf> {
 }
 
 fn file_of_car(folder: &Path, ending: &str) -> PathBuf {
-    folder.join(format!("{CAR}.{ending}"))
+    CAR.file(folder, ending)
 }
 
 fn replaced(text: &[u8], old: &[u8], new: &[u8]) -> Vec<u8> {
@@ -114,7 +153,10 @@ pub fn identification(inner: &[u8]) -> Vec<u8> {
     [b"\x02", inner, end.as_bytes()].concat()
 }
 
-/// The sixty-one sets, in a new folder of this name.
+/// How many sets there are.
+const COUNT: usize = 98;
+
+/// All of them, in a new folder of this name.
 pub fn broken_sets(name: &str) -> PathBuf {
     let broken = Broken {
         folder: empty_folder(name),
@@ -124,6 +166,9 @@ pub fn broken_sets(name: &str) -> PathBuf {
     lines(&broken);
     values(&broken);
     several_files(&broken);
+    opacity_as_a_whole(&broken);
+    opacity_values(&broken);
+    names_and_marks(&broken);
     broken.folder
 }
 
@@ -295,10 +340,105 @@ fn several_files(broken: &Broken) {
     fs::write(&ac2, replaced(&text, b"=BENZINA\r", b"=benzina\r")).expect("a file is written");
 }
 
+/// An opacity file that is missing, and what its device writes otherwise; the diesel's fuel.
+fn opacity_as_a_whole(broken: &Broken) {
+    let path = |folder: PathBuf| DIESEL.file(&folder, "OPA");
+    fs::remove_file(path(broken.diesel("62-opacity-missing"))).expect("a file is removed");
+    fs::write(path(broken.diesel("63-opacity-empty")), "").expect("a file is written");
+    let opacity = path(broken.diesel("64-opacity-txt"));
+    fs::rename(&opacity, opacity.with_extension("OPA.txt")).expect("another name");
+    let opacity = path(broken.diesel("65-gas-for-opacity"));
+    let gas = repository().join("samples/accepted-moped/AD900123.GAS");
+    fs::copy(gas, opacity.with_extension("GAS")).expect("a copy");
+    fs::remove_file(opacity).expect("a file is removed");
+    // The device leaves out the peaks that it did not need.
+    let opacity = path(broken.diesel("66-peaks-left-out"));
+    change_file(&opacity, |text| {
+        (4..=8).fold(text, |text, peak| {
+            replaced(&text, format!("ValoreK{peak}=\r\n").as_bytes(), b"")
+        })
+    });
+    broken.opacity(
+        "67-name-of-gas",
+        "NumVersSoftwareContagiri=",
+        "NumVersioneSoftwareContagiri=",
+    );
+    broken.diesel_file("68-diesel-small-letters", "AC2", "=DIESEL\r", "=diesel\r");
+}
+
+/// Values of opacity by themselves and by what is due.
+fn opacity_values(broken: &Broken) {
+    let values = [
+        ("69-peak-comma", "ValoreK1=0.62", "ValoreK1=0,62"),
+        ("70-peak-one-digit", "ValoreK2=0.55", "ValoreK2=0.5"),
+        ("71-limit-two-digits", "LimiteK=1.5", "LimiteK=1.50"),
+        ("72-plate-of-three", "Targa=EZ518RM", "Targa=EZ5"),
+        (
+            "73-temperature-half",
+            "TempAmbiente=-3",
+            "TempAmbiente=-3.5",
+        ),
+        ("74-temperature-plus", "TempAmbiente=-3", "TempAmbiente=+3"),
+        ("75-mark-behind", "=#85.0", "=85.0#"),
+        ("76-mark-and-space", "=#4200", "=# 4200"),
+        ("77-mark-on-peak", "ValoreK3=0.51", "ValoreK3=#0.51"),
+        ("78-thousands", "=#4200", "=4.000"),
+        ("79-humidity-percent", "=#71", "=71%"),
+        ("80-humidity-float", "=#71", "=#71.0"),
+        ("81-pressure-hpa", "=101.8", "=1018"),
+        ("82-outcome-small", "Esito=R", "Esito=r"),
+        ("83-outcome-word", "Esito=R", "Esito=REGOLARE"),
+        (
+            "84-version-point",
+            "NumVersioneProtocollo=210",
+            "NumVersioneProtocollo=2.10",
+        ),
+        ("85-counter-integrated", "=ESTERNO", "=INTEGRATO"),
+        (
+            "86-key-of-200",
+            "NumVersioneProtocollo=210",
+            "NumVersioneProtocollo=200",
+        ),
+    ];
+    for (name, old, new) in values {
+        broken.opacity(name, &format!("{old}\r"), &format!("{new}\r"));
+    }
+}
+
+/// Files under another's name, headings and words that are none, and `#` where it does not belong.
+fn names_and_marks(broken: &Broken) {
+    let path = |folder: &Path, ending: &str| DIESEL.file(folder, ending);
+    let folder = broken.diesel("87-opacity-as-gas");
+    fs::rename(path(&folder, "OPA"), path(&folder, "GAS")).expect("another name");
+    let folder = broken.car("88-gas-as-opacity");
+    fs::rename(file_of_car(&folder, "GAS"), file_of_car(&folder, "OPA")).expect("another name");
+    broken.opacity("89-heading-of-none", "[AnalisiOpacita]", "[AnalisiFumi]");
+    broken.opacity("90-heading-gone", "[AnalisiOpacita]\r\n", "");
+    broken.diesel_file("91-category-n4", "AC2", "=N1\r", "=N4\r");
+    let values = [
+        ("92-mark-at-name", "TempOlioMotore=#", "#TempOlioMotore="),
+        ("93-mark-behind-name", "GiriMotoreMax=#", "GiriMotoreMax#="),
+        ("94-mark-in-digits", "=#4200\r", "=4#00\r"),
+        ("95-marks", "=#71\r", "=##71\r"),
+        ("96-mark-alone", "LimiteK=1.5\r", "LimiteK=#\r"),
+        ("97-placeholder", "ValoreK4=\r", "ValoreK4=---\r"),
+    ];
+    for (name, old, new) in values {
+        broken.opacity(name, old, new);
+    }
+    // As if the device had measured it.
+    broken.replace(
+        "98-idle-mark-at-name",
+        "GAS",
+        b"NumGiriMotoreMin=#",
+        b"#NumGiriMotoreMin=",
+    );
+}
+
 #[test]
 fn broken_sets_are_told_apart() {
     let folder = broken_sets("broken");
-    assert_eq!(files(&folder).len(), 61);
+    assert_eq!(files(&folder).len(), COUNT);
     check("broken.txt", &folder);
 }
 
@@ -319,7 +459,7 @@ fn broken_sets_are_all_tried() {
 fn a_file_without_permissions() {
     let folder = broken_sets("broken-permissions").join("19-unreadable");
     let may_read = File::open(file_of_car(&folder, "DER")).is_ok();
-    let output = run(&folder, &["judge", ".", CAR]);
+    let output = run(&folder, &["judge", ".", CAR.stem]);
     let said = String::from_utf8_lossy(&output.stderr).into_owned();
     if may_read {
         assert_eq!(output.status.code(), Some(0), "{said}");

@@ -1,8 +1,9 @@
 //! Refusals 10 and 11, and those of 12 that come from the same values: each names the values that decide.
 
+use std::fs;
 use std::path::Path;
 
-use crate::common::{changed, empty_folder, put, Change};
+use crate::common::{changed, empty_folder, put, repository, Change};
 use crate::transcripts::check;
 
 /// A set made from a sample: what is changed, and which files go.
@@ -11,6 +12,8 @@ struct Made {
     sample: &'static str,
     changes: &'static [Change],
     gone: &'static [&'static str],
+    /// A file of another sample, which stands here under the set's own stem.
+    more: Option<&'static str>,
 }
 
 const fn moped(name: &'static str, changes: &'static [Change]) -> Made {
@@ -19,6 +22,7 @@ const fn moped(name: &'static str, changes: &'static [Change]) -> Made {
         sample: "accepted-moped",
         changes,
         gone: &[],
+        more: None,
     }
 }
 
@@ -28,14 +32,44 @@ const fn car(name: &'static str, changes: &'static [Change], gone: &'static [&st
         sample: "accepted-car",
         changes,
         gone,
+        more: None,
     }
 }
+
+const fn diesel(name: &'static str, changes: &'static [Change], gone: &'static [&str]) -> Made {
+    Made {
+        name,
+        sample: "accepted-diesel",
+        changes,
+        gone,
+        more: None,
+    }
+}
+
+impl Made {
+    const fn without(self, gone: &'static [&'static str]) -> Made {
+        Made { gone, ..self }
+    }
+
+    const fn with(self, more: &'static str) -> Made {
+        Made {
+            more: Some(more),
+            ..self
+        }
+    }
+}
+
+const GAS_FILE: &str = "accepted-car/AA123456.GAS";
+const OPACITY_FILE: &str = "accepted-diesel/AE305518.OPA";
 
 const FUEL: Change = ("AC2", "=BENZINA\r", "=benzina\r");
 const OLD_WORD: Change = ("AC2", "=BENZINA\r", "=BENZINA CAT\r");
 const DIRECTIVE: Change = ("AC2", "=98/69/CE", "=");
 
-const SETS: [Made; 25] = [
+const NO_TURBO: Change = ("AC2", "Turbo=S", "Turbo=");
+const NO_CORRECTOR: Change = ("AC2", "CorrettorePressione=N", "CorrettorePressione=");
+
+const SETS: [Made; 43] = [
     moped("category", &[("AC2", "=L1e", "=L3e")]),
     moped("plate", &[("AC2", "=X2ABCD", "=X2ABCDE")]),
     moped(
@@ -115,12 +149,111 @@ const SETS: [Made; 25] = [
         &[("AC2", "=BENZINA\r", "=BENZ.\r"), DIRECTIVE],
         &["GAS", "ID"],
     ),
+    diesel("wrong-test", &[], &["OPA"]).with(GAS_FILE),
+    car("opacity-with-petrol", &[], &[]).with(OPACITY_FILE),
+    moped(
+        "opacity-with-quadricycle",
+        &[
+            ("AC2", "=L1e", "=L6e"),
+            ("AC2", "=BENZINA", "=DIESEL"),
+            ("AC2", "Turbo=", "Turbo=N"),
+            ("AC2", "CorrettorePressione=", "CorrettorePressione=N"),
+        ],
+    )
+    .without(&["GAS"])
+    .with(OPACITY_FILE),
+    diesel(
+        "opacity-small-letters",
+        &[("AC2", "=DIESEL\r", "=diesel\r"), NO_TURBO, NO_CORRECTOR],
+        &["ACC"],
+    ),
+    diesel(
+        "gasolio",
+        &[("AC2", "=DIESEL\r", "=GASOLIO\r"), NO_TURBO, NO_CORRECTOR],
+        &["ACC", "OPA"],
+    ),
+    diesel(
+        "gasolio-old-booking",
+        &[("AC2", "=DIESEL\r", "=GASOLIO\r"), NO_TURBO, NO_CORRECTOR],
+        &["OPA"],
+    ),
+    diesel(
+        "bookings-diesel-gpl",
+        &[("AC2", "=DIESEL\r", "=GPL\r"), NO_TURBO, NO_CORRECTOR],
+        &["OPA"],
+    ),
+    diesel(
+        "gasolio-opacity",
+        &[("AC2", "=DIESEL\r", "=GASOLIO\r"), NO_TURBO, NO_CORRECTOR],
+        &["ACC"],
+    ),
+    diesel(
+        "gasolio-turbo",
+        &[("AC2", "=DIESEL\r", "=GASOLIO\r")],
+        &["ACC"],
+    ),
+    diesel(
+        "gasolio-hybrid",
+        &[
+            ("AC2", "=DIESEL\r", "=GASOLIO/ELETTRICO\r"),
+            NO_TURBO,
+            NO_CORRECTOR,
+        ],
+        &["ACC"],
+    ),
+    diesel(
+        "hybrid-gasolio",
+        &[("AC2", "=DIESEL\r", "=IBRIDO GASOLIO\r"), NO_TURBO],
+        &["ACC"],
+    ),
+    car(
+        "gasolio-gas",
+        &[("AC2", "=BENZINA\r", "=GASOLIO\r"), DIRECTIVE],
+        &["ACC"],
+    ),
+    car(
+        "two-fuels-gas",
+        &[("AC2", "=BENZINA\r", "=BENZINA/GPL\r"), DIRECTIVE],
+        &["ACC"],
+    ),
+    car(
+        "short-fuel-answer",
+        &[("AC2", "=BENZINA\r", "=BENZ.\r"), DIRECTIVE],
+        &["ACC", "GAS"],
+    ),
+    diesel("opacity-link", &[("OPA", "=RS SENZA ESITO", "=DIR")], &[]),
+    diesel(
+        "opacity-no-key",
+        &[("OPA", "IDChiaveRS=K0231", "IDChiaveRS=")],
+        &[],
+    ),
+    diesel(
+        "opacity-counter-200",
+        &[("OPA", "Contagiri=210", "Contagiri=200")],
+        &[],
+    ),
+    diesel(
+        "opacity-version-201",
+        &[(
+            "OPA",
+            "NumVersioneProtocollo=210",
+            "NumVersioneProtocollo=201",
+        )],
+        &[],
+    ),
 ];
 
 impl Made {
     fn put(&self, root: &Path) {
         let folder = root.join(self.name);
-        for (name, text) in changed(self.sample, self.changes) {
+        let files = changed(self.sample, self.changes);
+        let (first, _) = files.first().expect("a file");
+        if let Some(more) = self.more.map(Path::new) {
+            let text = fs::read(repository().join("samples").join(more)).expect("a sample");
+            let name = first.with_extension(more.extension().expect("an ending"));
+            put(folder.join(name), text);
+        }
+        for (name, text) in &files {
             let ending = name.extension().expect("an ending");
             if !self.gone.iter().any(|gone| ending == *gone) {
                 put(folder.join(name), text);

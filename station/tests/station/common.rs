@@ -5,6 +5,9 @@ use std::fs;
 use std::path::{Path, PathBuf};
 use std::process::{Command, Output};
 
+/// The endings of a set's files, in the order of their numbers.
+pub const ENDINGS: [&str; 7] = ["AC2", "ACC", "DER", "SOS", "GAS", "ID", "OPA"];
+
 /// The repository's root, where the samples are.
 pub fn repository() -> PathBuf {
     let root = Path::new(env!("CARGO_MANIFEST_DIR")).parent();

@@ -6,20 +6,18 @@ use std::fs;
 use std::os::unix::ffi::OsStrExt;
 use std::path::{Path, PathBuf};
 
-use crate::broken::{broken_sets, files};
-use crate::common::{empty_folder, put, repository, run};
+use crate::broken::{broken_sets, files, DIESEL};
+use crate::common::{empty_folder, put, repository, run, ENDINGS};
 use outside::comparison::set_case;
 use outside::generator::record;
 use outside::judge::{Call, Set};
 use outside::random::Random;
 
-const ENDINGS: [&str; 6] = ["AC2", "ACC", "DER", "SOS", "GAS", "ID"];
-
 /// More mendings than any broken set needs.
 const MOST_STEPS: usize = 20;
 
 /// The broken sets that are accepted once the advice is obeyed, besides those that are accepted as they are.
-const MENDED: [&str; 30] = [
+const MENDED: [&str; 40] = [
     "01-lf-only",
     "02-bom",
     "03-trailing-blank",
@@ -50,11 +48,21 @@ const MENDED: [&str; 30] = [
     "51-lf-one-line",
     "54-co-3dec",
     "61-fuel-small-letters",
+    "68-diesel-small-letters",
+    "69-peak-comma",
+    "70-peak-one-digit",
+    "71-limit-two-digits",
+    "74-temperature-plus",
+    "75-mark-behind",
+    "76-mark-and-space",
+    "80-humidity-float",
+    "82-outcome-small",
+    "95-marks",
 ];
 
 /// Generated sets; seeds apart from those of other tests.
 const GENERATED: u64 = 300;
-const GENERATED_PETROL: u64 = 600;
+const GENERATED_FUELS: u64 = 600;
 const FIRST_SEED: u64 = 10 << 40;
 const FIRST_RECORD: u64 = 11 << 40;
 
@@ -108,8 +116,8 @@ fn string(text: &str) -> Option<Vec<u8>> {
 }
 
 /// The files of a set that are not empty, by the place of their endings.
-fn given(folder: &Path, stem: &OsStr) -> [Option<PathBuf>; 6] {
-    let mut given: [Option<PathBuf>; 6] = Default::default();
+fn given(folder: &Path, stem: &OsStr) -> [Option<PathBuf>; ENDINGS.len()] {
+    let mut given: [Option<PathBuf>; ENDINGS.len()] = Default::default();
     for path in files(folder) {
         let ending = path.extension().unwrap_or_default().to_ascii_uppercase();
         let at = ENDINGS.iter().position(|other| ending == *other);
@@ -209,11 +217,11 @@ fn obeyed(folder: &Path, mut stem: OsString) -> (bool, usize) {
     panic!("{}: the advice has no end", folder.display());
 }
 
-/// Whether a folder has a gas file that is not empty.
-fn has_gas(folder: &Path) -> bool {
+/// Whether a folder has a file with this ending that is not empty.
+fn has(folder: &Path, ending: &str) -> bool {
     files(folder).iter().any(|path| {
-        let is_gas = path.extension().is_some_and(|ending| ending == "GAS");
-        is_gas && fs::metadata(path).is_ok_and(|file| file.len() > 0)
+        let is_it = path.extension().is_some_and(|other| other == ending);
+        is_it && fs::metadata(path).is_ok_and(|file| file.len() > 0)
     })
 }
 
@@ -226,10 +234,13 @@ fn no_test_is_left_out_by_obeying() {
             .expect("a name")
             .to_string_lossy()
             .into_owned();
-        let (accepted, steps) = obeyed(&folder, stem_of(&folder));
+        let stem = stem_of(&folder);
+        // All others are made from vehicles with petrol.
+        let needed = if stem == DIESEL.stem { "OPA" } else { "GAS" };
+        let (accepted, steps) = obeyed(&folder, stem);
         assert!(
-            !accepted || has_gas(&folder),
-            "{name}: accepted without the gas test"
+            !accepted || has(&folder, needed),
+            "{name}: accepted without its {needed}"
         );
         if accepted && steps > 0 {
             mended.push(name);
@@ -278,7 +289,8 @@ fn the_cause_is_mended_first() {
     for (at, (directive, endings, last)) in cases.into_iter().enumerate() {
         let folder = small_letters(&format!("obeyed-fuel-{at}"), directive, endings);
         let (accepted, steps) = obeyed(&folder, "AA123456".into());
-        assert_eq!((accepted, steps), (accepted && has_gas(&folder), 1), "{at}");
+        let has_gas = has(&folder, "GAS");
+        assert_eq!((accepted, steps), (accepted && has_gas, 1), "{at}");
         let answer = run(&folder, &["judge", ".", "AA123456", "--json"]).stdout;
         let answer = String::from_utf8(answer).expect("JSON is UTF-8");
         assert!(answer.contains(last), "{at}: {answer}");
@@ -295,82 +307,132 @@ fn a_doubtful_fuel_is_noted() {
     assert!(answer.contains("  note     AC2 line 8"), "{answer}");
 }
 
-/// What may have been taken out of a petrol vehicle's set, to make it pass with its fuel written wrong.
-fn taken_out(set: &mut Set, which: usize) {
-    const DIRECTIVE: &str = "DirettivaEmissioniGas";
-    let ac2 = String::from_utf8(set.slices[0].clone()).expect("a text");
-    let without = |instead: fn(&str) -> Option<String>| -> Vec<u8> {
-        let lines =
-            ac2.split_inclusive('\n')
-                .filter_map(|line| match line.starts_with(DIRECTIVE) {
-                    true => instead(line),
-                    false => Some(line.to_string()),
-                });
-        lines.collect::<String>().into_bytes()
-    };
-    let emptied = |line: &str| Some(format!("{}=\r\n", line.split('=').next()?));
-    match which % 4 {
-        1 => set.slices[0] = without(emptied),
-        2 => set.slices[0] = without(|_| None),
-        _ => (),
-    }
-    let gone: &[usize] = match which / 4 % 4 {
-        1 => &[4],
-        2 => &[4, 5],
-        3 => &[1, 4, 5],
-        _ => &[],
-    };
-    gone.iter().for_each(|at| set.slices[*at].clear());
+/// A fuel by which a test is due, and what may go wrong with it.
+struct Fuel {
+    word: &'static str,
+    /// The ending of the test's file.
+    test: &'static str,
+    /// How the names of the entries of the new booking begin that are filled with it.
+    entries: &'static [&'static str],
+    /// How it may be written wrong, and other fuels.
+    written: [&'static str; 8],
+    /// The files that may be gone.
+    gone: [&'static [&'static str]; 4],
 }
 
-/// The fuel written wrong, and another fuel.
-const WRITTEN: [&str; 8] = [
-    "benzina",
-    "BENZINA ",
-    "Benzina",
-    "BENZNA",
-    "BENZINA CAT",
-    "GPL",
-    "METANO",
-    "DIESEL",
-];
+const PETROL: Fuel = Fuel {
+    word: "BENZINA",
+    test: "GAS",
+    entries: &["DirettivaEmissioniGas"],
+    written: [
+        "benzina",
+        "BENZINA ",
+        "Benzina",
+        "BENZNA",
+        "BENZINA CAT",
+        "GPL",
+        "METANO",
+        "DIESEL",
+    ],
+    gone: [&[], &["GAS"], &["GAS", "ID"], &["ACC", "GAS", "ID"]],
+};
+
+const DIESEL_FUEL: Fuel = Fuel {
+    word: "DIESEL",
+    test: "OPA",
+    entries: &["Turbo", "CorrettorePressione"],
+    written: [
+        "diesel",
+        "DIESEL ",
+        "Diesel",
+        "DISEL",
+        "DIESEL TURBO COMPRESSO",
+        "GASOLIO",
+        "GPL",
+        "METANO",
+    ],
+    gone: [&[], &["OPA"], &["OPA", "DER"], &["ACC", "OPA"]],
+};
+
+/// Fuels that are written right, so that nothing in the new booking says that another is meant.
 const OTHER_FUELS: [&str; 3] = ["GPL", "METANO", "DIESEL"];
 
-/// A petrol vehicle's new booking with another fuel, and what is due with that. None where it is no petrol vehicle's.
-fn with_fuel(ac2: &str, fuel: &str) -> Option<String> {
-    let old = "Alimentazione_1=BENZINA\r";
-    let written = ac2.replace(old, &format!("Alimentazione_1={fuel}\r"));
-    let written = match fuel {
-        "DIESEL" => written
-            .replace("Turbo=\r", "Turbo=S\r")
-            .replace("CorrettorePressione=\r", "CorrettorePressione=N\r"),
-        _ => written,
-    };
-    ac2.contains(old).then_some(written)
+fn slice<'a>(set: &'a mut Set, ending: &str) -> &'a mut Vec<u8> {
+    let at = ENDINGS.iter().position(|other| *other == ending);
+    &mut set.slices[at.expect("an ending of a set")]
 }
 
-/// Whether nothing in a set says that its vehicle, which has another fuel, is one with petrol: no old booking is read.
+fn booking(set: &Set) -> String {
+    String::from_utf8(set.slices[0].clone()).expect("a text")
+}
+
+impl Fuel {
+    /// Whether a vehicle has this fuel and needs the test.
+    fn is_of(&self, set: &Set) -> bool {
+        let ac2 = booking(set);
+        let has = |line: &str| ac2.contains(line);
+        let category = |letter: &str| has(&format!("CategoriaInternazionale={letter}"));
+        let is_tested = self.test == "GAS" || category("M") || category("N");
+        has(&format!("Alimentazione_1={}\r", self.word)) && is_tested
+    }
+
+    /// The fuel written otherwise, with what is due with that.
+    fn write(&self, set: &mut Set, fuel: &str) {
+        let old = format!("Alimentazione_1={}\r", self.word);
+        let written = booking(set).replace(&old, &format!("Alimentazione_1={fuel}\r"));
+        let written = match fuel {
+            "DIESEL" => written
+                .replace("Turbo=\r", "Turbo=S\r")
+                .replace("CorrettorePressione=\r", "CorrettorePressione=N\r"),
+            _ => written,
+        };
+        set.slices[0] = written.into_bytes();
+    }
+
+    /// What may have been taken out of a set, to make it pass with its fuel written wrong.
+    fn take_out(&self, set: &mut Set, which: usize) {
+        let ac2 = booking(set);
+        let lines = ac2.split_inclusive('\n');
+        let is_of_fuel = |line: &&str| self.entries.iter().any(|name| line.starts_with(name));
+        let emptied = |line: &str| format!("{}=\r\n", line.split('=').next().expect("a name"));
+        let lines: String = match which % 4 {
+            1 => lines
+                .map(|line| match is_of_fuel(&line) {
+                    true => emptied(line),
+                    false => line.to_string(),
+                })
+                .collect(),
+            2 => lines.filter(|line| !is_of_fuel(line)).collect(),
+            _ => lines.collect(),
+        };
+        set.slices[0] = lines.into_bytes();
+        for ending in self.gone[which / 4 % 4] {
+            slice(set, ending).clear();
+        }
+    }
+}
+
+/// Whether nothing in a set says that its vehicle, which has another fuel, is one that needs the test: no old booking is
+/// read.
 fn nothing_contradicts(set: &Set, fuel: &str) -> bool {
-    let ac2 = String::from_utf8_lossy(&set.slices[0]);
-    let acc = !set.slices[1].is_empty() && !ac2.contains("CategoriaInternazionale=L");
+    let acc = !set.slices[1].is_empty() && !booking(set).contains("CategoriaInternazionale=L");
     OTHER_FUELS.contains(&fuel) && !acc
 }
 
-/// Generated petrol vehicles with their fuel written wrong or as another, and more taken out: advice never leads to
-/// acceptance without gas where something says that it is due. What the judge accepts as it stands has a note.
-#[test]
-fn no_petrol_vehicle_goes_without_gas() {
-    let root = empty_folder("obeyed-petrol");
+/// Generated vehicles of a fuel, written wrong or as another, and more taken out: advice never leads to acceptance
+/// without the test where something says that it is due, nor to taking out what may be that test. What the judge accepts
+/// as it stands has a note.
+fn no_vehicle_goes_without(fuel: &Fuel) {
+    let root = empty_folder(&format!("obeyed-{}", fuel.test));
     let (mut tried, mut mended) = (0, 0);
-    for at in 0..GENERATED_PETROL {
+    for at in 0..GENERATED_FUELS {
         let mut set = record(&mut Random::new(FIRST_RECORD + at)).set;
-        let ac2 = String::from_utf8(set.slices[0].clone()).expect("a text");
-        let fuel = WRITTEN[at as usize % WRITTEN.len()];
-        let Some(written) = with_fuel(&ac2, fuel) else {
+        if !fuel.is_of(&set) {
             continue;
-        };
-        set.slices[0] = written.into_bytes();
-        taken_out(&mut set, at as usize / WRITTEN.len());
+        }
+        let written = fuel.written[tried % fuel.written.len()];
+        fuel.write(&mut set, written);
+        fuel.take_out(&mut set, tried / fuel.written.len());
         let folder = root.join(at.to_string());
         let stem = String::from_utf8(set.stem.clone()).expect("a stem");
         for (ending, slice) in ENDINGS.iter().zip(&set.slices) {
@@ -384,16 +446,32 @@ fn no_petrol_vehicle_goes_without_gas() {
         let noted = answer.contains("has Alimentazione_1=");
         assert!(
             !accepted
-                || has_gas(&folder)
+                || has(&folder, fuel.test)
                 || (steps == 0 && noted)
-                || nothing_contradicts(&set, fuel),
-            "{}: accepted without gas: {answer}",
+                || nothing_contradicts(&set, written),
+            "{}: accepted without {}: {answer}",
+            folder.display(),
+            fuel.test
+        );
+        assert!(
+            OTHER_FUELS.contains(&written) || !answer.contains("last resort"),
+            "{}: something is to be taken out: {answer}",
             folder.display()
         );
         tried += 1;
         mended += usize::from(accepted && steps > 0);
     }
     assert!(tried > 50 && mended > 5, "{tried} tried, {mended} mended");
+}
+
+#[test]
+fn no_petrol_vehicle_goes_without_gas() {
+    no_vehicle_goes_without(&PETROL);
+}
+
+#[test]
+fn no_diesel_goes_without_opacity() {
+    no_vehicle_goes_without(&DIESEL_FUEL);
 }
 
 /// Generated sets, most of them broken in several places: the advice comes to an end, and takes no file out.

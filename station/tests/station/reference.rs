@@ -4,18 +4,16 @@
 use std::fs;
 use std::path::Path;
 
-use crate::common::{empty_folder, put, repository, run};
+use crate::common::{empty_folder, put, repository, run, ENDINGS};
 use outside::comparison::set_case;
 use outside::judge::{Call, Reference, Set};
-
-const ENDINGS: [&str; 6] = ["AC2", "ACC", "DER", "SOS", "GAS", "ID"];
 
 /// Generated sets; seeds apart from those of the library's own comparison.
 const GENERATED: u64 = 1000;
 const FIRST_SEED: u64 = 9 << 40;
 
 /// The members of the JSON that are numbers of the answer, and which.
-const MEMBERS: [(&str, usize); 9] = [
+const MEMBERS: [(&str, usize); 10] = [
     ("number", 0),
     ("file", 1),
     ("line", 2),
@@ -24,11 +22,9 @@ const MEMBERS: [(&str, usize); 9] = [
     ("drift_mark", 5),
     ("suspension_mark", 6),
     ("gas_mark", 7),
+    ("opacity_mark", 8),
     ("idle_by_hand", 9),
 ];
-
-/// The place of idle_by_hand among them.
-const IDLE_BY_HAND: usize = 8;
 
 /// Those numbers, in this order.
 type Answer = [u32; MEMBERS.len()];
@@ -70,7 +66,7 @@ fn load(folder: &Path) -> Set {
         let ending = path.extension().expect("an ending").to_string_lossy();
         let ending = ending.to_uppercase();
         let at = ENDINGS.iter().position(|other| *other == ending);
-        set.slices[at.expect("one of the six")] = fs::read(&path).expect("a file");
+        set.slices[at.expect("an ending of a set")] = fs::read(&path).expect("a file");
         set.stem = path
             .file_stem()
             .expect("a stem")
@@ -134,10 +130,17 @@ fn generated_sets() {
             "number {number} was never reached"
         );
     }
-    assert!(
-        answers.iter().any(|(_, answer)| answer[IDLE_BY_HAND] == 1),
-        "no idle speed was entered by hand"
-    );
+    for (at, (key, _)) in MEMBERS.into_iter().enumerate() {
+        let mut numbers = answers.iter().map(|(_, answer)| answer[at]);
+        assert!(numbers.any(|number| number > 0), "{key} was always 0");
+    }
+    for file in (1..).take(ENDINGS.len()) {
+        let mut files = answers.iter().map(|(_, answer)| answer[1]);
+        assert!(
+            files.any(|other| other == file),
+            "file {file} was never refused"
+        );
+    }
     let tried = answers
         .iter()
         .filter(|(_, answer)| matches!(answer[0], 0 | 10));

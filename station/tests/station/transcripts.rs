@@ -214,10 +214,9 @@ fn odd_files() -> PathBuf {
             .expect("a file of a terabyte, with nothing on the disk");
     }
 
-    let car = |ending: &str| {
-        let text = sample(&format!("accepted-car/AA123456.{ending}"));
-        String::from_utf8(text).expect("a text")
-    };
+    let text = |name: &str| String::from_utf8(sample(name)).expect("a text");
+    let car = |ending: &str| text(&format!("accepted-car/AA123456.{ending}"));
+    let opacity = text("accepted-diesel/AE305518.OPA");
     let several = [
         ("AC2", car("AC2")),
         ("ACC", car("ACC").replace("=2004", "=04")),
@@ -271,6 +270,13 @@ fn odd_files() -> PathBuf {
         folder.join("lacking/note.DER"),
         car("DER").replace("Note=\r\n", ""),
     );
+    let mean = opacity.replace("OpacitaMedia=\r\n", "");
+    put(folder.join("lacking/mean.OPA"), &mean);
+    put(
+        folder.join("lacking/mean-and-plate.OPA"),
+        mean.replace("Targa=EZ518RM\r\n", "")
+            .replace("CodErrore=\r\n", ""),
+    );
 
     put(folder.join("cut/last.DER"), car("DER").trim_end());
     put(
@@ -294,18 +300,63 @@ fn odd_files() -> PathBuf {
         ("words", "=0.40", "=none"),
         ("link", "=RETE", "=SERIALE"),
         ("whole", "=0.40", "=40"),
+        ("minus-twice", "=0.40", "=--0.40"),
     ];
     let gas_values = [
         ("gas-long", "=14.50", "=1400.50"),
         ("gas-revs", "=#850", "=123456"),
         ("gas-sign", "=118", "=-118"),
         ("gas-key", "=K0117", "=K011"),
+        ("gas-marks", "=#850", "=##850"),
         ("revs", "=#850", "=#85O"),
         ("days", "=118", "=1l8"),
     ];
-    for (ending, values) in [("DER", &drift_values[..]), ("GAS", &gas_values[..])] {
+    let opacity_values = [
+        ("cold", "=-3\r", "=-100\r"),
+        ("hot", "=-3\r", "=#1000\r"),
+        ("degrees", "=-3\r", "=-3C\r"),
+        ("mark-inside", "=-3\r", "=-#3\r"),
+        ("mark-alone", "=#85.0", "=#"),
+        ("mark-no-point", "=#85.0", "=#85"),
+        ("mark-on-limit", "LimiteK=1.5", "LimiteK=#1.5"),
+        ("oil-long", "=#85.0", "=#1185.0"),
+        ("humidity", "=#71", "=#7,1"),
+        ("plate", "Targa=EZ518RM", "Targa=EZ518RM PROVA"),
+        ("letter", "=0.62", "=O.62"),
+        ("outcome", "Esito=R", "Esito=NO"),
+        ("outcome-point", "Esito=R", "Esito=R."),
+        ("marks", "=-3\r", "=##3\r"),
+        ("marks-oil", "=#85.0", "=##85.0"),
+        ("marks-revs", "=#4200", "=##4200"),
+        ("marks-on-limit", "LimiteK=1.5", "LimiteK=##1.5"),
+        ("marks-alone", "=#71", "=##"),
+        ("mark-between", "=#85.0", "=8#5"),
+        ("mark-at-point", "=#85.0", "=8#5.0"),
+        ("mark-in-limit", "LimiteK=1.5", "LimiteK=1#5"),
+        ("mark-on-least", "=80\r", "=#80\r"),
+        ("mark-for-peak", "ValoreK4=", "ValoreK4=#"),
+        ("mark-at-peak", "ValoreK3=", "#ValoreK3="),
+        ("mark-twice", "TempOlioMotore=", "#TempOlioMotore="),
+        ("mark-at-empty", "CodErrore=", "#CodErrore="),
+        ("mark-no-sign", "TempOlioMotore=#", "#TempOlioMotore "),
+        ("minus", "=-3\r", "=-\r"),
+        ("minus-twice", "=-3\r", "=--3\r"),
+        ("minus-for-peak", "ValoreK4=", "ValoreK4=-"),
+        ("zero-for-peak", "ValoreK4=", "ValoreK4=0"),
+        ("letters-for-peak", "ValoreK4=", "ValoreK4=N.D."),
+        ("stars-for-peak", "ValoreK4=", "ValoreK4=*****"),
+        ("space-for-peak", "ValoreK4=", "ValoreK4= "),
+        ("peak-long", "ValoreK4=", "ValoreK4=0.555"),
+        ("least", "=80\r", "=N.D.\r"),
+        ("no-day", "=14012027", "=-"),
+    ];
+    let values = [
+        ("DER", car("DER"), &drift_values[..]),
+        ("GAS", car("GAS"), &gas_values[..]),
+        ("OPA", opacity.clone(), &opacity_values[..]),
+    ];
+    for (ending, text, values) in values {
         for (name, old, new) in values {
-            let text = car(ending);
             assert!(text.contains(old), "{name}");
             put(
                 folder.join(format!("values/{name}.{ending}")),
@@ -342,9 +393,25 @@ fn odd_files() -> PathBuf {
         ("old.AC2", "ACC"),
         ("new.ACC", "AC2"),
         ("gas.DER", "GAS"),
+        ("gas.OPA", "GAS"),
     ] {
         put(folder.join("types").join(name), car(ending));
     }
+    put(folder.join("types/opacity.GAS"), &opacity);
+
+    let diesel = |ending: &str| text(&format!("accepted-diesel/AE305518.{ending}"));
+    let acc = diesel("ACC").replace("=2015", "=2016");
+    for (ending, text) in [
+        ("AC2", diesel("AC2")),
+        ("ACC", acc),
+        ("GAS", opacity.clone()),
+    ] {
+        put(folder.join(format!("misplaced/AE305518.{ending}")), text);
+    }
+    put(folder.join("misplaced/AE305517.AC2"), &ac2);
+    put(folder.join("misplaced/AE305517.GAS"), &opacity);
+    put(folder.join("misplaced/AE305519.AC2"), car("AC2"));
+    put(folder.join("misplaced/AE305519.GAS"), car("DER"));
 
     let answers: [(&str, &[&str]); 4] = [
         (

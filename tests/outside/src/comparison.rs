@@ -6,15 +6,16 @@ use crate::judge::{
     answer_before, column_before, make, make_with_answer, places_before, Call, Judge, Outcome,
     Reference, ANSWER, BY_HAND, OUTPUT_BEFORE, SHORT_ANSWER,
 };
+use crate::met::{JUDGED_AGAIN, READ_BACK};
 use crate::mutator;
 use crate::random::Random;
 use crate::reference::tables::{
-    entry_name, entry_word, heading_name, table, AC2, DRIFT, GAS, IDENTIFICATION, SUSPENSION,
+    entry_name, entry_word, heading_name, table, DRIFT, FILES, GAS, OPACITY, SUSPENSION,
 };
 use crate::reference::PLACES;
 use crate::replay::to_text;
 use crate::report::Report;
-use crate::speeds::{idle_speed, JUDGED_AGAIN, READ_BACK};
+use crate::speeds::idle_speed;
 
 /// How many calls of each sort are generated.
 #[derive(Clone, Copy)]
@@ -27,9 +28,9 @@ pub struct Amounts {
 
 /// Calls of each sort in one run.
 pub const ONE_RUN: Amounts = Amounts {
-    sets: 100_000,
-    reads: 20_000,
-    writes: 20_000,
+    sets: 120_000,
+    reads: 30_000,
+    writes: 30_000,
     columns: 40_000,
 };
 
@@ -78,7 +79,7 @@ fn accepted(values: &[u32], by_hand: bool, places: Vec<u32>, output: Vec<u8>) ->
     }
 }
 
-/// Places lent of which the first 278 are set to these.
+/// Places lent of which the first ones are set to these.
 fn places_after(before: &[u32], first: &[u32]) -> Vec<u32> {
     let mut places = before.to_vec();
     places[..PLACES].copy_from_slice(first);
@@ -86,14 +87,9 @@ fn places_after(before: &[u32], first: &[u32]) -> Vec<u32> {
 }
 
 fn known_of_record(record: &Record, before: &[u32]) -> Outcome {
-    let marks = [DRIFT, SUSPENSION, GAS].map(|file| u32::from(record.mark(file)));
-    let values = [
-        record.axles(DRIFT),
-        record.axles(SUSPENSION),
-        marks[0],
-        marks[1],
-        marks[2],
-    ];
+    let mut values = vec![record.axles(DRIFT), record.axles(SUSPENSION)];
+    let marks = [DRIFT, SUSPENSION, GAS, OPACITY].map(|file| record.mark(file));
+    values.extend(marks.map(u32::from));
     let places = places_after(before, &record.places);
     accepted(&values, record.by_hand(), places, Vec::new())
 }
@@ -248,7 +244,7 @@ pub fn word_cases() -> Vec<Case> {
 
 /// Files and numbers of entries or sections, in and out of range.
 fn files_and_numbers() -> impl Iterator<Item = (u32, u32)> {
-    let files = (0..=IDENTIFICATION + 1).chain(PAST_ALL);
+    let files = (0..=OPACITY + 1).chain(PAST_ALL);
     files.flat_map(|file| (0..60).chain(PAST_ALL).map(move |number| (file, number)))
 }
 
@@ -405,9 +401,7 @@ fn compare_read_back(
     if !read.accepted() || read.answer[3] != *axles {
         return wrong("a written file does not read back");
     }
-    let sections = table(*file).sections(*axles as usize).iter();
-    let entries: usize = sections.map(|section| section.entries.len()).sum();
-    for at in 0..entries {
+    for at in 0..table(*file).entry_count(*axles as usize) {
         let place = 2 * (table(*file).first_pair + at);
         let value = |bytes: &[u8], places: &[u32]| {
             let (start, length) = (places[place] as usize, places[place + 1] as usize);
@@ -421,7 +415,7 @@ fn compare_read_back(
     if read.answer[BY_HAND] != u32::from(by_hand) {
         return wrong("the mark of an idle speed read back differs");
     }
-    report.speeds.add(READ_BACK, &again.call, &read);
+    report.meet(READ_BACK, &again.call, &read);
     report.read_back += 1;
     Ok(())
 }
@@ -438,7 +432,7 @@ fn compare_rewritten(
         return Ok(());
     };
     let mut rewritten = set.clone();
-    for file in AC2..=GAS {
+    for file in FILES {
         // No pairs of a file that was not read.
         let first = 2 * table(file).first_pair;
         if outcome.places[first] == 0 {
@@ -461,7 +455,7 @@ fn compare_rewritten(
             known: None,
         };
         let written = compare(subject, &writing)?;
-        let slice = &mut rewritten.slices[file as usize - 1];
+        let slice = rewritten.slice_mut(file);
         *slice = written.output[..written.answer[3] as usize].to_vec();
     }
     let again = Case {
@@ -483,7 +477,7 @@ fn compare_rewritten(
             (name, outcome),
         ));
     }
-    report.speeds.add(JUDGED_AGAIN, &again.call, &judged);
+    report.meet(JUDGED_AGAIN, &again.call, &judged);
     report.rewritten += 1;
     Ok(())
 }
@@ -520,7 +514,7 @@ fn run_sort(
     for (case, at) in cases.zip(0..) {
         let outcome = compare(subject, &case)?;
         report.add(&case.call, outcome.refusal());
-        report.add_hashes(&case.call, &outcome);
+        report.add_values(&case.call, &outcome);
         then(report, &case, &outcome)?;
         if at < OTHER_ANSWERS {
             compare_other_answers(subject, &case)?;

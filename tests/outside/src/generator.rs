@@ -2,10 +2,14 @@
 //!
 //! What is due is built here entry by entry, without the reference's judging of it.
 
+use crate::entries::free_entries;
 use crate::judge::Set;
 use crate::random::Random;
 use crate::reference::kinds::Kind;
-use crate::reference::tables::{table, Table, AC2, ACC, DRIFT, GAS, SUSPENSION};
+use crate::reference::tables::{
+    table, Table, AC2, ACC, DRIFT, GAS, IDENTIFICATION, OPACITY, SUSPENSION,
+};
+use crate::reference::PLACES;
 
 /// How long the values of a record are.
 #[derive(Clone, Copy, Debug, PartialEq, Eq)]
@@ -39,7 +43,7 @@ impl Size {
 }
 
 /// Bytes of 20 to 7E hex: plain ones, any, or those with a meaning in a line. Some begin with
-/// `#`, which has a meaning in an idle speed alone.
+/// `#`, which has a meaning only in values that may be entered by hand.
 pub fn printable(random: &mut Random, count: usize) -> Vec<u8> {
     const PLAIN: &[u8] = b"ABCDEFGHIJKLMNOPQRSTUVWXYZ0123456789 -./";
     const MARKS: &[u8] = b"=[]# ~";
@@ -126,6 +130,34 @@ pub fn first_registration(random: &mut Random) -> Vec<u8> {
     }
 }
 
+/// A value that may be entered by hand: `#` before it or not.
+fn with_hash(random: &mut Random, size: Size, value: Vec<u8>) -> Vec<u8> {
+    let by_hand = match size {
+        Size::Shortest => false,
+        Size::Mixed => random.chance(40),
+        Size::Longest => true,
+    };
+    if by_hand {
+        [b"#", &value[..]].concat()
+    } else {
+        value
+    }
+}
+
+/// A whole number of -99 to 999, often at a limit or with zeros first.
+fn temperature(random: &mut Random, size: Size) -> Vec<u8> {
+    const NEAR: &[&[u8]] = &[
+        b"-99", b"-0", b"-05", b"-00", b"-9", b"0", b"007", b"099", b"999",
+    ];
+    match (size, random.below(4)) {
+        (Size::Shortest, _) => random.digits(1),
+        (Size::Mixed, 0) => random.pick(NEAR).to_vec(),
+        (Size::Mixed, 1) => value(random, Kind::Number(3), size),
+        (Size::Longest, 0..=1) => random.digits(3),
+        _ => [b"-", &value(random, Kind::Number(2), size)[..]].concat(),
+    }
+}
+
 /// A filled value of this kind.
 pub fn value(random: &mut Random, kind: Kind, size: Size) -> Vec<u8> {
     match kind {
@@ -178,15 +210,26 @@ pub fn value(random: &mut Random, kind: Kind, size: Size) -> Vec<u8> {
             });
             value
         }
-        Kind::Revs => {
-            let (by_hand, length) = match size {
-                Size::Shortest => (false, 1),
-                Size::Mixed => (random.chance(40), random.between(1, 5)),
-                Size::Longest => (true, 5),
+        Kind::Revs => value(random, Kind::NumberByHand(5), size),
+        Kind::NumberByHand(width) => {
+            let number = value(random, Kind::Number(width), size);
+            with_hash(random, size, number)
+        }
+        Kind::DecimalByHand { decimals, width } => {
+            let decimal = value(random, Kind::Decimal { decimals, width }, size);
+            with_hash(random, size, decimal)
+        }
+        Kind::Temperature => {
+            let temperature = temperature(random, size);
+            with_hash(random, size, temperature)
+        }
+        Kind::Plate => {
+            let length = match size {
+                Size::Shortest => 4,
+                Size::Mixed => random.between(4, 10),
+                Size::Longest => 10,
             };
-            let mut value = if by_hand { b"#".to_vec() } else { Vec::new() };
-            value.extend(random.digits(length));
-            value
+            printable(random, length)
         }
         Kind::FirstRegistration => first_registration(random),
         Kind::Axles => (0..9).map(|_| b"SN"[random.below(2)]).collect(),
@@ -376,16 +419,16 @@ pub fn join_lines(lines: &[Vec<u8>]) -> Vec<u8> {
 pub struct Record {
     pub set: Set,
     /// The values of each file that is read.
-    pub files: [Option<Values>; 5],
+    pub files: Vec<Values>,
     /// The fields of slice 6, if given.
     pub fields: Option<Vec<Vec<u8>>>,
-    /// The first 278 places after acceptance.
+    /// The places after acceptance, as many as must be lent.
     pub places: Vec<u32>,
 }
 
 impl Record {
     pub fn file(&self, file: u32) -> Option<&Values> {
-        self.files[file as usize - 1].as_ref()
+        self.files.iter().find(|values| values.file == file)
     }
 
     pub fn axles(&self, file: u32) -> u32 {
@@ -425,23 +468,24 @@ fn stem(random: &mut Random) -> Vec<u8> {
     stem
 }
 
-/// Note and CodErrore: filled or empty.
+/// The free entries: filled or empty.
 fn empty_free_entries(random: &mut Random, values: &mut Values) {
-    for name in ["Note", "CodErrore"] {
+    for name in free_entries(values.file) {
         if random.chance(50) {
             values.empty(&[name]);
         }
     }
 }
 
+/// The fuel: petrol and, since only M and N diesels have opacity, diesel most often.
 fn fuel(random: &mut Random, category: &str, size: Size) -> Vec<u8> {
     if category.starts_with('O') {
         return Vec::new();
     }
-    match random.below(20) {
+    match random.below(24) {
         0..=10 => b"BENZINA".to_vec(),
-        11..=15 => b"DIESEL".to_vec(),
-        16..=18 => {
+        11..=19 => b"DIESEL".to_vec(),
+        20..=22 => {
             let others: &[&str] = &[
                 "GPL",
                 "METANO",
@@ -619,8 +663,32 @@ fn suspension(random: &mut Random, size: Size) -> Values {
     suspension
 }
 
-/// Empties the entries of the keys and the checksum that version and condition do not need.
-fn keep_due_keys(gas: &mut Values, t: &str, condition: bool, version: &[u8]) {
+/// Versions of these devices and the link of the file's own, most often those on which something hangs.
+fn set_versions_and_link(random: &mut Random, values: &mut Values, devices: &[&str], size: Size) {
+    if size != Size::Shortest || random.chance(50) {
+        for t in devices {
+            values.set(&format!("NumVersioneProtocollo{t}"), version(random));
+        }
+    }
+    if size == Size::Longest || random.chance(40) {
+        values.set("TipoCollegamento", "RS SENZA ESITO");
+    }
+}
+
+/// Empties what the links and versions of the file's own device and of its rev counter do not need.
+fn keep_due_by_links(values: &mut Values) {
+    let serial = values.get("TipoCollegamento") == b"RS SENZA ESITO";
+    let external = values.get("TipoCollegamentoContagiri") == b"ESTERNO";
+    if !external {
+        values.empty(&["NumVersioneProtocolloContagiri"]);
+    }
+    keep_due_keys(values, "", serial);
+    keep_due_keys(values, "Contagiri", external);
+}
+
+/// Empties the entries of the keys and the checksum that condition and version of a device do not need.
+fn keep_due_keys(values: &mut Values, t: &str, condition: bool) {
+    let version = values.get(&format!("NumVersioneProtocollo{t}")).to_vec();
     let key = [
         "IDChiave",
         "DataRegChiave",
@@ -629,32 +697,21 @@ fn keep_due_keys(gas: &mut Values, t: &str, condition: bool, version: &[u8]) {
     ];
     if !(condition && version == b"210") {
         for start in key {
-            gas.set(&format!("{start}{t}RS"), "");
+            values.set(&format!("{start}{t}RS"), "");
         }
     }
     if !(condition && version == b"200") {
-        gas.set(&format!("Checksum{t}RS"), "");
+        values.set(&format!("Checksum{t}RS"), "");
     }
 }
 
 fn gas(random: &mut Random, ac2: &Values, size: Size) -> Values {
     let mut gas = Values::filled(random, GAS, 0, size);
     empty_free_entries(random, &mut gas);
-    if size != Size::Shortest || random.chance(50) {
-        gas.set("NumVersioneProtocollo", version(random));
-        gas.set("NumVersioneProtocolloContagiri", version(random));
-        gas.set("NumVersioneProtocolloProvaVelocita", version(random));
-    }
-    if size == Size::Longest || random.chance(40) {
-        gas.set("TipoCollegamento", "RS SENZA ESITO");
-    }
+    set_versions_and_link(random, &mut gas, &["", "Contagiri", "ProvaVelocita"], size);
+    keep_due_by_links(&mut gas);
     let moped = [&b"L1e"[..], b"L2e", b"L6e"].contains(&ac2.get("CategoriaInternazionale"));
     let p = moped || ac2.get("DirettivaEmissioniGasMotociclo") == b"NESSUNA";
-    let external = gas.get("TipoCollegamentoContagiri") == b"ESTERNO";
-    let serial = gas.get("TipoCollegamento") == b"RS SENZA ESITO";
-    if !external {
-        gas.empty(&["NumVersioneProtocolloContagiri"]);
-    }
     if !p {
         gas.empty(&[
             "MarcaProvaVelocita",
@@ -666,17 +723,21 @@ fn gas(random: &mut Random, ac2: &Values, size: Size) -> Values {
             "DataScadenzaProvaVelocita",
         ]);
     }
-    let analyser = gas.get("NumVersioneProtocollo").to_vec();
-    let counter = gas.get("NumVersioneProtocolloContagiri").to_vec();
-    let bench = gas.get("NumVersioneProtocolloProvaVelocita").to_vec();
-    keep_due_keys(&mut gas, "", serial, &analyser);
-    keep_due_keys(&mut gas, "Contagiri", external, &counter);
-    keep_due_keys(&mut gas, "ProvaVelocita", p, &bench);
+    keep_due_keys(&mut gas, "ProvaVelocita", p);
     let directive = ac2.get("DirettivaEmissioniGasBenzinaAuto");
     if directive != b"91/441/CEE" && directive != b"98/69/CE" {
         gas.empty(&["COMinAcc"]);
     }
     gas
+}
+
+/// 02, 2/14: the opacity file, which hangs on nothing outside itself.
+pub fn opacity(random: &mut Random, size: Size) -> Values {
+    let mut opacity = Values::filled(random, OPACITY, 0, size);
+    empty_free_entries(random, &mut opacity);
+    set_versions_and_link(random, &mut opacity, &["", "Contagiri"], size);
+    keep_due_by_links(&mut opacity);
+    opacity
 }
 
 /// The ten fields of the identification answer for this gas file.
@@ -717,7 +778,8 @@ pub fn record(random: &mut Random) -> Record {
     let size = Size::any(random);
     let ac2 = ac2(random, size);
     let mut stem = stem(random);
-    let is_l = ac2.get("CategoriaInternazionale").starts_with(b"L");
+    let category = ac2.get("CategoriaInternazionale")[0];
+    let is_l = category == b'L';
     let mut unread = Vec::new();
     let mut old = None;
     if random.chance(60) {
@@ -738,25 +800,26 @@ pub fn record(random: &mut Random) -> Record {
         }
         _ => None,
     };
-    let files = [Some(ac2), old, drift, suspension, gas];
+    let diesel = ac2.get("Alimentazione_1") == b"DIESEL";
+    let opacity = (diesel && b"MN".contains(&category)).then(|| opacity(random, size));
+    let files = [Some(ac2), old, drift, suspension, gas, opacity];
+    let files: Vec<Values> = files.into_iter().flatten().collect();
     let mut set = Set {
         stem,
         slices: Default::default(),
     };
-    let mut places = vec![0; 278];
-    for (slice, file) in set.slices.iter_mut().zip(&files) {
-        if let Some(values) = file {
-            let (text, pairs) = values.text_and_places(random);
-            let first = values.first_place();
-            places[first..first + pairs.len()].copy_from_slice(&pairs);
-            *slice = text;
-        }
+    let mut places = vec![0; PLACES];
+    for values in &files {
+        let (text, pairs) = values.text_and_places(random);
+        let first = values.first_place();
+        places[first..first + pairs.len()].copy_from_slice(&pairs);
+        *set.slice_mut(values.file) = text;
     }
     if !unread.is_empty() {
-        set.slices[ACC as usize - 1] = unread;
+        *set.slice_mut(ACC) = unread;
     }
     if let Some(fields) = &fields {
-        set.slices[5] = identification(fields);
+        *set.slice_mut(IDENTIFICATION) = identification(fields);
     }
     Record {
         set,

@@ -9,23 +9,26 @@ use crate::reference::{Refusal, PLACES};
 /// The answer array holds at least this many numbers.
 pub const ANSWER: usize = 16;
 
+/// The number of the answer, from 0, that is 1 where opacity is given with CodErrore filled (02, 2/14).
+pub const OPACITY_MARK: usize = 8;
+
 /// The number of the answer, from 0, that is 1 where gas's idle speed was entered by hand (02, 1/14).
 pub const BY_HAND: usize = 9;
 
 /// The value of a call whose answer array is too short; it touches nothing.
 pub const SHORT_ANSWER: u32 = u32::MAX;
 
-/// A set as handed in: the stem and slices 1 to 6.
+/// A set as handed in: the stem and slices 1 to 7.
 #[derive(Clone, Debug, Default, PartialEq, Eq)]
 pub struct Set {
     pub stem: Vec<u8>,
-    pub slices: [Vec<u8>; 6],
+    pub slices: [Vec<u8>; 7],
 }
 
 impl Set {
     /// As the reference takes it.
     pub fn as_slices(&self) -> Slices<'_> {
-        let [ac2, acc, drift, suspension, gas, identification] = &self.slices;
+        let [ac2, acc, drift, suspension, gas, identification, opacity] = &self.slices;
         Slices {
             stem: &self.stem,
             ac2,
@@ -34,11 +37,16 @@ impl Set {
             suspension,
             gas,
             identification,
+            opacity,
         }
     }
 
     pub fn slice(&self, file: u32) -> &[u8] {
         &self.slices[file as usize - 1]
+    }
+
+    pub fn slice_mut(&mut self, file: u32) -> &mut Vec<u8> {
+        &mut self.slices[file as usize - 1]
     }
 }
 
@@ -56,8 +64,8 @@ pub trait Judge {
 
     /// Makes the call. The answer holds 01's number (0 for acceptance), file and line; with
     /// acceptance, from [3] on: axle counts of drift and suspension and the marks of drift,
-    /// suspension and gas (judge), the axle count (read), the length (write), the axle count
-    /// and the number of entries (due), the length and the number of the section (names,
+    /// suspension, gas and opacity (judge), the axle count (read), the length (write), the axle
+    /// count and the number of entries (due), the length and the number of the section (names,
     /// words), form, most bytes, decimals and words (kind); in [9] whether gas's idle speed was
     /// entered by hand (judge, read); else 0. What comes back is the number.
     fn answer(&self, call: &Call, lent: Arrays) -> u32;
@@ -120,6 +128,7 @@ fn reference_result(
                 u32::from(acceptance.drift_mark),
                 u32::from(acceptance.suspension_mark),
                 u32::from(acceptance.gas_mark),
+                u32::from(acceptance.opacity_mark),
             ];
             with_by_hand(&values, acceptance.by_hand)
         }),

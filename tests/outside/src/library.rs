@@ -50,5 +50,6 @@ fn set_of(set: &Set) -> mctc::Set<'_> {
         suspension: slices.suspension,
         gas: slices.gas,
         identification: slices.identification,
+        opacity: slices.opacity,
     }
 }

@@ -1,6 +1,6 @@
 //! A call as one line of text, to be printed at a difference and made again.
 //!
-//! - `judge stem slice1 .. slice6 | places lent`
+//! - `judge stem slice1 .. slice7 | places lent`
 //! - `read file text | places lent`
 //! - `write text file axles | places | output size`
 //! - `due file ac2 text | places lent | column lent`
@@ -33,7 +33,7 @@ pub fn numbers_from_text(text: &str) -> Result<Vec<u32>, String> {
     text.split_whitespace().map(number_from_text).collect()
 }
 
-/// The stem and six slices, hexadecimal, as in the vectors.
+/// The stem and seven slices, hexadecimal, as in the vectors.
 pub fn set_from_text(text: &str) -> Result<Set, String> {
     let words: Vec<Vec<u8>> = text
         .split_whitespace()
@@ -42,7 +42,7 @@ pub fn set_from_text(text: &str) -> Result<Set, String> {
     let (stem, slices) = words.split_first().ok_or("no stem")?;
     Ok(Set {
         stem: stem.clone(),
-        slices: slices.to_vec().try_into().map_err(|_| "not six slices")?,
+        slices: slices.to_vec().try_into().map_err(|_| "not seven slices")?,
     })
 }
 

@@ -1,12 +1,17 @@
-//! What a run reached: refusal numbers by call, entries at which they were reached, and idle speeds.
+//! What a run reached: refusal numbers by call and by file, entries at which they were reached, and what it must meet besides.
 
 use std::collections::BTreeMap;
 
+use crate::entries::{free_entries, is_conditional};
 use crate::judge::{Call, Outcome, BY_HAND};
+use crate::met::{summary, Met, Wanted, JUDGED, JUDGE_9, READ, READ_9};
+use crate::opacities;
 use crate::reference::kinds::Kind;
-use crate::reference::tables::{table, Entry, Section, AC2, ACC, GAS, SUSPENSION};
+use crate::reference::tables::{
+    table, Entry, Section, AC2, ACC, DRIFT, FILES, GAS, IDENTIFICATION, SUSPENSION,
+};
 use crate::reference::Refusal;
-use crate::speeds::{Speeds, JUDGED, JUDGE_REFUSED, READ, READ_REFUSED};
+use crate::speeds;
 
 /// Numbers 0 (acceptance) to 18.
 const NUMBERS: usize = 19;
@@ -14,18 +19,19 @@ const NUMBERS: usize = 19;
 /// File, heading and name of an entry.
 type EntryOf = (u32, String, String);
 
-/// Refusals for which the entries are noted.
-const JUDGE_9: &str = "judge 9";
+/// Refusals for which the entries are noted, besides judge 9 and read 9.
+const JUDGE_8: &str = "judge 8";
 const JUDGE_10_EMPTY: &str = "judge 10, due and empty";
 const JUDGE_10_FILLED: &str = "judge 10, filled and not due";
 const JUDGE_12: &str = "judge 12";
 const JUDGE_13: &str = "judge 13";
-const READ_9: &str = "read 9";
 const WRITE_9: &str = "write 9";
 const WRITE_17: &str = "write 17";
 const COLUMN_DUE: &str = "column, due";
 const COLUMN_NOT_DUE: &str = "column, not due";
 const COLUMN_FREE: &str = "column, free";
+const JUDGE_FREE_FILLED: &str = "judge 0, free and filled";
+const JUDGE_FREE_EMPTY: &str = "judge 0, free and empty";
 /// Accepted without the mark of 02, 1/14, although a value other than the idle speed begins with `#`.
 const JUDGE_HASH: &str = "judge 0, `#` first and no mark";
 const READ_HASH: &str = "read 0, `#` first and no mark";
@@ -45,14 +51,65 @@ const CALLS: [(&str, &[usize]); 8] = [
     ("word", &[0, 16, 18]),
 ];
 
+/// The place of a call in `CALLS`.
+fn place_of(call: &Call) -> usize {
+    match call {
+        Call::Judge { .. } => 0,
+        Call::Read { .. } => 1,
+        Call::Write { .. } => 2,
+        Call::Due { .. } => 3,
+        Call::EntryName { .. } => 4,
+        Call::HeadingName { .. } => 5,
+        Call::Kind { .. } => 6,
+        Call::Word { .. } => 7,
+    }
+}
+
+/// The numbers by which judging, reading alone, writing and due columns must refuse a file, in the order of `CALLS`.
+fn numbers_of(file: u32) -> [Vec<u32>; 4] {
+    if file == IDENTIFICATION {
+        return [vec![11, 14, 15], vec![16], vec![16], vec![16]];
+    }
+    // A text that is not empty has its only heading, or 4 or 5 comes before 7.
+    let can_lack_section = table(file).sections.len() > 1;
+    let reading = (3..=9).filter(|number| *number != 7 || can_lack_section);
+    let reading: Vec<u32> = reading.collect();
+    let in_a_set: &[u32] = match file {
+        AC2 | ACC => &[10, 11, 12],
+        DRIFT => &[10],
+        SUSPENSION => &[10, 13],
+        _ => &[10, 11],
+    };
+    [
+        [&reading, in_a_set].concat(),
+        [&reading, &[11][..]].concat(),
+        vec![9, 16, 17, 18],
+        [&reading, &[11, 18][..]].concat(),
+    ]
+}
+
+fn refused(file: u32, number: u32) -> String {
+    format!("file {file} refused by {number}")
+}
+
+fn refused_files() -> Vec<Wanted> {
+    let mut wanted = Vec::new();
+    for file in FILES.into_iter().chain([IDENTIFICATION]) {
+        for ((call, _), numbers) in CALLS.iter().zip(numbers_of(file)) {
+            wanted.extend(numbers.iter().map(|number| (*call, refused(file, *number))));
+        }
+    }
+    wanted
+}
+
 #[derive(Default)]
 pub struct Report {
     /// By call, then by number.
     counts: [[u64; NUMBERS]; 8],
     /// How often each noted refusal was reached at each entry.
     reached: BTreeMap<&'static str, BTreeMap<EntryOf, u64>>,
-    /// Idle speeds that were met.
-    pub speeds: Speeds,
+    /// Refused files, idle speeds and what opacity brought.
+    met: Met,
     /// Written files that were read back.
     pub read_back: u64,
     /// Accepted sets whose files were written and judged again.
@@ -73,9 +130,25 @@ fn entry_at(file: u32, text: &[u8], line: u32) -> Option<(EntryOf, String)> {
     Some(((file, heading, name.to_string()), value.to_string()))
 }
 
+/// The first absent entry of the section whose heading stands at a line of a text.
+fn absent_at(file: u32, text: &[u8], line: u32) -> Option<EntryOf> {
+    let text = String::from_utf8_lossy(text);
+    let mut lines = text.lines().skip(line as usize - 1);
+    let heading = lines.next()?;
+    let entries = lines.take_while(|line| !line.starts_with('['));
+    let there: Vec<&str> = entries
+        .filter_map(|line| Some(line.split_once('=')?.0))
+        .collect();
+    let is_absent = |(section, entry): &(&Section, &Entry)| {
+        section.heading == heading && !there.contains(&entry.name.as_str())
+    };
+    let (section, entry) = listed(file).find(is_absent)?;
+    Some(named(file, section, entry))
+}
+
 /// All entries of all files, in table order.
 fn all_entries() -> Vec<EntryOf> {
-    (AC2..=GAS).flat_map(entries_of).collect()
+    FILES.into_iter().flat_map(entries_of).collect()
 }
 
 fn entries_of(file: u32) -> Vec<EntryOf> {
@@ -105,33 +178,8 @@ fn entry_in_table(file: u32, line: u32) -> Option<EntryOf> {
     lines.into_iter().nth(line as usize - 1)?
 }
 
-/// 01, Due entries: the entries that are "filled exactly when" something holds.
-fn is_conditional(entry: &EntryOf) -> bool {
-    let (file, _, name) = entry;
-    match *file {
-        AC2 => matches!(
-            name.as_str(),
-            "CodiceCIC"
-                | "Alimentazione_1"
-                | "Turbo"
-                | "CorrettorePressione"
-                | "DirettivaEmissioniGasBenzinaAuto"
-                | "DirettivaEmissioniGasMotociclo"
-        ),
-        GAS => {
-            name == "COMinAcc"
-                || name == "NumVersioneProtocolloContagiri"
-                || name.ends_with("ProvaVelocita")
-                || name.ends_with("RS")
-        }
-        _ => false,
-    }
-}
-
-/// 01, Due entries: "Note and CodErrore may be filled or empty"; ACC's Alimentazione_1 is free.
-fn is_free(entry: &EntryOf) -> bool {
-    let (file, _, name) = entry;
-    matches!(name.as_str(), "Note" | "CodErrore") || (*file == ACC && name == "Alimentazione_1")
+fn is_free((file, _, name): &EntryOf) -> bool {
+    free_entries(*file).contains(&name.as_str())
 }
 
 /// 01, row 12: the entries whose lines it names.
@@ -146,11 +194,16 @@ fn has_booking_rule(entry: &EntryOf) -> bool {
     }
 }
 
-/// Whether `#` may stand first in a value of this entry, which is no idle speed.
+/// Whether `#` may stand first in a value of this entry, which is not gas's idle speed.
 fn may_begin_with_hash(entry: &EntryOf) -> bool {
     let same = |(section, other): &(&Section, &Entry)| named(entry.0, section, other) == *entry;
-    let found = listed(entry.0).find(same);
-    found.is_some_and(|(_, entry)| matches!(entry.kind, Kind::Text(_) | Kind::Exact(_)))
+    let Some((_, found)) = listed(entry.0).find(same) else {
+        return false;
+    };
+    match found.kind {
+        Kind::Text(_) | Kind::Exact(_) | Kind::Plate => true,
+        kind => kind.may_be_by_hand() && entry.0 != GAS,
+    }
 }
 
 /// Likewise in an accepted set, where ACC's texts are words of the booking rules, but for other fuels.
@@ -159,14 +212,27 @@ fn may_begin_with_hash_in_set(entry: &EntryOf) -> bool {
     may_begin_with_hash(entry) && (*file != ACC || name == "Alimentazione_1")
 }
 
+/// The entries of a file that was read, each with start and length of its value.
+fn values_of(file: u32, outcome: &Outcome) -> impl Iterator<Item = (EntryOf, usize, usize)> + '_ {
+    let pairs = outcome.places[2 * table(file).first_pair..].chunks(2);
+    // No value starts at 0, so such a pair is that of an entry that was not read.
+    let read = listed(file).zip(pairs).filter(|(_, pair)| pair[0] > 0);
+    read.map(move |((section, entry), pair)| {
+        let (start, length) = (pair[0] as usize, pair[1] as usize);
+        (named(file, section, entry), start, length)
+    })
+}
+
 /// The entries at which each noted refusal can be reached.
 fn reachable() -> Vec<(&'static str, Vec<EntryOf>)> {
     let fitting =
         |fits: &dyn Fn(&EntryOf) -> bool| all_entries().into_iter().filter(fits).collect();
+    let conditional = |(file, _, name): &EntryOf| is_conditional(*file, name);
     vec![
+        (JUDGE_8, fitting(&|_| true)),
         (JUDGE_9, fitting(&|_| true)),
         (JUDGE_10_EMPTY, fitting(&|entry| !is_free(entry))),
-        (JUDGE_10_FILLED, fitting(&is_conditional)),
+        (JUDGE_10_FILLED, fitting(&conditional)),
         (JUDGE_12, fitting(&has_booking_rule)),
         (
             JUDGE_13,
@@ -176,73 +242,89 @@ fn reachable() -> Vec<(&'static str, Vec<EntryOf>)> {
         (WRITE_9, fitting(&|_| true)),
         (WRITE_17, fitting(&|_| true)),
         (COLUMN_DUE, fitting(&|entry| !is_free(entry))),
-        (COLUMN_NOT_DUE, fitting(&is_conditional)),
+        (COLUMN_NOT_DUE, fitting(&conditional)),
         (COLUMN_FREE, fitting(&is_free)),
+        (JUDGE_FREE_FILLED, fitting(&is_free)),
+        (JUDGE_FREE_EMPTY, fitting(&is_free)),
         (JUDGE_HASH, fitting(&may_begin_with_hash_in_set)),
         (READ_HASH, fitting(&may_begin_with_hash)),
+    ]
+}
+
+/// The entry of a refusal, where it is noted.
+fn entry_of(call: &Call, refusal: Refusal) -> Option<(&'static str, EntryOf)> {
+    let Refusal { number, file, line } = refusal;
+    match (call, number) {
+        (Call::Judge { set, .. }, 8) => Some((JUDGE_8, absent_at(file, set.slice(file), line)?)),
+        (Call::Judge { set, .. }, 9 | 10 | 12 | 13) => {
+            let (entry, value) = entry_at(file, set.slice(file), line)?;
+            let what = match (number, value.is_empty()) {
+                (9, _) => JUDGE_9,
+                (10, true) => JUDGE_10_EMPTY,
+                (10, false) => JUDGE_10_FILLED,
+                (12, _) => JUDGE_12,
+                _ => JUDGE_13,
+            };
+            Some((what, entry))
+        }
+        (Call::Read { text, .. }, 9) => Some((READ_9, entry_at(file, text, line)?.0)),
+        (Call::Write { .. }, 9) => Some((WRITE_9, entry_in_table(file, line)?)),
+        (Call::Write { .. }, 17) => Some((WRITE_17, entry_in_table(file, line)?)),
+        _ => None,
+    }
+}
+
+/// What a run must meet besides numbers and entries.
+fn wanted() -> [(&'static str, Vec<Wanted>); 3] {
+    [
+        ("refused files", refused_files()),
+        ("idle speeds", speeds::wanted()),
+        ("opacity", opacities::wanted()),
     ]
 }
 
 impl Report {
     /// Counts a refusal, or acceptance as number 0, and notes its entry.
     pub fn add(&mut self, call: &Call, refusal: Refusal) {
-        let which = match call {
-            Call::Judge { .. } => 0,
-            Call::Read { .. } => 1,
-            Call::Write { .. } => 2,
-            Call::Due { .. } => 3,
-            Call::EntryName { .. } => 4,
-            Call::HeadingName { .. } => 5,
-            Call::Kind { .. } => 6,
-            Call::Word { .. } => 7,
-        };
-        self.counts[which][refusal.number as usize] += 1;
-        let (file, line) = (refusal.file, refusal.line);
-        let noted = match (call, refusal.number) {
-            (Call::Judge { set, .. }, number @ (9 | 10 | 12 | 13)) => {
-                entry_at(file, set.slice(file), line).map(|(entry, value)| {
-                    let what = match (number, value.is_empty()) {
-                        (9, _) => JUDGE_9,
-                        (10, true) => JUDGE_10_EMPTY,
-                        (10, false) => JUDGE_10_FILLED,
-                        (12, _) => JUDGE_12,
-                        _ => JUDGE_13,
-                    };
-                    (what, entry)
-                })
-            }
-            (Call::Read { text, .. }, 9) => {
-                entry_at(file, text, line).map(|(entry, _)| (READ_9, entry))
-            }
-            (Call::Write { .. }, 9) => entry_in_table(file, line).map(|entry| (WRITE_9, entry)),
-            (Call::Write { .. }, 17) => entry_in_table(file, line).map(|entry| (WRITE_17, entry)),
-            _ => None,
-        };
-        if let Some((what, entry)) = noted {
+        let place = place_of(call);
+        self.counts[place][refusal.number as usize] += 1;
+        self.met
+            .count(CALLS[place].0, refused(refusal.file, refusal.number));
+        if let Some((what, entry)) = entry_of(call, refusal) {
             self.note(what, entry);
         }
     }
 
-    /// Notes idle speeds, and in acceptances other values that begin with `#`.
-    pub fn add_hashes(&mut self, call: &Call, outcome: &Outcome) {
+    /// Notes the values of an acceptance, or the one that was refused.
+    pub fn add_values(&mut self, call: &Call, outcome: &Outcome) {
         let refusal = outcome.refusal();
         match (call, refusal.number) {
             (Call::Judge { set, .. }, 0) => {
-                self.speeds.add(JUDGED, call, outcome);
-                for file in AC2..=GAS {
+                self.meet(JUDGED, call, outcome);
+                for file in FILES {
                     self.note_hashes(JUDGE_HASH, file, set.slice(file), outcome);
+                    self.note_free(file, outcome);
                 }
             }
             (Call::Read { file, text, .. }, 0) => {
-                self.speeds.add(READ, call, outcome);
+                self.meet(READ, call, outcome);
                 self.note_hashes(READ_HASH, *file, text, outcome);
             }
             (Call::Judge { set, .. }, 9) => {
-                self.note_refused(JUDGE_REFUSED, set.slice(refusal.file), refusal);
+                self.note_refused(JUDGE_9, set.slice(refusal.file), refusal);
             }
-            (Call::Read { text, .. }, 9) => self.note_refused(READ_REFUSED, text, refusal),
+            (Call::Read { text, .. }, 9) => self.note_refused(READ_9, text, refusal),
+            (Call::Judge { set, .. }, 11) => {
+                opacities::note_not_as_due(&mut self.met, set, refusal)
+            }
             _ => {}
         }
+    }
+
+    /// Notes what an acceptance holds of that which a run must meet.
+    pub fn meet(&mut self, what: &'static str, call: &Call, outcome: &Outcome) {
+        speeds::note(&mut self.met, what, call, outcome);
+        opacities::note(&mut self.met, what, call, outcome);
     }
 
     /// Notes the values of an accepted file that begin with `#`, where the answer has no mark.
@@ -250,18 +332,30 @@ impl Report {
         if outcome.answer[BY_HAND] != 0 {
             return;
         }
-        let pairs = outcome.places[2 * table(file).first_pair..].chunks(2);
-        for ((section, entry), pair) in listed(file).zip(pairs) {
-            let (start, length) = (pair[0] as usize, pair[1] as usize);
+        for (entry, start, length) in values_of(file, outcome) {
             if text[start..start + length].starts_with(b"#") {
-                self.note(what, named(file, section, entry));
+                self.note(what, entry);
+            }
+        }
+    }
+
+    /// Notes which free entries of a file of an accepted set are filled and which are empty.
+    fn note_free(&mut self, file: u32, outcome: &Outcome) {
+        for (entry, _, length) in values_of(file, outcome) {
+            if is_free(&entry) {
+                let what = match length {
+                    0 => JUDGE_FREE_EMPTY,
+                    _ => JUDGE_FREE_FILLED,
+                };
+                self.note(what, entry);
             }
         }
     }
 
     fn note_refused(&mut self, what: &'static str, text: &[u8], refusal: Refusal) {
         if let Some(((_, _, name), value)) = entry_at(refusal.file, text, refusal.line) {
-            self.speeds.add_refused(what, &name, &value);
+            speeds::note_refused(&mut self.met, what, &name, &value);
+            opacities::note_refused(&mut self.met, what, &name, &value);
         }
     }
 
@@ -321,7 +415,9 @@ impl Report {
                 }
             }
         }
-        missing.extend(self.speeds.missing());
+        for (_, wanted) in wanted() {
+            missing.extend(self.met.missing(&wanted));
+        }
         missing
     }
 
@@ -339,13 +435,10 @@ impl Report {
         println!("accepted sets written and judged again: {}", self.rewritten);
         for (what, entries) in reachable() {
             let times: Vec<u64> = entries.iter().map(|e| self.times(what, e)).collect();
-            println!(
-                "{what}: at {} of {} entries, at each at least {} times",
-                times.iter().filter(|times| **times > 0).count(),
-                entries.len(),
-                times.iter().min().unwrap_or(&0)
-            );
+            println!("{what}, entries: {}", summary(&times));
         }
-        self.speeds.print();
+        for (name, wanted) in wanted() {
+            self.met.print(name, &wanted);
+        }
     }
 }

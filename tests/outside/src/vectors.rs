@@ -1,35 +1,26 @@
-//! The vectors: calls with their right answers. The first lines of each file say its columns.
+//! The vectors: calls with their right answers. The first line of each file says its columns.
 
 use crate::hex::from_hex;
-use crate::judge::{make, Call, Judge, Outcome, ANSWER, BY_HAND, OUTPUT_BEFORE};
+use crate::judge::{make, Call, Judge, Outcome, ANSWER, OUTPUT_BEFORE};
 use crate::replay::{number_from_text, numbers_from_text, set_from_text, to_text};
 
 /// One line's columns as a call and what it must give.
 type Parse = fn(&[&str]) -> Result<(Call, Outcome), String>;
 
-/// A file of vectors: its name, its text, its parser, and the numbers of an acceptance that it does not state.
-type File = (&'static str, &'static str, Parse, &'static [usize]);
+/// A file of vectors: its name, its text and its parser.
+type File = (&'static str, &'static str, Parse);
 
 macro_rules! vectors_in {
-    ($name:literal, $parse:expr, $unstated:expr) => {
-        (
-            $name,
-            include_str!(concat!("../vectors/", $name)),
-            $parse,
-            $unstated,
-        )
+    ($name:literal, $parse:expr) => {
+        ($name, include_str!(concat!("../vectors/", $name)), $parse)
     };
 }
 
-/// Those of document 01, then those of document 02 by request. The mark of 02, 1/14, came to the acceptance of sets and
-/// of files read alone after document 01, so its vectors do not state it.
-const FILES: [File; 6] = [
-    vectors_in!("sets.txt", set_vector, &[BY_HAND]),
-    vectors_in!("reads.txt", read_vector, &[BY_HAND]),
-    vectors_in!("writes.txt", write_vector, &[]),
-    vectors_in!("02/1/sets.txt", set_vector, &[]),
-    vectors_in!("02/1/reads.txt", read_vector, &[]),
-    vectors_in!("02/1/writes.txt", write_vector, &[]),
+/// Those of the request of document 02 that landed last: earlier ones no longer hold.
+const FILES: [File; 3] = [
+    vectors_in!("02/2/sets.txt", set_vector),
+    vectors_in!("02/2/reads.txt", read_vector),
+    vectors_in!("02/2/writes.txt", write_vector),
 ];
 
 /// What places hold before in the vectors.
@@ -41,37 +32,10 @@ pub struct Vector {
     pub source: String,
     pub call: Call,
     pub right: Outcome,
-    unstated: &'static [usize],
 }
 
-impl Vector {
-    /// Whether an outcome is right in all that the vector states.
-    fn agrees(&self, found: &Outcome) -> bool {
-        let mut right = self.right.clone();
-        if right.accepted() {
-            for number in self.unstated {
-                right.answer[*number] = found.answer[*number];
-            }
-        }
-        *found == right
-    }
-}
-
-/// `A` and the values of the acceptance, or `R`, number, file and line, the rest 0; or all numbers of the answer.
+/// All numbers of the answer.
 fn answer(text: &str) -> Result<Vec<u32>, String> {
-    let (word, rest) = text.split_once(' ').ok_or("no answer")?;
-    let (first, values) = match word {
-        "A" => (3, rest),
-        "R" => (0, rest),
-        _ => return all_numbers(text),
-    };
-    let values = numbers_from_text(values)?;
-    let mut answer = vec![0; ANSWER];
-    answer[first..first + values.len()].copy_from_slice(&values);
-    Ok(answer)
-}
-
-fn all_numbers(text: &str) -> Result<Vec<u32>, String> {
     let answer = numbers_from_text(text)?;
     if answer.len() == ANSWER {
         Ok(answer)
@@ -146,7 +110,7 @@ fn write_vector(columns: &[&str]) -> Result<(Call, Outcome), String> {
 /// All vectors of all files.
 pub fn vectors() -> Vec<Vector> {
     let mut vectors = Vec::new();
-    for (name, text, parse, unstated) in FILES {
+    for (name, text, parse) in FILES {
         for (at, line) in text.lines().enumerate() {
             if line.starts_with('#') || line.is_empty() {
                 continue;
@@ -158,7 +122,6 @@ pub fn vectors() -> Vec<Vector> {
                 source,
                 call,
                 right,
-                unstated,
             });
         }
     }
@@ -170,7 +133,7 @@ pub fn run_vectors(judge: &dyn Judge) -> Result<usize, String> {
     let vectors = vectors();
     for vector in &vectors {
         let outcome = make(judge, &vector.call);
-        if !vector.agrees(&outcome) {
+        if outcome != vector.right {
             return Err(format!(
                 "vector {}\nright: {:?}\n{}: {:?}\n{}",
                 vector.source,

@@ -7,7 +7,7 @@ use std::collections::BTreeSet;
 use mctc::{Asked, Condition, Reason, Test, TESTS};
 use outside::comparison::{column_case, set_case};
 use outside::judge::{make, places_before, Call, Outcome, Reference, Set};
-use outside::reference::tables::{table, AC2, ACC, GAS, IDENTIFICATION};
+use outside::reference::tables::{table, AC2, ACC, FILES, GAS, IDENTIFICATION, OPACITY};
 use outside::reference::PLACES;
 
 /// Enough to meet every test passed and failed.
@@ -122,7 +122,7 @@ fn reasons_give_the_due_column() {
             entries.insert((file, entry));
         }
     }
-    assert_eq!(entries.len(), 139, "every entry was met");
+    assert_eq!(2 * entries.len(), PLACES, "every entry was met");
     // notL and nineStem are of files
     let own = |test: &u32| ![number(Test::NotL), number(Test::NineStem)].contains(test);
     for test in (0..TESTS.len() as u32).filter(own) {
@@ -132,26 +132,17 @@ fn reasons_give_the_due_column() {
 
 /// Whether a file is given as the library's reasons ask; the identification answer besides only where gas is given.
 fn is_right(set: &Set, file: u32, met: &mut BTreeSet<(u32, bool)>) -> bool {
-    let slices = set.as_slices();
-    let text = |file| match file {
-        1 => slices.ac2,
-        2 => slices.acc,
-        3 => slices.drift,
-        4 => slices.suspension,
-        5 => slices.gas,
-        _ => slices.identification,
-    };
-    let given = !text(file).is_empty();
+    let given = !set.slice(file).is_empty();
     let condition = mctc::file_condition(file).expect("a file");
     let value = |reason: &Reason| match reason.file {
-        0 => slices.stem,
-        other => match Values::alone(other, text(other)) {
+        0 => &set.stem,
+        other => match Values::alone(other, set.slice(other)) {
             Some(values) => values.value(reason.entry),
             None => &[],
         },
     };
     let holds = hold(&condition, value, met);
-    let gas = file != IDENTIFICATION || !slices.gas.is_empty();
+    let gas = file != IDENTIFICATION || !set.slice(GAS).is_empty();
     match condition.asked {
         Asked::Always => given,
         Asked::Free => true,
@@ -172,7 +163,7 @@ fn reasons_say_when_a_file_is_given() {
         let outcome: Outcome = Reference.judge(&set);
         let (number, file) = (outcome.answer[0], outcome.answer[1]);
         if number == 0 {
-            for file in AC2..=IDENTIFICATION {
+            for file in AC2..=OPACITY {
                 assert!(is_right(&set, file, &mut met), "seed {seed}, file {file}");
             }
         }
@@ -181,8 +172,18 @@ fn reasons_say_when_a_file_is_given() {
             refused.insert(file);
         }
     }
-    assert_eq!(refused, BTreeSet::from([AC2, ACC, GAS, IDENTIFICATION]));
-    for test in [Test::NotL, Test::NineStem, Test::Petrol, Test::SerialLink] {
+    assert_eq!(
+        refused,
+        BTreeSet::from([AC2, ACC, GAS, IDENTIFICATION, OPACITY])
+    );
+    for test in [
+        Test::NotL,
+        Test::NineStem,
+        Test::Petrol,
+        Test::SerialLink,
+        Test::Diesel,
+        Test::MOrN,
+    ] {
         let test = number(test);
         assert!(met.contains(&(test, true)) && met.contains(&(test, false)));
     }
@@ -226,15 +227,18 @@ fn fields_are_gas_values() {
 /// Calls that lend nothing but the answer array, by numbers in and out of range.
 fn calls() -> Vec<(bool, u32, Box<dyn Fn(&mut [u32]) -> u32>)> {
     let mut calls: Vec<(bool, u32, Box<dyn Fn(&mut [u32]) -> u32>)> = Vec::new();
-    for (file, count) in [(0, 0), (1, 12), (2, 6), (3, 25), (4, 43), (5, 53), (6, 0)] {
+    for file in 0..10 {
+        let has_entries = FILES.contains(&file);
+        let count = has_entries.then(|| table(file).most_entries() as u32);
         for entry in (0..70).chain([u32::MAX]) {
             let call = move |answer: &mut [u32]| mctc::lent::condition(file, entry, answer);
-            calls.push((entry < count, file, Box::new(call)));
+            let there = count.is_some_and(|count| entry < count);
+            calls.push((there, file, Box::new(call)));
         }
     }
     for file in (0..10).chain([u32::MAX]) {
         let call = move |answer: &mut [u32]| mctc::lent::file_condition(file, answer);
-        calls.push(((1..=6).contains(&file), file, Box::new(call)));
+        calls.push(((AC2..=OPACITY).contains(&file), file, Box::new(call)));
     }
     for number in (0..20).chain([u32::MAX]) {
         let test = move |answer: &mut [u32]| mctc::lent::test(number, b"", answer);

@@ -5,8 +5,8 @@ use outside::vectors::run_vectors;
 
 fn assert_agrees(judge: &dyn Judge) {
     match run_vectors(judge) {
-        // Sets, files read alone and writings of document 01, then of 02, 1/14.
-        Ok(count) => assert_eq!(count, 430 + 160 + 135 + 101 + 60 + 60),
+        // Sets, files read alone and writings.
+        Ok(count) => assert_eq!(count, 200 + 60 + 60),
         Err(difference) => panic!("{difference}"),
     }
 }

@@ -3,7 +3,7 @@ use borrow.Author.Needs.{needs}
 use native.Mathlib.Omega.{arith}
 use Rattle.lines.specs.Bytes.{sameBytes}
 use Rattle.tables.specs.Section.{entriesOf}
-use Rattle.tables.specs.Entries.{newBooking, oldBooking, sixteen, tester, protocol, measurement, analysis, analyser, counter, speedTest, allKeyDates, allKeyBodies, fuelAnalysis}
+use Rattle.tables.specs.Entries.{newBooking, oldBooking, sixteen, tester, protocol, measurement, analysis, analyser, counter, speedTest, allKeyDates, allKeyBodies, fuelAnalysis, opacimeter, opacityTest, opacityKeys, opacityAnalysis}
 use Rattle.tables.specs.File.{entries, sections, fixedSections, axleSections, axlesFrom}
 use Rattle.due.specs.Due.{exceptions, conditionOf}
 use Rattle.due.specs.Table.{conditionTable}
@@ -24,7 +24,7 @@ array-copy-out-result : tie.Need-array-copy-out-result
 array-copy-out-result c = omega (arith, table-in (c .before .before .before .args .file), c .before .condition-count .ensures, c .before .before .first-condition .ensures)
 
 returns : tie.Need-returns
-unfolding conditionTable exceptions conditionOf sameBytes entries entriesOf sections fixedSections axleSections axlesFrom newBooking oldBooking sixteen tester protocol measurement analysis analyser counter speedTest allKeyDates allKeyBodies fuelAnalysis
+unfolding conditionTable exceptions conditionOf sameBytes entries entriesOf sections fixedSections axleSections axlesFrom newBooking oldBooking sixteen tester protocol measurement analysis analyser counter speedTest allKeyDates allKeyBodies fuelAnalysis opacimeter opacityTest opacityKeys opacityAnalysis
 returns c =
     let h = c .before .before in
     in-table (h .before .before .args .file) (h .before .before .args .entry) _ _ (h .before .first-condition .ensures) (h .condition-count .ensures) (c .before .if1 .taken)

@@ -1,7 +1,7 @@
 -- Each file's number is looked at. Assumes nothing.
 use mathlib.Core.Path.{refl, sym}
 use Rattle.tables.specs.Section.{entriesOf}
-use Rattle.tables.specs.Entries.{newBooking, oldBooking, tester, protocol, measurement, sixteen}
+use Rattle.tables.specs.Entries.{newBooking, oldBooking, tester, protocol, measurement, sixteen, analysis, analyser, counter, speedTest, allKeyDates, allKeyBodies, fuelAnalysis}
 use Rattle.tables.specs.File.{ofNumber, fixedSections, axlesFrom, axleSections, sections, entries}
 use Rattle.due.specs.Table.{firstCondition}
 use Rattle.tables.proofs.Files.{of-others}
@@ -25,10 +25,14 @@ unfolding ofNumber firstCondition entries entriesOf sections fixedSections axleS
 returns-4 c = rw (c .match .keys4)
 
 returns-5 : tie.Need-returns-5
+unfolding ofNumber firstCondition entries entriesOf sections fixedSections axleSections axlesFrom newBooking oldBooking sixteen tester protocol measurement analysis analyser counter speedTest allKeyDates allKeyBodies fuelAnalysis
+returns-5 c = rw (c .match .keys5)
+
+returns-6 : tie.Need-returns-6
 unfolding firstCondition
-returns-5 c =
+returns-6 c =
     let r = c .match .rest in
-    sym (of-others 0 firstCondition (c .before .args .file) (λ e. refl) (λ e. absurd (r .0 .0 .0 .1 e)) (λ e. absurd (r .0 .0 .1 e)) (λ e. absurd (r .0 .1 e)) (λ e. absurd (r .1 e)))
+    sym (of-others 0 firstCondition (c .before .args .file) (λ e. refl) (λ e. absurd (r .0 .0 .0 .0 .1 e)) (λ e. absurd (r .0 .0 .0 .1 e)) (λ e. absurd (r .0 .0 .1 e)) (λ e. absurd (r .0 .1 e)) (λ e. absurd (r .1 e)))
 
 pub first-condition-spec : {M : Type 1} → statement M
-first-condition-spec = tie.close (tie.spec returns returns-2 returns-3 returns-4 returns-5)
+first-condition-spec = tie.close (tie.spec returns returns-2 returns-3 returns-4 returns-5 returns-6)

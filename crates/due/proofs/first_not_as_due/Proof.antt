@@ -10,7 +10,7 @@ use borrow.Author.Tests.{not-true, not-false}
 use Rattle.lines.specs.Bytes.{sameBytes}
 use Rattle.places.specs.Places.{pairsAt}
 use Rattle.tables.specs.Section.{entriesOf}
-use Rattle.tables.specs.Entries.{newBooking, oldBooking, sixteen, tester, protocol, measurement, analysis, analyser, counter, speedTest, allKeyDates, allKeyBodies, fuelAnalysis}
+use Rattle.tables.specs.Entries.{newBooking, oldBooking, sixteen, tester, protocol, measurement, analysis, analyser, counter, speedTest, allKeyDates, allKeyBodies, fuelAnalysis, opacimeter, opacityTest, opacityKeys, opacityAnalysis}
 use Rattle.tables.specs.File.{entries, sections, fixedSections, axleSections, axlesFrom}
 use Rattle.due.specs.Due.{exceptions, conditionOf, dueIn, filledPairs, asDue, firstNotAsDueFrom}
 use Rattle.due.specs.Table.{conditionTable}
@@ -50,7 +50,7 @@ is-as-due-requires : tie.Need-is-as-due-requires Inv-loop μ-loop
 is-as-due-requires c κs = search needs
 
 returns : tie.Need-returns Inv-loop μ-loop
-unfolding conditionTable exceptions conditionOf sameBytes entries entriesOf sections fixedSections axleSections axlesFrom newBooking oldBooking sixteen tester protocol measurement analysis analyser counter speedTest allKeyDates allKeyBodies fuelAnalysis
+unfolding conditionTable exceptions conditionOf sameBytes entries entriesOf sections fixedSections axleSections axlesFrom newBooking oldBooking sixteen tester protocol measurement analysis analyser counter speedTest allKeyDates allKeyBodies fuelAnalysis opacimeter opacityTest opacityKeys opacityAnalysis
 returns c =
     let t = c .before .before .before in
     let h = t .before .before .before in
@@ -73,7 +73,7 @@ loop-less : tie.Need-loop-less Inv-loop μ-loop
 loop-less c = search needs
 
 loop-again : tie.Need-loop-again Inv-loop μ-loop
-unfolding conditionTable exceptions conditionOf sameBytes entries entriesOf sections fixedSections axleSections axlesFrom newBooking oldBooking sixteen tester protocol measurement analysis analyser counter speedTest allKeyDates allKeyBodies fuelAnalysis
+unfolding conditionTable exceptions conditionOf sameBytes entries entriesOf sections fixedSections axleSections axlesFrom newBooking oldBooking sixteen tester protocol measurement analysis analyser counter speedTest allKeyDates allKeyBodies fuelAnalysis opacimeter opacityTest opacityKeys opacityAnalysis
 loop-again c =
     let h = c .before .before .before in
     let x = h .before .before .before .before .args in

@@ -1,13 +1,13 @@
--- Gas alone has links, and its values stand at its pairs. Assumes nothing.
+-- Gas and opacity have links, and their values stand at their pairs. Assumes nothing.
 use borrow.Author.Needs.{needs}
 use mathlib.Core.Path.{refl, sym}
 use lib.Dec.{lit<}
-use Rattle.tables.specs.File.{File, gas}
+use Rattle.tables.specs.File.{File, gas, opacity}
 use Rattle.tables.specs.Value.{valuesOf}
 use Rattle.due.specs.Conditions.{noLinks, linksOf, linksNumbered}
 use Rattle.tables.proofs.Files.{of-number, of-others}
-use Rattle.tables.proofs.Values.{number-held, gas-held}
-use Rattle.due.proofs.Values.{gas-links}
+use Rattle.tables.proofs.Values.{number-held, gas-held, opacity-held}
+use Rattle.due.proofs.Values.{gas-links, opacity-links}
 use Rattle.due.proofs.links_of.Statement.{statement}
 use Rattle.due.proofs.links_of.Tie as tie
 
@@ -22,6 +22,11 @@ links-at-requires c κs =
     let h = gas-held _ _ (number-held gas _ _ _ _ (c .before .before .match .keys1) (c .before .before .before .before .before .pre)) in
     (h 24 (lit< tt), h 22 (lit< tt), h 12 (lit< tt), h 13 (lit< tt))
 
+links-at-requires-2 : tie.Need-links-at-requires-2
+links-at-requires-2 c κs =
+    let h = opacity-held _ _ (number-held opacity _ _ _ _ (c .match .keys2) (c .before .before .before .pre)) in
+    (h 38 (lit< tt), h 36 (lit< tt), h 12 (lit< tt), h 13 (lit< tt))
+
 returns : tie.Need-returns
 unfolding linksNumbered
 returns c =
@@ -31,9 +36,15 @@ returns c =
 returns-2 : tie.Need-returns-2
 unfolding linksNumbered
 returns-2 c =
+    let x = c .before .before .before .before .args in
+    rw (of-number noLinks (λ (f : File). linksOf f (valuesOf f 0 (x .text .now) (x .places .now))) opacity _ (c .before .match .keys2), opacity-links (x .text .now) (x .places .now)) (c .links-at2 .ensures)
+
+returns-3 : tie.Need-returns-3
+unfolding linksNumbered
+returns-3 c =
     let x = c .before .before .before .args in
-    sym (of-others noLinks (λ (f : File). linksOf f (valuesOf f 0 (x .text .now) (x .places .now))) _ (λ e. refl) (λ e. refl) (λ e. refl) (λ e. refl) (λ e. absurd (c .match .rest .1 e)))
+    sym (of-others noLinks (λ (f : File). linksOf f (valuesOf f 0 (x .text .now) (x .places .now))) _ (λ e. refl) (λ e. refl) (λ e. refl) (λ e. refl) (λ e. absurd (c .match .rest .0 .1 e)) (λ e. absurd (c .match .rest .1 e)))
 
 pub links-of-spec : {M : Type 1} → statement M
 links-of-spec =
-    tie.close (tie.spec value-of-requires version-of-requires links-at-requires returns returns-2)
+    tie.close (tie.spec value-of-requires version-of-requires links-at-requires links-at-requires-2 returns returns-2 returns-3)

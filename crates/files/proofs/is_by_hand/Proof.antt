@@ -17,7 +17,7 @@ returns : tie.Need-returns
 returns c =
     let x = c .before .before .before .args in
     let g : File → Bool = (λ f. isByHand f (valuesOf f (x .axles) (x .text .now) (x .places .now))) in
-    sym (of-others false g (x .file) (λ e. without-speed _ _ (speeds .0)) (λ e. without-speed _ _ (speeds .1)) (λ e. without-speed _ _ (speeds .2)) (λ e. without-speed _ _ (speeds .3)) (λ e. absurd (c .if1 .taken e)))
+    sym (of-others false g (x .file) (λ e. without-speed _ _ (speeds .0)) (λ e. without-speed _ _ (speeds .1)) (λ e. without-speed _ _ (speeds .2)) (λ e. without-speed _ _ (speeds .3)) (λ e. absurd (c .if1 .taken e)) (λ e. without-speed _ _ (speeds .5)))
 
 value-of-requires : tie.Need-value-of-requires
 value-of-requires c κs =

@@ -1,8 +1,8 @@
 -- `files::scan_text` meets its contract: in each arm the names are those of the file's group. Assumes nothing.
 use borrow.Author.Needs.{needs}
-use Rattle.tables.specs.Entries.{newBooking, oldBooking}
+use Rattle.tables.specs.Entries.{newBooking, oldBooking, opacityAnalysis}
 use Rattle.tables.specs.Groups.{testers, gasEntries}
-use Rattle.tables.proofs.NameRows.{lent-as, acc-group, drift-group, suspension-group, gas-group, other-group}
+use Rattle.tables.proofs.NameRows.{lent-as, acc-group, drift-group, suspension-group, gas-group, opacity-group, other-group}
 use Rattle.files.proofs.scan_text.Statement.{statement}
 use Rattle.files.proofs.scan_text.Tie as tie
 
@@ -24,6 +24,10 @@ scan-lines-requires-4 c κs =
 
 scan-lines-requires-5 : tie.Need-scan-lines-requires-5
 scan-lines-requires-5 c κs =
+    (lent-as (c .before .before .before .before .before .before .before .before .before .before .before .before .before .before .args .file) opacityAnalysis (opacity-group (c .before .before .before .before .before .before .before .before .before .match .keys5)) (c .before .before .before .before .before .before .before .before .opacity-rows .ensures) (c .before .before .before .before .before .before .opacity-lengths .ensures) (c .before .before .before .before .opacity-tags .ensures), c .before .before .before .before .before .before .before .before .before .before .before .before .before .before .pre)
+
+scan-lines-requires-6 : tie.Need-scan-lines-requires-6
+scan-lines-requires-6 c κs =
     (lent-as (c .before .before .before .before .before .before .before .before .before .before .before .before .before .before .args .file) newBooking (other-group (c .before .before .before .before .before .before .before .before .before .before .before .before .before .before .args .file) (c .before .before .before .before .before .before .before .before .before .match .rest)) (c .before .before .before .before .before .before .before .before .new-booking-rows .ensures) (c .before .before .before .before .before .before .new-booking-lengths .ensures) (c .before .before .before .before .new-booking-tags .ensures), c .before .before .before .before .before .before .before .before .before .before .before .before .before .before .pre)
 
 pub scan-text-spec : {M : Type 1} → statement M
@@ -35,6 +39,8 @@ scan-text-spec =
     (λ c κs. search needs) (λ c. search needs) (λ c κs. search needs) (λ c. search needs) (λ c κs. search needs) (λ c. search needs) scan-lines-requires-3
     (λ c κs. search needs) (λ c. search needs) (λ c κs. search needs) (λ c. search needs) (λ c κs. search needs) (λ c. search needs) scan-lines-requires-4
     (λ c κs. search needs) (λ c. search needs) (λ c κs. search needs) (λ c. search needs) (λ c κs. search needs) (λ c. search needs) scan-lines-requires-5
+    (λ c κs. search needs) (λ c. search needs) (λ c κs. search needs) (λ c. search needs) (λ c κs. search needs) (λ c. search needs) scan-lines-requires-6
+    (λ c. search needs) (λ c. search needs) (λ c. search needs) (λ c. search needs)
     (λ c. search needs) (λ c. search needs) (λ c. search needs) (λ c. search needs)
     (λ c. search needs) (λ c. search needs) (λ c. search needs) (λ c. search needs)
     (λ c. search needs) (λ c. search needs) (λ c. search needs) (λ c. search needs)

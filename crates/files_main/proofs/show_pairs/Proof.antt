@@ -1,14 +1,14 @@
--- `files_main::show_pairs` is safe and ends: 139 pairs stand within 278 numbers. Assumes nothing.
+-- `files_main::show_pairs` is safe and ends: 194 pairs stand within 388 numbers. Assumes nothing.
 use borrow.Author.Needs.{needs}
 use Prim.Native.Nat.{_-_, _≤_}
 use Rattle.files_main.proofs.show_pairs.Statement.{statement}
 use Rattle.files_main.proofs.show_pairs.Tie as tie
 
 abbrev Inv-loop : tie.InvT-loop
-Inv-loop places k₀ k = k ≤ 139
+Inv-loop places k₀ k = k ≤ 194
 
 abbrev μ-loop : tie.MeasureT-loop
-μ-loop places k₀ k = 139 - k
+μ-loop places k₀ k = 194 - k
 
 loop-holds : tie.Need-loop-holds Inv-loop μ-loop
 loop-holds c = search needs

@@ -1,4 +1,4 @@
--- `files_main::show_read` is safe: the lent numbers are a prefix of the 300. Assumes nothing.
+-- `files_main::show_read` is safe: the lent numbers are a prefix of the 420. Assumes nothing.
 use native.Mathlib.Omega.{arith}
 use lib.ListN.{length-take}
 use borrow.Author.Needs.{needs}

@@ -1,4 +1,4 @@
--- `files_main::show_write` is safe: the lent numbers and bytes are prefixes of 300 and 4,096. Assumes nothing.
+-- `files_main::show_write` is safe: the lent numbers and bytes are prefixes of 420 and 4,096. Assumes nothing.
 use native.Mathlib.Omega.{arith}
 use lib.ListN.{length-take}
 use borrow.Author.Needs.{needs}

@@ -13,8 +13,11 @@ figures-in-requires-2 c κs = search needs
 figures-in-requires-3 : tie.Need-figures-in-requires-3
 figures-in-requires-3 c κs = search needs
 
+figures-in-requires-4 : tie.Need-figures-in-requires-4
+figures-in-requires-4 c κs = search needs
+
 returns : tie.Need-returns
-returns c = rw (c .before .before .figures-in .ensures, c .before .figures-in2 .ensures, c .figures-in3 .ensures) refl
+returns c = rw (c .before .before .before .figures-in .ensures, c .before .before .figures-in2 .ensures, c .before .figures-in3 .ensures, c .figures-in4 .ensures) refl
 
 pub acceptance-with-spec : {M : Type 1} → statement M
-acceptance-with-spec = tie.close (tie.spec figures-in-requires figures-in-requires-2 figures-in-requires-3 returns)
+acceptance-with-spec = tie.close (tie.spec figures-in-requires figures-in-requires-2 figures-in-requires-3 figures-in-requires-4 returns)

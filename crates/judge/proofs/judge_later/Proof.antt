@@ -2,10 +2,10 @@
 use borrow.Author.Needs.{needs}
 use Prim.Native.Nat.{ℕ}
 use native.Mathlib.Omega.{arith}
-use mathlib.Core.Path.{refl}
+use mathlib.Core.Path.{refl, _∙_}
 use mathlib.Core.List.{List, [], _∷_}
 use denote.Ref.{now}
-use Rattle.tables.specs.File.{acc, drift, suspension, gas, ofNumber}
+use Rattle.tables.specs.File.{acc, drift, suspension, gas, opacity, ofNumber}
 use Rattle.sets.specs.Records.{Slices, slicesOf}
 use Rattle.sets.specs.Judge.{Slice, fileSlice, identificationSlice}
 use Rattle.judge.proofs.Slices.{After, FiguresAs, filled, at-first, first-file, next-file, going-ready, next-ready, IdentificationKnown, identification-known, identification-ready, next-identification, later-refused, later-size, later-accepted}
@@ -16,7 +16,7 @@ use Rattle.judge.proofs.judge_later.Tie as tie
 -- where the function starts, the set, and the places then and after each call
 
 abbrev start1 : tie.After-judge-file → tie.Start
-start1 c = c .before .before .before .before .before .before .before .before .before
+start1 c = c .before .before .before .before .before .before .before .before .before .before
 
 abbrev start2 : tie.After-judge-next → tie.Start
 start2 c = start1 (c .before .before .before .before)
@@ -27,8 +27,11 @@ start3 c = start2 (c .before .before .before .before)
 abbrev start4 : tie.After-judge-next3 → tie.Start
 start4 c = start3 (c .before .before .before .before)
 
+abbrev start5 : tie.After-judge-next4 → tie.Start
+start5 c = start4 (c .before .before .before .before .before .before)
+
 abbrev slices : tie.Start → Slices
-slices x = slicesOf (now (x .args .ac2)) (now (x .args .acc)) (now (x .args .drift)) (now (x .args .suspension)) (now (x .args .gas)) (now (x .args .identification))
+slices x = slicesOf (now (x .args .ac2)) (now (x .args .acc)) (now (x .args .drift)) (now (x .args .suspension)) (now (x .args .gas)) (now (x .args .identification)) (now (x .args .opacity))
 
 abbrev lent : tie.Start → List ℕ
 lent x = now (x .args .places)
@@ -45,6 +48,9 @@ places3 c = c .judge-next2 .last .1 .1 .1 .1 .1 .1 .0
 abbrev places4 : tie.After-judge-next3 → List ℕ
 places4 c = c .judge-next3 .last .1 .1 .1 .1 .1 .1 .0
 
+abbrev places5 : tie.After-judge-next4 → List ℕ
+places5 c = c .judge-next4 .last .1 .1 .1 .1 .1 .1 .0
+
 -- what is known of what was kept
 
 abbrev kept1 : tie.After-judge-file → Type 0
@@ -59,10 +65,16 @@ kept3 c = let x = start3 c in kept2 (c .before .before .before .before) × Figur
 abbrev kept4 : tie.After-judge-next3 → Type 0
 kept4 c = let x = start4 c in kept3 (c .before .before .before .before) × FiguresAs (x .args .stated) (slices x) (lent x) gas (c .judge-next3 .result)
 
+abbrev kept5 : tie.After-judge-next4 → Type 0
+kept5 c = let x = start5 c in kept4 (c .before .before .before .before .before .before) × FiguresAs (x .args .stated) (slices x) (lent x) opacity (c .judge-next4 .result)
+
 -- the slices left after each
 
+abbrev left5 : List Slice
+left5 = fileSlice opacity ∷ []
+
 abbrev left4 : List Slice
-left4 = identificationSlice ∷ []
+left4 = identificationSlice ∷ left5
 
 abbrev left3 : List Slice
 left3 = fileSlice gas ∷ left4
@@ -86,6 +98,9 @@ pairs3 x = filled (x .args .stated) (slices x) (lent x) suspension (pairs2 x)
 
 abbrev pairs4 : tie.Start → List ℕ
 pairs4 x = filled (x .args .stated) (slices x) (lent x) gas (pairs3 x)
+
+abbrev pairs5 : tie.Start → List ℕ
+pairs5 x = filled (x .args .stated) (slices x) (lent x) opacity (pairs4 x)
 
 -- what is known after each
 
@@ -123,18 +138,26 @@ known4 c =
     let d = c .before .before .before .before in
     identification-known (x .args .stated) (slices x) (lent x) (kept3 d) left4 (d .judge-next2 .result) (pairs3 x) (places3 d) (after3 d) (c .judge-next3 .result) (places4 c) (c .judge-next3 .ensures)
 
-after5 : (c : tie.After-identification-next) → After (start4 (c .before .before .before .before) .args .stated) (slices (start4 (c .before .before .before .before))) (lent (start4 (c .before .before .before .before))) (kept4 (c .before .before .before .before)) [] (c .identification-next .result) (pairs4 (start4 (c .before .before .before .before))) (places4 (c .before .before .before .before))
+after5 : (c : tie.After-identification-next) → After (start4 (c .before .before .before .before) .args .stated) (slices (start4 (c .before .before .before .before))) (lent (start4 (c .before .before .before .before))) (kept4 (c .before .before .before .before)) left5 (c .identification-next .result) (pairs4 (start4 (c .before .before .before .before))) (places4 (c .before .before .before .before))
 after5 c =
     let d = c .before .before .before .before in
     let x = start4 d in
-    next-identification (x .args .stated) (slices x) (lent x) (kept4 d) [] (d .judge-next3 .result) (pairs4 x) (places4 d) (after4 d) (known4 d) (c .identification-next .result) (c .identification-next .ensures)
+    next-identification (x .args .stated) (slices x) (lent x) (kept4 d) left5 (d .judge-next3 .result) (pairs4 x) (places4 d) (after4 d) (known4 d) (c .identification-next .result) (c .identification-next .ensures)
+
+after6 : (c : tie.After-judge-next4) → After (start5 c .args .stated) (slices (start5 c)) (lent (start5 c)) (kept5 c) [] (c .judge-next4 .result) (pairs5 (start5 c)) (places5 c)
+unfolding ofNumber
+after6 c =
+    let x = start5 c in
+    let i = c .before .before in
+    let d = i .before .before .before .before in
+    next-file (x .args .stated) (slices x) (lent x) opacity (omega arith) (kept4 d) [] (pairs4 x) (places4 d) (i .identification-next .result) (after5 i) (c .judge-next4 .result) (places5 c) (c .judge-next4 .ensures)
 
 -- the needs
 
 judge-file-requires : tie.Need-judge-file-requires
 unfolding ofNumber
 judge-file-requires c κs =
-    let x = c .before .before .before .before .before .before .before .before in
+    let x = c .before .before .before .before .before .before .before .before .before in
     going-ready (x .args .stated) (slices x) (lent x) 2 (x .args .b) refl (omega arith) (x .pre .1) (at-first (x .args .stated) (slices x) (lent x) (x .pre .0))
 
 judge-next-requires : tie.Need-judge-next-requires
@@ -164,39 +187,48 @@ identification-next-requires c κs =
     let x = start4 d in
     identification-ready (x .args .stated) (slices x) (lent x) (d .judge-next3 .result) (places4 d) (known4 d)
 
-enum-known-last : tie.Need-enum-known-last
-enum-known-last c = search needs
+judge-next-requires-4 : tie.Need-judge-next-requires-4
+unfolding ofNumber
+judge-next-requires-4 c κs =
+    let i = c .before in
+    let d = i .before .before .before .before in
+    let x = start4 d in
+    next-ready (x .args .stated) (slices x) (lent x) 7 (x .args .b) refl (omega arith) (x .pre .1) (kept4 d) left5 (i .identification-next .result) (pairs4 x) (places4 d) (after5 i)
 
-enum-known-last-2 : tie.Need-enum-known-last-2
-enum-known-last-2 c = search needs
+enum-known-y : tie.Need-enum-known-y
+enum-known-y c = search needs
+
+enum-known-y-2 : tie.Need-enum-known-y-2
+enum-known-y-2 c = search needs
 
 acceptance-with-requires : tie.Need-acceptance-with-requires
 acceptance-with-requires c κs = search needs
 
 same-length : tie.Need-same-length
-same-length c = search needs
+same-length c =
+    let d = c .before .before .before .before in
+    let g = d .before .before .before .before .before .before in
+    d .places5 .given ∙ g .places4 .given ∙ g .before .before .before .before .places3 .given ∙ g .before .before .before .before .before .before .before .before .places2 .given ∙ g .before .before .before .before .before .before .before .before .before .before .before .before .places .given
 
 returns : tie.Need-returns
 returns c =
-    let d = c .before .before .before in
-    let g = d .before .before .before .before in
-    let x = start4 g in
-    later-refused (x .args .stated) (slices x) (lent x) (kept4 g) (d .identification-next .result) (pairs4 x) (places4 g) (after5 d) _ (c .before .last .given .1)
+    let d = c .before .before .before .before .before in
+    let x = start5 d in
+    later-refused (x .args .stated) (slices x) (lent x) (kept5 d) (d .judge-next4 .result) (pairs5 x) (places5 d) (after6 d) _ (c .before .y .given .1)
 
 same-length-2 : tie.Need-same-length-2
 same-length-2 c =
-    let d = c .before .before .before .before in
-    let g = d .before .before .before .before in
-    let x = start4 g in
-    later-size (x .args .stated) (slices x) (lent x) (kept4 g) (d .identification-next .result) (pairs4 x) (places4 g) (after5 d) _ (c .before .before .last2 .given .1)
+    let d = c .before .before .before .before .before .before in
+    let x = start5 d in
+    later-size (x .args .stated) (slices x) (lent x) (kept5 d) (d .judge-next4 .result) (pairs5 x) (places5 d) (after6 d) _ (c .before .before .y2 .given .1)
 
 returns-2 : tie.Need-returns-2
 returns-2 c =
-    let d = c .before .before .before .before in
-    let g = d .before .before .before .before in
-    let x = start4 g in
+    let d = c .before .before .before .before .before .before in
+    let g = d .before .before .before .before .before .before in
+    let x = start5 d in
     rw (c .acceptance-with .ensures)
-    (later-accepted (x .args .stated) (slices x) (lent x) (g .before .before .before .before .before .before .before .before .before .before .before .before .judge-file .result) (g .before .before .before .before .before .before .before .before .judge-next .result) (g .before .before .before .before .judge-next2 .result) (g .judge-next3 .result) (d .identification-next .result) (places4 g) (after5 d) _ (c .before .before .last2 .given .1))
+    (later-accepted (x .args .stated) (slices x) (lent x) (g .before .before .before .before .before .before .before .before .before .before .before .before .judge-file .result) (g .before .before .before .before .before .before .before .before .judge-next .result) (g .before .before .before .before .judge-next2 .result) (g .judge-next3 .result) (d .judge-next4 .result) (places5 d) (after6 d) _ (c .before .before .y2 .given .1))
 
 pub judge-later-spec : {M : Type 1} → statement M
 judge-later-spec =
@@ -207,8 +239,9 @@ judge-later-spec =
     judge-next-requires-2
     judge-next-requires-3
     identification-next-requires
-    enum-known-last
-    enum-known-last-2
+    judge-next-requires-4
+    enum-known-y
+    enum-known-y-2
     acceptance-with-requires
     same-length
     returns

@@ -62,6 +62,15 @@ part-judge-set-start-6 c = search needs
 part-judge-set-end-6 : tie.Need-part-judge-set-end-6
 part-judge-set-end-6 c = search needs
 
+sub-judge-set-7 : tie.Need-sub-judge-set-7
+sub-judge-set-7 c = search needs
+
+part-judge-set-start-7 : tie.Need-part-judge-set-start-7
+part-judge-set-start-7 c = search needs
+
+part-judge-set-end-7 : tie.Need-part-judge-set-end-7
+part-judge-set-end-7 c = search needs
+
 judge-set-requires : tie.Need-judge-set-requires
 judge-set-requires c κs = search needs
 
@@ -100,6 +109,9 @@ judge-lent-spec =
     sub-judge-set-6
     part-judge-set-start-6
     part-judge-set-end-6
+    sub-judge-set-7
+    part-judge-set-start-7
+    part-judge-set-end-7
     judge-set-requires
     print-answer-requires
     print-places-requires

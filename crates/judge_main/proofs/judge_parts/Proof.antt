@@ -1,4 +1,4 @@
--- `judge_main::judge_parts` is safe: the lent places are a prefix of 300. Assumes nothing.
+-- `judge_main::judge_parts` is safe: the lent places are a prefix of 400. Assumes nothing.
 use native.Mathlib.Omega.{arith}
 use lib.ListN.{length-take}
 use borrow.Author.Needs.{needs}

@@ -1,9 +1,9 @@
 -- `kinds::is_other` meets its contract: each arm is the definition of the kind at that place, and past the last there is none.
 -- Assumes nothing.
-use mathlib.Core.Path.{sym}
+use mathlib.Core.Path.{ap, sym, _∙_}
 use borrow.Author.Needs.{needs}
 use Rattle.kinds.specs.Kind.{kindOf, numbered}
-use Rattle.kinds.specs.Value.{kindOk, wordsOf, numberedLists}
+use Rattle.kinds.specs.Value.{isNumber, isFixed, isTemperature, kindOk, wordsOf, numberedLists}
 use Rattle.kinds.proofs.Laws.{kind-at, no-kind, past-after}
 use Rattle.kinds.proofs.is_other.Statement.{statement}
 use Rattle.kinds.proofs.is_other.Tie as tie
@@ -46,7 +46,7 @@ returns-9 c = kind-at 15 _ (c .before .match .keys9) (c .is-drift .ensures)
 
 returns-10 : tie.Need-returns-10
 unfolding kindOf numbered kindOk
-returns-10 c = kind-at 16 _ (c .before .match .keys10) (c .is-revs .ensures)
+returns-10 c = kind-at 16 _ (c .before .before .match .keys10) (c .is-number5 .ensures ∙ ap (isNumber 5) (c .before .bare .ensures))
 
 returns-11 : tie.Need-returns-11
 unfolding kindOf numbered kindOk
@@ -93,11 +93,35 @@ unfolding kindOf numbered kindOk wordsOf numberedLists
 returns-21 c = kind-at 27 _ (c .before .match .keys21) (c .is-word8 .ensures)
 
 returns-22 : tie.Need-returns-22
-returns-22 c = sym (no-kind _ _ (past-after 7 21 _ (c .before .before .pre) (c .match .rest)))
+unfolding kindOf numbered kindOk
+returns-22 c = kind-at 28 _ (c .before .match .keys22) (c .is-plate .ensures)
+
+returns-23 : tie.Need-returns-23
+unfolding kindOf numbered kindOk
+returns-23 c = kind-at 29 _ (c .before .match .keys23) (c .is-fixed3 .ensures)
+
+returns-24 : tie.Need-returns-24
+unfolding kindOf numbered kindOk
+returns-24 c = kind-at 30 _ (c .before .before .match .keys24) (c .is-fixed4 .ensures ∙ ap (isFixed 1 5) (c .before .bare2 .ensures))
+
+returns-25 : tie.Need-returns-25
+unfolding kindOf numbered kindOk
+returns-25 c = kind-at 31 _ (c .before .before .match .keys25) (c .is-temperature .ensures ∙ ap isTemperature (c .before .bare3 .ensures))
+
+returns-26 : tie.Need-returns-26
+unfolding kindOf numbered kindOk
+returns-26 c = kind-at 32 _ (c .before .before .match .keys26) (c .is-number6 .ensures ∙ ap (isNumber 3) (c .before .bare4 .ensures))
+
+returns-27 : tie.Need-returns-27
+unfolding kindOf numbered kindOk wordsOf numberedLists
+returns-27 c = kind-at 33 _ (c .before .match .keys27) (c .is-word9 .ensures)
+
+returns-28 : tie.Need-returns-28
+returns-28 c = sym (no-kind _ _ (past-after 7 27 _ (c .before .before .pre) (c .match .rest)))
 
 pub is-other-spec : {M : Type 1} → statement M
 is-other-spec =
     tie.close
     (tie.spec
-    (λ c κs. search needs) (λ c κs. search needs) (λ c κs. search needs) (λ c κs. search needs) (λ c κs. search needs) (λ c κs. search needs) (λ c κs. search needs) (λ c κs. search needs) (λ c κs. search needs) (λ c κs. search needs) (λ c κs. search needs) (λ c κs. search needs) (λ c κs. search needs) (λ c κs. search needs) (λ c κs. search needs) (λ c κs. search needs) (λ c κs. search needs) (λ c κs. search needs) (λ c κs. search needs) (λ c κs. search needs) (λ c κs. search needs)
-    returns returns-2 returns-3 returns-4 returns-5 returns-6 returns-7 returns-8 returns-9 returns-10 returns-11 returns-12 returns-13 returns-14 returns-15 returns-16 returns-17 returns-18 returns-19 returns-20 returns-21 returns-22)
+    (λ c κs. search needs) (λ c κs. search needs) (λ c κs. search needs) (λ c κs. search needs) (λ c κs. search needs) (λ c κs. search needs) (λ c κs. search needs) (λ c κs. search needs) (λ c κs. search needs) (λ c κs. search needs) (λ c κs. search needs) (λ c κs. search needs) (λ c κs. search needs) (λ c κs. search needs) (λ c κs. search needs) (λ c κs. search needs) (λ c κs. search needs) (λ c κs. search needs) (λ c κs. search needs) (λ c κs. search needs) (λ c κs. search needs) (λ c κs. search needs) (λ c κs. search needs) (λ c κs. search needs) (λ c κs. search needs) (λ c κs. search needs) (λ c κs. search needs) (λ c κs. search needs) (λ c κs. search needs) (λ c κs. search needs) (λ c κs. search needs)
+    returns returns-2 returns-3 returns-4 returns-5 returns-6 returns-7 returns-8 returns-9 returns-10 returns-11 returns-12 returns-13 returns-14 returns-15 returns-16 returns-17 returns-18 returns-19 returns-20 returns-21 returns-22 returns-23 returns-24 returns-25 returns-26 returns-27 returns-28)

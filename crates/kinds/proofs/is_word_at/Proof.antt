@@ -29,6 +29,9 @@ is-gas-link-at-requires c κs = search needs
 is-counter-link-at-requires : tie.Need-is-counter-link-at-requires
 is-counter-link-at-requires c κs = search needs
 
+is-outcome-at-requires : tie.Need-is-outcome-at-requires
+is-outcome-at-requires c κs = search needs
+
 returns : tie.Need-returns
 unfolding wordsOf numberedLists
 returns c = list-at 0 _ _ (c .before .match .keys1) (c .is-vehicle-type-at .ensures)
@@ -62,8 +65,12 @@ unfolding wordsOf numberedLists
 returns-8 c = list-at 7 _ _ (c .before .match .keys8) (c .is-counter-link-at .ensures)
 
 returns-9 : tie.Need-returns-9
+unfolding wordsOf numberedLists
+returns-9 c = list-at 8 _ _ (c .before .match .keys9) (c .is-outcome-at .ensures)
+
+returns-10 : tie.Need-returns-10
 unfolding isWordAt
-returns-9 c = rw (no-list _ (past 8 _ (c .match .rest)))
+returns-10 c = rw (no-list _ (past 9 _ (c .match .rest)))
 
 pub is-word-at-spec : {M : Type 1} → statement M
 is-word-at-spec =
@@ -77,6 +84,7 @@ is-word-at-spec =
     is-link-at-requires
     is-gas-link-at-requires
     is-counter-link-at-requires
+    is-outcome-at-requires
     returns
     returns-2
     returns-3
@@ -85,4 +93,5 @@ is-word-at-spec =
     returns-6
     returns-7
     returns-8
-    returns-9)
+    returns-9
+    returns-10)

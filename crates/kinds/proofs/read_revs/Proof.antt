@@ -1,56 +1,36 @@
--- `kinds::read_revs` meets its contract: each branch is one case of the definition. Assumes nothing.
-use mathlib.Core.Path.{ap, sym, _∙_}
-use mathlib.Core.Bool.{true}
-use Prim.Native.Nat.{_≤_}
+-- `kinds::read_revs` meets its contract: what passes the test is read by `number`. Assumes nothing.
+use mathlib.Core.Path.{_≡_, ap, ap₂, sym, _∙_}
+use mathlib.Core.Bool.{Bool, true}
+use Prim.Native.Nat.{ℕ}
 use native.Mathlib.Omega.{arith}
 use borrow.Author.Needs.{needs}
-use lib.ListN.{length}
+use denote.Ref.{now}
 use Rattle.kinds.proofs.read_revs.Statement.{statement}
 use Rattle.kinds.proofs.read_revs.Tie as tie
-use Rattle.kinds.specs.Value.{isRevs}
-use Rattle.kinds.specs.Meaning.{revsRead, revs, bareRead}
-use Rattle.kinds.proofs.Laws.{tail-all, starts-long}
+use Rattle.kinds.specs.Digits.{number}
+use Rattle.kinds.specs.Value.{isNumber, bare}
+use Rattle.kinds.specs.Meaning.{revsRead, revs}
+use Rattle.kinds.specs.declared.RevsRead.the-variants as RevsRead
+use Rattle.kinds.proofs.Laws.{number-short, number-all}
 
--- past the test
-long : (c : tie.Then1) → 1 ≤ length (c .before .before .before .args .value .now)
-unfolding revs
-long c = starts-long _ (c .before .before .before .args .value .now) (sym (c .before .is-by-hand .ensures) ∙ c .if1 .taken)
+-- the digits pass the test
+good : (c : tie.Then1) → isNumber 5 (now (c .before .before .bare .result)) ≡ true
+good c = sym (c .before .is-number .ensures) ∙ c .if1 .taken
 
-is-by-hand-requires : tie.Need-is-by-hand-requires
-is-by-hand-requires c κs = search needs
-
-sub-read-bare : tie.Need-sub-read-bare
-sub-read-bare c = omega (arith, long c)
-
-part-read-bare-start : tie.Need-part-read-bare-start
-part-read-bare-start c = omega (arith, long c)
-
-part-read-bare-end : tie.Need-part-read-bare-end
-part-read-bare-end c = search needs
-
-read-bare-requires : tie.Need-read-bare-requires
-read-bare-requires c κs = search needs
-
-read-bare-requires-2 : tie.Need-read-bare-requires-2
-read-bare-requires-2 c κs = search needs
+number-requires : tie.Need-number-requires
+number-requires c κs = let d = now (c .before .before .bare .result) in (omega (arith, number-short 5 d (good c)), number-all 5 d (good c))
 
 returns : tie.Need-returns
-unfolding revsRead isRevs revs bareRead
-returns c = rw (sym (c .before .before .before .is-by-hand .ensures) ∙ c .before .before .if1 .taken) (c .read-bare .ensures ∙ ap (bareRead true) (tail-all 1 (c .before .before .before .before .before .args .value .now)))
+unfolding revsRead revs
+returns c =
+    let v = now (c .before .before .before .before .before .before .args .value) in
+    let d : now (c .before .before .before .before .bare .result) ≡ bare v = c .before .before .before .before .bare .ensures in
+    rw (ap (isNumber 5) (sym d) ∙ good (c .before .before))
+    (ap₂ (λ (n : ℕ) (b : Bool). RevsRead.Of (record { number = n; byhand = b })) (c .before .number .ensures .0 ∙ ap number d) (c .is-by-hand .ensures))
 
 returns-2 : tie.Need-returns-2
-unfolding revsRead isRevs revs bareRead
-returns-2 c = rw (sym (c .before .before .is-by-hand .ensures) ∙ c .before .if1 .left) (c .read-bare2 .ensures)
+unfolding revsRead
+returns-2 c = rw (sym (c .before .before .bare .ensures)) (rw (sym (c .before .is-number .ensures) ∙ c .if1 .left))
 
 pub read-revs-spec : {M : Type 1} → statement M
-read-revs-spec =
-    tie.close
-    (tie.spec
-    is-by-hand-requires
-    sub-read-bare
-    part-read-bare-start
-    part-read-bare-end
-    read-bare-requires
-    read-bare-requires-2
-    returns
-    returns-2)
+read-revs-spec = tie.close (tie.spec (λ c κs. search needs) (λ c κs. search needs) number-requires (λ c κs. search needs) returns returns-2)

@@ -38,7 +38,11 @@ unfolding wordsOf numberedLists words
 returns-8 c = rw (c .match .keys8)
 
 returns-9 : tie.Need-returns-9
-returns-9 c = rw (no-list _ (past 8 _ (c .match .rest)))
+unfolding wordsOf numberedLists words
+returns-9 c = rw (c .match .keys9)
+
+returns-10 : tie.Need-returns-10
+returns-10 c = rw (no-list _ (past 9 _ (c .match .rest)))
 
 pub word-count-spec : {M : Type 1} → statement M
 word-count-spec =
@@ -52,4 +56,5 @@ word-count-spec =
     returns-6
     returns-7
     returns-8
-    returns-9)
+    returns-9
+    returns-10)

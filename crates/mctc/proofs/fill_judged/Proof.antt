@@ -26,6 +26,9 @@ mark-number-requires-3 c κs = search needs
 mark-number-requires-4 : tie.Need-mark-number-requires-4
 mark-number-requires-4 c κs = search needs
 
+mark-number-requires-5 : tie.Need-mark-number-requires-5
+mark-number-requires-5 c κs = search needs
+
 slice-aggregate-fill : tie.Need-slice-aggregate-fill
 slice-aggregate-fill c = search needs
 
@@ -45,8 +48,8 @@ same-length-2 c = search needs
 
 returns-2 : tie.Need-returns-2
 returns-2 c =
-    let x = c .before .before .before .before .before .before .before .before .before .before .before .before .before .args in
-    set-accepted (now (x .answer)) _ _ (x .judged) _ (c .before .before .before .before .before .before .before .before .before .before .judged2 .given .1) _ _ _ _ (c .before .before .before .before .before .before .before .before .mark-number .ensures) (c .before .before .before .before .before .before .before .mark-number2 .ensures) (c .before .before .before .before .before .before .mark-number3 .ensures) (c .before .before .before .before .before .mark-number4 .ensures) (c .before .before .fill .ensures)
+    let x = c .before .before .before .before .before .before .before .before .before .before .before .before .before .before .args in
+    set-accepted (now (x .answer)) _ _ (x .judged) _ (c .before .before .before .before .before .before .before .before .before .before .before .judged2 .given .1) _ _ _ _ _ (c .before .before .before .before .before .before .before .before .before .mark-number .ensures) (c .before .before .before .before .before .before .before .before .mark-number2 .ensures) (c .before .before .before .before .before .before .before .mark-number3 .ensures) (c .before .before .before .before .before .before .mark-number4 .ensures) (c .before .before .before .before .before .mark-number5 .ensures) (c .before .before .fill .ensures)
 
 pub fill-judged-spec : {M : Type 1} → statement M
 fill-judged-spec =
@@ -59,6 +62,7 @@ fill-judged-spec =
     mark-number-requires-2
     mark-number-requires-3
     mark-number-requires-4
+    mark-number-requires-5
     slice-aggregate-fill
     fill-requires
     same-length

@@ -9,7 +9,7 @@ use Rattle.mctc.proofs.mctc_judge.Tie as tie
 
 returns : tie.Need-returns
 returns c =
-    let x = c .before .before .before .before .before .before .before .before .before .before .args in
+    let x = c .before .before .before .before .before .before .before .before .before .before .before .args in
     judge-short (now (x .answer)) (c .if1 .taken) (callerOf (now (x .stem))) _ (now (x .places))
 
 judge-set-requires : tie.Need-judge-set-requires
@@ -26,7 +26,7 @@ same-length-2 c = search needs
 
 returns-2 : tie.Need-returns-2
 returns-2 c =
-    let x = c .before .before .before .before .before .before .before .before .before .before .before .before .before .before .before .before .before .before .args in
+    let x = c .before .before .before .before .before .before .before .before .before .before .before .before .before .before .before .before .before .before .before .args in
     judge-done (now (x .answer)) _ _ (omega (arith, c .before .before .before .before .before .before .before .before .if1 .left)) (callerOf (now (x .stem))) _ (now (x .places)) _ _ (c .before .before .before .before .before .before .judge-set .ensures) (c .before .before .fill-judged .ensures)
 
 pub mctc-judge-spec : {M : Type 1} → statement M

@@ -3,7 +3,7 @@ use borrow.Author.Needs.{needs}
 use Rattle.lines.specs.Bytes.{sameBytes}
 use Rattle.kinds.specs.Value.{wordIndex}
 use Rattle.tables.specs.Section.{entriesOf}
-use Rattle.tables.specs.Entries.{newBooking, protocol, measurement, analysis, analyser, counter, speedTest, allKeyDates, allKeyBodies, fuelAnalysis}
+use Rattle.tables.specs.Entries.{newBooking}
 use Rattle.tables.specs.File.{entries, sections, fixedSections, axleSections}
 use Rattle.tables.specs.Value.{placeOf}
 use Rattle.reasons.specs.Reasons.{reasonsOf}
@@ -60,67 +60,67 @@ enum-told-16 c = search needs
 
 returns : tie.Need-returns
 unfolding reasonsOf
-returns c = rw (c .enum-told .given .1)
+returns c f e = rw (c .enum-told .given .1)
 
 returns-2 : tie.Need-returns-2
 unfolding reasonsOf
-returns-2 c = rw (c .enum-told2 .given .1)
+returns-2 c f e = rw (c .enum-told2 .given .1)
 
 returns-3 : tie.Need-returns-3
-unfolding reasonsOf placeOf wordIndex sameBytes entries entriesOf sections fixedSections axleSections newBooking protocol measurement analysis analyser counter speedTest allKeyDates allKeyBodies fuelAnalysis
-returns-3 c = rw (c .enum-told3 .given .1)
+unfolding reasonsOf placeOf wordIndex sameBytes entries entriesOf sections fixedSections axleSections newBooking
+returns-3 c f e = rw (c .enum-told3 .given .1)
 
 returns-4 : tie.Need-returns-4
-unfolding reasonsOf placeOf wordIndex sameBytes entries entriesOf sections fixedSections axleSections newBooking protocol measurement analysis analyser counter speedTest allKeyDates allKeyBodies fuelAnalysis
-returns-4 c = rw (c .enum-told4 .given .1)
+unfolding reasonsOf placeOf wordIndex sameBytes entries entriesOf sections fixedSections axleSections newBooking
+returns-4 c f e = rw (c .enum-told4 .given .1)
 
 returns-5 : tie.Need-returns-5
-unfolding reasonsOf placeOf wordIndex sameBytes entries entriesOf sections fixedSections axleSections newBooking protocol measurement analysis analyser counter speedTest allKeyDates allKeyBodies fuelAnalysis
-returns-5 c = rw (c .enum-told5 .given .1)
+unfolding reasonsOf placeOf wordIndex sameBytes entries entriesOf sections fixedSections axleSections newBooking
+returns-5 c f e = rw (c .enum-told5 .given .1)
 
 returns-6 : tie.Need-returns-6
-unfolding reasonsOf placeOf wordIndex sameBytes entries entriesOf sections fixedSections axleSections newBooking protocol measurement analysis analyser counter speedTest allKeyDates allKeyBodies fuelAnalysis
-returns-6 c = rw (c .enum-told6 .given .1)
+unfolding reasonsOf placeOf wordIndex sameBytes entries entriesOf sections fixedSections axleSections newBooking
+returns-6 c f e = rw (c .enum-told6 .given .1)
 
 returns-7 : tie.Need-returns-7
-unfolding reasonsOf placeOf wordIndex sameBytes entries entriesOf sections fixedSections axleSections newBooking protocol measurement analysis analyser counter speedTest allKeyDates allKeyBodies fuelAnalysis
-returns-7 c = rw (c .enum-told7 .given .1)
+unfolding reasonsOf placeOf wordIndex sameBytes entries entriesOf sections fixedSections axleSections newBooking
+returns-7 c f e = rw (c .enum-told7 .given .1)
 
 returns-8 : tie.Need-returns-8
-unfolding reasonsOf placeOf wordIndex sameBytes entries entriesOf sections fixedSections axleSections newBooking protocol measurement analysis analyser counter speedTest allKeyDates allKeyBodies fuelAnalysis
-returns-8 c = rw (c .enum-told8 .given .1)
+unfolding reasonsOf placeOf wordIndex sameBytes entries entriesOf sections fixedSections axleSections newBooking
+returns-8 c f e = rw (c .enum-told8 .given .1)
 
 returns-9 : tie.Need-returns-9
-unfolding reasonsOf placeOf wordIndex sameBytes entries entriesOf sections fixedSections axleSections newBooking protocol measurement analysis analyser counter speedTest allKeyDates allKeyBodies fuelAnalysis
-returns-9 c = rw (c .enum-told9 .given .1)
+unfolding reasonsOf placeOf wordIndex sameBytes entries entriesOf sections fixedSections axleSections newBooking
+returns-9 c f e = rw (e, c .enum-told9 .given .1)
 
 returns-10 : tie.Need-returns-10
-unfolding reasonsOf placeOf wordIndex sameBytes entries entriesOf sections fixedSections axleSections newBooking protocol measurement analysis analyser counter speedTest allKeyDates allKeyBodies fuelAnalysis
-returns-10 c = rw (c .enum-told10 .given .1)
+unfolding reasonsOf placeOf wordIndex sameBytes entries entriesOf sections fixedSections axleSections newBooking
+returns-10 c f e = rw (c .enum-told10 .given .1)
 
 returns-11 : tie.Need-returns-11
-unfolding reasonsOf placeOf wordIndex sameBytes entries entriesOf sections fixedSections axleSections newBooking protocol measurement analysis analyser counter speedTest allKeyDates allKeyBodies fuelAnalysis
-returns-11 c = rw (c .enum-told11 .given .1)
+unfolding reasonsOf placeOf wordIndex sameBytes entries entriesOf sections fixedSections axleSections newBooking
+returns-11 c f e = rw (e, c .enum-told11 .given .1)
 
 returns-12 : tie.Need-returns-12
-unfolding reasonsOf placeOf wordIndex sameBytes entries entriesOf sections fixedSections axleSections newBooking protocol measurement analysis analyser counter speedTest allKeyDates allKeyBodies fuelAnalysis
-returns-12 c = rw (c .enum-told12 .given .1)
+unfolding reasonsOf placeOf wordIndex sameBytes entries entriesOf sections fixedSections axleSections newBooking
+returns-12 c f e = rw (e, c .enum-told12 .given .1)
 
 returns-13 : tie.Need-returns-13
-unfolding reasonsOf placeOf wordIndex sameBytes entries entriesOf sections fixedSections axleSections newBooking protocol measurement analysis analyser counter speedTest allKeyDates allKeyBodies fuelAnalysis
-returns-13 c = rw (c .enum-told13 .given .1)
+unfolding reasonsOf placeOf wordIndex sameBytes entries entriesOf sections fixedSections axleSections newBooking
+returns-13 c f e = rw (e, c .enum-told13 .given .1)
 
 returns-14 : tie.Need-returns-14
-unfolding reasonsOf placeOf wordIndex sameBytes entries entriesOf sections fixedSections axleSections newBooking protocol measurement analysis analyser counter speedTest allKeyDates allKeyBodies fuelAnalysis
-returns-14 c = rw (c .enum-told14 .given .1)
+unfolding reasonsOf placeOf wordIndex sameBytes entries entriesOf sections fixedSections axleSections newBooking
+returns-14 c f e = rw (e, c .enum-told14 .given .1)
 
 returns-15 : tie.Need-returns-15
-unfolding reasonsOf placeOf wordIndex sameBytes entries entriesOf sections fixedSections axleSections newBooking protocol measurement analysis analyser counter speedTest allKeyDates allKeyBodies fuelAnalysis
-returns-15 c = rw (c .enum-told15 .given .1)
+unfolding reasonsOf placeOf wordIndex sameBytes entries entriesOf sections fixedSections axleSections newBooking
+returns-15 c f e = rw (e, c .enum-told15 .given .1)
 
 returns-16 : tie.Need-returns-16
-unfolding reasonsOf placeOf wordIndex sameBytes entries entriesOf sections fixedSections axleSections newBooking protocol measurement analysis analyser counter speedTest allKeyDates allKeyBodies fuelAnalysis
-returns-16 c = rw (c .enum-told16 .given .1)
+unfolding reasonsOf placeOf wordIndex sameBytes entries entriesOf sections fixedSections axleSections newBooking
+returns-16 c f e = rw (e, c .enum-told16 .given .1)
 
 pub condition-reasons-spec : {M : Type 1} → statement M
 condition-reasons-spec =

@@ -30,7 +30,11 @@ unfolding fileAsked ofNumber givenAsked
 returns-6 c = rw (c .match .keys6)
 
 returns-7 : tie.Need-returns-7
-returns-7 c = none-asked _ (c .match .rest)
+unfolding fileAsked ofNumber givenAsked
+returns-7 c = rw (c .match .keys7)
+
+returns-8 : tie.Need-returns-8
+returns-8 c = none-asked _ (c .match .rest)
 
 pub file-asked-spec : {M : Type 1} → statement M
-file-asked-spec = tie.close (tie.spec returns returns-2 returns-3 returns-4 returns-5 returns-6 returns-7)
+file-asked-spec = tie.close (tie.spec returns returns-2 returns-3 returns-4 returns-5 returns-6 returns-7 returns-8)

@@ -24,7 +24,11 @@ unfolding fileReasons ofNumber givenReasons placeOf wordIndex sameBytes entries 
 returns-3 c = rw (c .match .keys3)
 
 returns-4 : tie.Need-returns-4
-returns-4 c = none-reasons _ (c .match .rest)
+unfolding fileReasons ofNumber givenReasons placeOf wordIndex sameBytes entries entriesOf sections fixedSections axleSections newBooking
+returns-4 c = rw (c .match .keys4)
+
+returns-5 : tie.Need-returns-5
+returns-5 c = none-reasons _ (c .match .rest)
 
 pub file-reasons-spec : {M : Type 1} → statement M
-file-reasons-spec = tie.close (tie.spec returns returns-2 returns-3 returns-4)
+file-reasons-spec = tie.close (tie.spec returns returns-2 returns-3 returns-4 returns-5)

@@ -1,12 +1,12 @@
 -- `rules::first_broken` meets its contract: each file by its number; drift and gas have no rule. Assumes nothing.
 use mathlib.Core.Path.{sym, _∙_}
 use mathlib.Core.List.{[]}
-use Rattle.tables.specs.File.{File, ac2, acc, drift, suspension, gas}
+use Rattle.tables.specs.File.{File, ac2, acc, drift, suspension, gas, opacity}
 use Rattle.tables.proofs.Files.{of-none, of-number}
 use Rattle.tables.proofs.Values.{number-held}
 use Rattle.rules.specs.Rules.{firstBrokenAt}
 use Rattle.rules.specs.declared.RuleCheck.the-variants.{Kept}
-use Rattle.rules.proofs.Rules.{new-rules, old-rules, axle-rules, drift-rules, gas-rules, old-any}
+use Rattle.rules.proofs.Rules.{new-rules, old-rules, axle-rules, drift-rules, gas-rules, opacity-rules, old-any}
 use Rattle.rules.proofs.first_broken.Statement.{statement}
 use Rattle.rules.proofs.first_broken.Tie as tie
 
@@ -47,6 +47,11 @@ returns-5 c =
 returns-6 : tie.Need-returns-6
 returns-6 c =
     let x = c .before .before .before .before .args in
+    sym (of-number Kept (λ (f : File). firstBrokenAt f (x .axles) (x .booking .now) (x .text .now) (x .places .now)) opacity _ (c .match .keys6) ∙ opacity-rules _ _ _ _)
+
+returns-7 : tie.Need-returns-7
+returns-7 c =
+    let x = c .before .before .before .before .args in
     sym (of-none Kept (λ (f : File). firstBrokenAt f (x .axles) (x .booking .now) (x .text .now) (x .places .now)) _ (c .match .rest))
 
 pub first-broken-spec : {M : Type 1} → statement M
@@ -61,4 +66,5 @@ first-broken-spec =
     returns-3
     returns-4
     returns-5
-    returns-6)
+    returns-6
+    returns-7)

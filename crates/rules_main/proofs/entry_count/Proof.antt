@@ -4,9 +4,9 @@ use native.Mathlib.Omega.{arith}
 use borrow.Author.Needs.{needs}
 use Rattle.rules_main.proofs.entry_count.Statement.{statement}
 use Rattle.rules_main.proofs.entry_count.Tie as tie
-use Rattle.tables.specs.File.{ac2, acc, drift, suspension, gas}
+use Rattle.tables.specs.File.{ac2, acc, drift, suspension, gas, opacity}
 use Rattle.tables.proofs.Numbers.{first-pairs}
-use Rattle.tables.proofs.Values.{new-count, old-count, drift-count, suspension-count, gas-count}
+use Rattle.tables.proofs.Values.{new-count, old-count, drift-count, suspension-count, gas-count, opacity-count}
 use Rattle.rules_main.proofs.Held.{counts, no-counts}
 
 add-result : tie.Need-add-result
@@ -38,9 +38,10 @@ returns-5 : tie.Need-returns-5
 returns-5 c = counts _ _ 53 gas (c .match .keys5) (sym (gas-count _)) (rw (first-pairs .4) (omega arith))
 
 returns-6 : tie.Need-returns-6
-returns-6 c =
-    let n = c .match .rest in
-    no-counts _ _ (n .0 .0 .0 .0 .1) (n .0 .0 .0 .1) (n .0 .0 .1) (n .0 .1) (n .1)
+returns-6 c = counts _ _ 55 opacity (c .match .keys6) (sym (opacity-count _)) (rw (first-pairs .11) (omega arith))
+
+returns-7 : tie.Need-returns-7
+returns-7 c = no-counts _ _ (c .match .rest)
 
 pub entry-count-spec : {M : Type 1} → statement M
 entry-count-spec =
@@ -54,4 +55,5 @@ entry-count-spec =
     returns-3
     returns-4
     returns-5
-    returns-6)
+    returns-6
+    returns-7)

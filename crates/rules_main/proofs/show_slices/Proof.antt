@@ -25,10 +25,22 @@ loop-less c = search needs
 loop-again : tie.Need-loop-again Inv-loop μ-loop
 loop-again c = search needs
 
+show-slice-requires-2 : tie.Need-show-slice-requires-2 Inv-loop μ-loop
+show-slice-requires-2 c κs = search needs
+
 returns : tie.Need-returns Inv-loop μ-loop
 returns c = search needs
 
 pub show-slices-spec : {M : Type 1} → statement M
 show-slices-spec =
     tie.close
-    (tie.spec Inv-loop μ-loop loop-holds show-slice-requires add-file loop-less loop-again returns)
+    (tie.spec
+    Inv-loop
+    μ-loop
+    loop-holds
+    show-slice-requires
+    add-file
+    loop-less
+    loop-again
+    show-slice-requires-2
+    returns)

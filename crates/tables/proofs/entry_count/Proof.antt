@@ -1,6 +1,6 @@
 -- `tables::entry_count` meets its contract: each section is looked at in its file. Assumes nothing.
-use Rattle.tables.specs.Entries.{newBooking, oldBooking, tester, protocol, measurement, sixteen, driftAxle, suspensionAxle, analyser, counter, speedTest, allKeyDates, allKeyBodies, analysis, fuelAnalysis}
-use Rattle.tables.specs.File.{ac2, acc, drift, suspension, gas, allSections, sections, fixedSections, axleSections, axlesFrom}
+use Rattle.tables.specs.Entries.{newBooking, oldBooking, tester, protocol, measurement, sixteen, driftAxle, suspensionAxle, analyser, counter, speedTest, allKeyDates, allKeyBodies, analysis, fuelAnalysis, opacimeter, opacityTest, opacityKeys, opacityAnalysis}
+use Rattle.tables.specs.File.{ac2, acc, drift, suspension, gas, opacity, allSections, sections, fixedSections, axleSections, axlesFrom}
 use Rattle.kinds.proofs.Laws.{past}
 use Rattle.tables.proofs.Files.{table-none}
 use Rattle.tables.proofs.Sections.{at-file, entries-none, drift-entries, suspension-entries}
@@ -60,7 +60,15 @@ unfolding sections fixedSections axleSections axlesFrom newBooking oldBooking te
 returns-13 c = rw (at-file gas (c .before .match .keys5), entries-none (allSections gas) (past 2 _ (c .match6 .rest)))
 
 returns-14 : tie.Need-returns-14
-returns-14 c = rw (table-none _ (c .match .rest))
+unfolding sections fixedSections axleSections protocol measurement counter opacimeter opacityTest opacityKeys opacityAnalysis
+returns-14 c = rw (at-file opacity (c .before .match .keys6), c .match7 .keys1)
+
+returns-15 : tie.Need-returns-15
+unfolding sections fixedSections axleSections protocol measurement counter opacimeter opacityTest opacityKeys opacityAnalysis
+returns-15 c = rw (at-file opacity (c .before .match .keys6), entries-none (allSections opacity) (past 1 _ (c .match7 .rest)))
+
+returns-16 : tie.Need-returns-16
+returns-16 c = rw (table-none _ (c .match .rest))
 
 pub entry-count-spec : {M : Type 1} → statement M
-entry-count-spec = tie.close (tie.spec returns returns-2 returns-3 returns-4 returns-5 returns-6 returns-7 returns-8 returns-9 returns-10 returns-11 returns-12 returns-13 returns-14)
+entry-count-spec = tie.close (tie.spec returns returns-2 returns-3 returns-4 returns-5 returns-6 returns-7 returns-8 returns-9 returns-10 returns-11 returns-12 returns-13 returns-14 returns-15 returns-16)

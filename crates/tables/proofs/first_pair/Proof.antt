@@ -1,6 +1,6 @@
 -- `tables::first_pair` meets its contract: the numbers are those of the sections. Assumes nothing.
 use borrow.Author.Needs.{needs}
-use Rattle.tables.specs.Entries.{newBooking, oldBooking, tester, protocol, measurement, sixteen, driftAxle, suspensionAxle, analyser, counter, speedTest, allKeyDates, allKeyBodies, analysis, fuelAnalysis}
+use Rattle.tables.specs.Entries.{newBooking, oldBooking, tester, protocol, measurement, sixteen, driftAxle, suspensionAxle, analyser, counter, speedTest, allKeyDates, allKeyBodies, analysis, fuelAnalysis, opacimeter, opacityTest, opacityKeys, opacityAnalysis}
 use Rattle.tables.specs.Section.{entriesOf}
 use Rattle.tables.specs.File.{ofNumber, sections, fixedSections, axleSections, axlesFrom, axleEntries, firstPair, rooms, room, entries}
 use Rattle.tables.proofs.first_pair.Statement.{statement}
@@ -13,7 +13,7 @@ of-file-requires : tie.Need-of-file-requires
 of-file-requires c κs = search needs
 
 returns : tie.Need-returns
-unfolding ofNumber sections fixedSections axleSections axlesFrom axleEntries firstPair rooms room entries entriesOf newBooking oldBooking tester protocol measurement sixteen driftAxle suspensionAxle analyser counter speedTest allKeyDates allKeyBodies analysis fuelAnalysis
+unfolding ofNumber sections fixedSections axleSections axlesFrom axleEntries firstPair rooms room entries entriesOf newBooking oldBooking tester protocol measurement sixteen driftAxle suspensionAxle analyser counter speedTest allKeyDates allKeyBodies analysis fuelAnalysis opacimeter opacityTest opacityKeys opacityAnalysis
 returns c = c .of-file .ensures
 
 pub first-pair-spec : {M : Type 1} → statement M

@@ -4,7 +4,7 @@ use mathlib.Core.Path.{_∙_, sym}
 use mathlib.Core.List.{[]}
 use Rattle.tables.proofs.Files.{of-map}
 use Rattle.tables.specs.Row.{rowCount}
-use Rattle.tables.specs.Entries.{newBooking, oldBooking, tester, protocol, measurement, sixteen, driftAxle, suspensionAxle, analyser, counter, speedTest, allKeyDates, allKeyBodies, analysis, fuelAnalysis}
+use Rattle.tables.specs.Entries.{newBooking, oldBooking, tester, protocol, measurement, sixteen, driftAxle, suspensionAxle, analyser, counter, speedTest, allKeyDates, allKeyBodies, analysis, fuelAnalysis, opacimeter, opacityTest, opacityKeys, opacityAnalysis}
 use Rattle.tables.specs.File.{ofNumber, sections, fixedSections, axleSections, axlesFrom, axleEntries, tableOf, allSections}
 use Rattle.tables.proofs.row_count.Statement.{statement}
 use Rattle.tables.proofs.row_count.Tie as tie
@@ -16,7 +16,7 @@ of-file-requires : tie.Need-of-file-requires
 of-file-requires c κs = search needs
 
 returns : tie.Need-returns
-unfolding ofNumber sections fixedSections axleSections axlesFrom axleEntries tableOf rowCount newBooking oldBooking tester protocol measurement sixteen driftAxle suspensionAxle analyser counter speedTest allKeyDates allKeyBodies analysis fuelAnalysis
+unfolding ofNumber sections fixedSections axleSections axlesFrom axleEntries tableOf rowCount newBooking oldBooking tester protocol measurement sixteen driftAxle suspensionAxle analyser counter speedTest allKeyDates allKeyBodies analysis fuelAnalysis opacimeter opacityTest opacityKeys opacityAnalysis
 returns c = c .of-file .ensures ∙ sym (of-map rowCount [] allSections (c .before .before .args .file))
 
 pub row-count-spec : {M : Type 1} → statement M

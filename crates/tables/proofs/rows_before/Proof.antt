@@ -1,8 +1,8 @@
 -- `tables::rows_before` meets its contract: the rows of the sections before are counted in each file. Assumes nothing.
 use borrow.Author.Needs.{needs}
 use lib.Seq.{take-nil}
-use Rattle.tables.specs.Entries.{newBooking, oldBooking, tester, protocol, measurement, sixteen, driftAxle, suspensionAxle, analyser, counter, speedTest, allKeyDates, allKeyBodies, analysis, fuelAnalysis}
-use Rattle.tables.specs.File.{ac2, acc, drift, suspension, gas, allSections, sections, fixedSections, axleSections, axlesFrom, axleEntries}
+use Rattle.tables.specs.Entries.{newBooking, oldBooking, tester, protocol, measurement, sixteen, driftAxle, suspensionAxle, analyser, counter, speedTest, allKeyDates, allKeyBodies, analysis, fuelAnalysis, opacimeter, opacityTest, opacityKeys, opacityAnalysis}
+use Rattle.tables.specs.File.{ac2, acc, drift, suspension, gas, opacity, allSections, sections, fixedSections, axleSections, axlesFrom, axleEntries}
 use Rattle.tables.specs.Row.{rowCount}
 use Rattle.kinds.proofs.Laws.{past}
 use Rattle.tables.proofs.Files.{table-none}
@@ -79,8 +79,16 @@ unfolding rowCount sections fixedSections axleSections protocol measurement anal
 returns-13 c = rw (at-file gas (c .before .match .keys5), rows-all (allSections gas) (past 2 _ (c .match6 .rest)))
 
 returns-14 : tie.Need-returns-14
+unfolding rowCount sections fixedSections axleSections protocol measurement counter opacimeter opacityTest opacityKeys opacityAnalysis
+returns-14 c = rw (at-file opacity (c .before .match .keys6), c .match7 .keys1)
+
+returns-15 : tie.Need-returns-15
+unfolding rowCount sections fixedSections axleSections protocol measurement counter opacimeter opacityTest opacityKeys opacityAnalysis
+returns-15 c = rw (at-file opacity (c .before .match .keys6), rows-all (allSections opacity) (past 1 _ (c .match7 .rest)))
+
+returns-16 : tie.Need-returns-16
 unfolding rowCount
-returns-14 c = rw (table-none _ (c .match .rest), take-nil (c .before .args .section))
+returns-16 c = rw (table-none _ (c .match .rest), take-nil (c .before .args .section))
 
 pub rows-before-spec : {M : Type 1} → statement M
-rows-before-spec = tie.close (tie.spec sub-result mul-result add-result sub-result-2 mul-result-2 add-result-2 returns returns-2 returns-3 returns-4 returns-5 returns-6 returns-7 returns-8 returns-9 returns-10 returns-11 returns-12 returns-13 returns-14)
+rows-before-spec = tie.close (tie.spec sub-result mul-result add-result sub-result-2 mul-result-2 add-result-2 returns returns-2 returns-3 returns-4 returns-5 returns-6 returns-7 returns-8 returns-9 returns-10 returns-11 returns-12 returns-13 returns-14 returns-15 returns-16)

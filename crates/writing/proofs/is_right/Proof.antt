@@ -4,7 +4,7 @@ use Prim.Native.Nat.{_-_}
 use borrow.Author.Needs.{needs}
 use Rattle.writing.proofs.is_right.Statement.{statement}
 use Rattle.writing.proofs.is_right.Tie as tie
-use Rattle.tables.specs.File.{ac2, acc, drift, suspension, gas}
+use Rattle.tables.specs.File.{ac2, acc, drift, suspension, gas, opacity}
 use Rattle.writing.proofs.Quotes.{right-of, right-none}
 
 are-axles-requires : tie.Need-are-axles-requires
@@ -29,7 +29,10 @@ returns-5 : tie.Need-returns-5
 returns-5 c = sym (right-of gas _ (c .match .keys5))
 
 returns-6 : tie.Need-returns-6
-returns-6 c = sym (right-none _ _ (c .match .rest))
+returns-6 c = sym (right-of opacity _ (c .match .keys6))
+
+returns-7 : tie.Need-returns-7
+returns-7 c = sym (right-none _ _ (c .match .rest))
 
 pub is-right-spec : {M : Type 1} → statement M
 is-right-spec =
@@ -42,4 +45,5 @@ is-right-spec =
     returns-3
     returns-4
     returns-5
-    returns-6)
+    returns-6
+    returns-7)

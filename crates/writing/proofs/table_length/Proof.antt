@@ -4,7 +4,7 @@ use Prim.Native.Nat.{_-_}
 use borrow.Author.Needs.{needs}
 use Rattle.writing.proofs.table_length.Statement.{statement}
 use Rattle.writing.proofs.table_length.Tie as tie
-use Rattle.tables.specs.File.{ac2, acc, drift, suspension, gas, sections}
+use Rattle.tables.specs.File.{ac2, acc, drift, suspension, gas, opacity, sections}
 use Rattle.reading.specs.Tables.{tableLength}
 use Rattle.tables.proofs.Files.{of-none}
 use Rattle.writing.proofs.Lengths.{size-of}
@@ -37,7 +37,10 @@ returns-5 : tie.Need-returns-5
 returns-5 c = size-of gas (c .before .args .axles) (c .match .keys5)
 
 returns-6 : tie.Need-returns-6
-returns-6 c = sym (of-none 0 (λ f. tableLength (sections f (c .before .args .axles))) (c .before .args .file) (c .match .rest))
+returns-6 c = size-of opacity (c .before .args .axles) (c .match .keys6)
+
+returns-7 : tie.Need-returns-7
+returns-7 c = sym (of-none 0 (λ f. tableLength (sections f (c .before .args .axles))) (c .before .args .file) (c .match .rest))
 
 pub table-length-spec : {M : Type 1} → statement M
 table-length-spec =
@@ -52,4 +55,5 @@ table-length-spec =
     returns-3
     returns-4
     returns-5
-    returns-6)
+    returns-6
+    returns-7)

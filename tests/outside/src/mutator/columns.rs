@@ -5,7 +5,7 @@ use super::WRONG_FILES;
 use crate::generator::{self, Record, Values};
 use crate::judge::Set;
 use crate::random::Random;
-use crate::reference::tables::{table, AC2, GAS};
+use crate::reference::tables::{table, AC2, FILES, GAS, OPACITY};
 
 pub struct Column {
     pub file: u32,
@@ -26,11 +26,11 @@ pub fn column(random: &mut Random) -> Column {
         0..=34 => {}
         35..=59 => changes = change_set(random, &record, &mut set),
         60..=84 => {
-            set.slices[0] = generator::record(random).set.slices[0].clone();
+            *set.slice_mut(AC2) = generator::record(random).set.slice(AC2).to_vec();
             changes.push("another AC2");
         }
         _ => {
-            set.slices[0] = Values::by_kinds(random, AC2, 0).text(random);
+            *set.slice_mut(AC2) = Values::by_kinds(random, AC2, 0).text(random);
             changes.push("AC2 right by its kinds");
         }
     }
@@ -50,17 +50,17 @@ pub fn column(random: &mut Random) -> Column {
     }
 }
 
-/// One of the given files, gas most often; seldom one that is not given.
+/// One of the given files, gas or opacity most often; seldom one that is not given.
 fn pick_given(random: &mut Random, set: &Set) -> u32 {
     if random.chance(5) {
-        return random.between(AC2 as usize, GAS as usize) as u32;
+        return random.pick(&FILES);
     }
-    if random.chance(40) && !set.slice(GAS).is_empty() {
-        return GAS;
+    let is_given = |file: &u32| !set.slice(*file).is_empty();
+    match [GAS, OPACITY].into_iter().find(is_given) {
+        Some(file) if random.chance(40) => return file,
+        _ => {}
     }
-    let given: Vec<u32> = (AC2..=GAS)
-        .filter(|file| !set.slice(*file).is_empty())
-        .collect();
+    let given: Vec<u32> = FILES.into_iter().filter(is_given).collect();
     match given.as_slice() {
         [] => AC2,
         given => random.pick(given),
@@ -69,10 +69,10 @@ fn pick_given(random: &mut Random, set: &Set) -> u32 {
 
 /// A column's length: enough for every file, just enough for this one, one too few, or any.
 fn length(random: &mut Random, record: &Record, file: u32) -> usize {
-    let sections = table(file).sections(record.axles(file) as usize);
-    let entries: usize = sections.iter().map(|section| section.entries.len()).sum();
+    let entries = table(file).entry_count(record.axles(file) as usize);
     match random.below(20) {
-        0..=9 => 53,
+        // Opacity has the most.
+        0..=9 => table(OPACITY).most_entries(),
         10..=15 => entries,
         16 => entries - 1,
         17 => random.below(60),

@@ -1,12 +1,12 @@
 //! Changes to one file, and files to be read alone.
 
 use super::values::edge_value;
-use super::{one_of, WRONG_FILES};
+use super::{one_of, PICKED_FILES, WRONG_FILES};
 use crate::generator::{self, any_axles, join_lines, Size, Values};
 use crate::random::Random;
 use crate::reference::kinds::Kind;
 use crate::reference::lines::{LONGEST_FILE, LONGEST_LINE};
-use crate::reference::tables::table;
+use crate::reference::tables::{table, FILES};
 
 type Lines = Vec<Vec<u8>>;
 
@@ -108,7 +108,7 @@ const CHANGES: &[(&str, usize, Change)] = &[
     ("long file", 2, Bytes(long_file)),
     ("line end damaged", 4, Bytes(damage_line_end)),
     ("line dropped", 2, ByLines(drop_line)),
-    ("entries dropped", 3, ByLines(drop_entries)),
+    ("entries dropped", 8, ByLines(drop_entries)),
     ("line doubled", 3, ByLines(double_line)),
     ("line moved", 3, ByLines(move_line)),
     ("lines swapped", 2, ByLines(swap_lines)),
@@ -122,6 +122,11 @@ const CHANGES: &[(&str, usize, Change)] = &[
     ("entry before any heading", 2, ByLines(entry_before_heading)),
     ("name changed", 4, ByLines(change_name)),
     ("values at their edges", 16, ByLines(values_at_edges)),
+    (
+        "value of a single entry's kind",
+        8,
+        ByLines(value_of_single_kind),
+    ),
     ("# before a value", 6, ByLines(change_hash)),
     ("empty filled", 6, ByLines(fill_empty)),
     ("filled emptied", 10, ByLines(empty_filled)),
@@ -129,6 +134,9 @@ const CHANGES: &[(&str, usize, Change)] = &[
     ("long line", 4, ByLines(long_line)),
     ("line form", 5, ByLines(line_form)),
 ];
+
+/// The changes to single entries: absent, of another kind or empty.
+pub const CHANGES_OF_ENTRIES: [ChangeLines; 3] = [drop_entries, values_at_edges, empty_filled];
 
 /// Changes one file once; the name of the change, or None where it did not apply.
 pub fn change_file(random: &mut Random, file: u32, text: &mut Vec<u8>) -> Option<&'static str> {
@@ -297,7 +305,8 @@ fn change_heading(random: &mut Random, _file: u32, lines: &mut Lines) -> Option<
             "[DatiLibrettoVeicolo]|[Deriva]|[DerivaAsse_1]|[DerivaAsse_0]|[DerivaAsse_01]|\
              [DerivaAsse_10]|[DerivaAsse_]|[DerivaAsse_a]|[Sospensioni]|[SospensioniAsse_1]|\
              [SospensioniAsse_0]|[SospensioniAsse_10]|[AnalisiGas]|[GasAnalysis]|\
-             [AnalisiGasAlimentazione_1]|[AnalisiGasAlimentazione_2]|[]|[a=b]|[|[x|[x] |]",
+             [AnalisiGasAlimentazione_1]|[AnalisiGasAlimentazione_2]|[AnalisiOpacita]|\
+             [AnalisiOpacita_1]|[OpacityAnalysis]|[]|[a=b]|[|[x|[x] |]",
         ),
     };
     Some(())
@@ -384,7 +393,8 @@ fn change_name(random: &mut Random, _file: u32, lines: &mut Lines) -> Option<()>
             random,
             "Targa|TargaNominale|DataScadSospensioni|DataScadenza|IDChiaveTRS|IDChiaveRS|Marca|\
              Note|Deriva|Aderenza%Sx|Differenza|COMin|LambdaMin|Alimentazione_2|\
-             Alimentazione_1|TipoVeicolo",
+             Alimentazione_1|TipoVeicolo|NumVersioneSoftwareContagiri|NumVersSoftwareContagiri|\
+             NumGiriMotoreMin|ValoreK0|ValoreK9|OpacitaMedia",
         ),
     };
     lines[at] = [&name[..], rest].concat();
@@ -401,10 +411,26 @@ fn values_at_edges(random: &mut Random, file: u32, lines: &mut Lines) -> Option<
     Some(())
 }
 
-/// `#` put before a value, in gas most often the idle speed, or taken away; put twice; alone.
+/// A value at an edge of a kind that a single entry has, so that its edges are seldom met otherwise.
+fn value_of_single_kind(random: &mut Random, file: u32, lines: &mut Lines) -> Option<()> {
+    let is_single = |kind: Kind| {
+        matches!(
+            kind,
+            Kind::FirstRegistration | Kind::Axles | Kind::Year | Kind::Plate | Kind::Temperature
+        )
+    };
+    let at = pick_line(random, lines, |line| {
+        kind_of(file, line).is_some_and(is_single)
+    })?;
+    let kind = kind_of(file, &lines[at])?;
+    lines[at] = with_value(&lines[at], &edge_value(random, kind));
+    Some(())
+}
+
+/// `#` put before a value, most often one that may be entered by hand, or taken away; put twice; alone.
 fn change_hash(random: &mut Random, file: u32, lines: &mut Lines) -> Option<()> {
-    let speed = |line: &[u8]| kind_of(file, line) == Some(Kind::Revs);
-    let at = match pick_line(random, lines, speed) {
+    let by_hand = |line: &[u8]| kind_of(file, line).is_some_and(Kind::may_be_by_hand);
+    let at = match pick_line(random, lines, by_hand) {
         Some(at) if random.chance(60) => at,
         _ => pick_entry(random, lines)?,
     };
@@ -504,7 +530,7 @@ pub struct Alone {
 
 /// A file right by its kinds alone, changed or not.
 pub fn alone(random: &mut Random) -> Alone {
-    let mut file = random.pick(&[1, 2, 3, 4, 4, 5, 5, 5]);
+    let mut file = random.pick(PICKED_FILES);
     let axles = any_axles(random, file);
     let values = Values::by_kinds(random, file, axles);
     let (mut text, pairs) = values.text_and_places(random);
@@ -526,7 +552,7 @@ pub fn alone(random: &mut Random) -> Alone {
             changes.push("wrong file number");
         }
         29..=31 => {
-            file = random.between(1, 5) as u32;
+            file = random.pick(&FILES);
             changes.push("another file number");
         }
         32..=33 => {

@@ -10,9 +10,16 @@ pub mod values;
 pub mod writings;
 
 use crate::random::Random;
+use crate::reference::tables::{AC2, ACC, DRIFT, GAS, OPACITY, SUSPENSION};
+use crate::reference::PLACES;
 
-/// Numbers that are no file's.
-const WRONG_FILES: &[u32] = &[0, 6, 7, 8, 200, 256, 65_537, u32::MAX - 1, u32::MAX];
+/// Numbers that are no file's, or the identification answer's, which has no table.
+const WRONG_FILES: &[u32] = &[0, 6, 8, 9, 200, 256, 65_537, u32::MAX - 1, u32::MAX];
+
+/// Files to be read alone and written: those with many entries more often.
+const PICKED_FILES: &[u32] = &[
+    AC2, ACC, DRIFT, SUSPENSION, SUSPENSION, GAS, GAS, GAS, OPACITY, OPACITY, OPACITY,
+];
 
 /// One of the texts that `|` separates.
 fn one_of(random: &mut Random, texts: &str) -> Vec<u8> {
@@ -24,11 +31,11 @@ fn one_of(random: &mut Random, texts: &str) -> Vec<u8> {
 pub fn places_length(random: &mut Random) -> usize {
     match random.below(100) {
         0 => 0,
-        1 => random.below(277),
-        2..=3 => 277,
-        4..=6 => 279,
-        7..=15 => 300,
+        1 => random.below(PLACES - 1),
+        2..=3 => PLACES - 1,
+        4..=6 => PLACES + 1,
+        7..=15 => PLACES + 22,
         16 => 1000,
-        _ => 278,
+        _ => PLACES,
     }
 }

@@ -1,17 +1,25 @@
 //! Changes to a set.
 
-use super::files::{change_file, lines_of, name_of, pick_line, set_value, value_of, with_value};
+use super::files::{
+    change_file, lines_of, name_of, pick_line, set_value, value_of, with_value, CHANGES_OF_ENTRIES,
+};
 use super::one_of;
+use crate::entries::is_conditional;
 use crate::generator::{self, identification, join_lines, printable, Record, Size, Values};
 use crate::judge::Set;
 use crate::random::Random;
 use crate::reference::lines::LONGEST_FILE;
-use crate::reference::tables::{table, AC2, ACC, DRIFT, GAS, IDENTIFICATION, SUSPENSION};
+use crate::reference::tables::{
+    table, AC2, ACC, DRIFT, FILES, GAS, IDENTIFICATION, OPACITY, SUSPENSION,
+};
 
 type Change = fn(&mut Random, &Record, &mut Set);
 
-/// The changes to a set other than those to one file, with names and weights.
-const CHANGES: &[(&str, usize, Change)] = &[
+/// A change's name, weight and function.
+type Weighted = (&'static str, usize, Change);
+
+/// The changes to a set other than those to one file.
+const CHANGES: &[Weighted] = &[
     ("stem", 4, change_stem),
     ("slice dropped", 5, drop_slice),
     ("slice added", 8, add_slice),
@@ -21,10 +29,26 @@ const CHANGES: &[(&str, usize, Change)] = &[
     ("ACC entries", 20, change_acc),
     ("old fuel", 12, change_old_fuel),
     ("differences", 8, change_differences),
-    ("axle entry emptied", 8, empty_axle),
-    ("gas link or version", 8, change_gas),
-    ("gas entry emptied", 14, empty_gas),
+    ("axle entry emptied or dropped", 12, change_axle),
+    ("gas link or version", 8, |random, _, set| {
+        change_device(random, GAS, set)
+    }),
+    ("gas entry emptied", 14, |random, _, set| {
+        empty_conditional(random, GAS, set)
+    }),
     ("identification", 26, change_identification),
+    ("opacity given or not", 6, give_opacity),
+];
+
+/// Those to a set with opacity besides, which is seldom given and has the most entries.
+const CHANGES_WITH_OPACITY: &[Weighted] = &[
+    ("opacity entries", 60, change_opacity_entries),
+    ("opacity link or version", 12, |random, _, set| {
+        change_device(random, OPACITY, set)
+    }),
+    ("opacity entry emptied", 24, |random, _, set| {
+        empty_conditional(random, OPACITY, set)
+    }),
 ];
 
 /// Changes a set up to four times; the names of the changes.
@@ -35,7 +59,7 @@ pub fn change_set(random: &mut Random, record: &Record, set: &mut Set) -> Vec<&'
     for _ in 0..40 {
         let before = set.clone();
         let name = match one_file {
-            Some(file) => change_file(random, file, &mut set.slices[file as usize - 1]),
+            Some(file) => change_file(random, file, set.slice_mut(file)),
             None => change_once(random, record, set),
         };
         if let (Some(name), true) = (name, *set != before) {
@@ -51,11 +75,16 @@ pub fn change_set(random: &mut Random, record: &Record, set: &mut Set) -> Vec<&'
 fn change_once(random: &mut Random, record: &Record, set: &mut Set) -> Option<&'static str> {
     if random.chance(50) {
         let file = pick_file(random, set);
-        return change_file(random, file, &mut set.slices[file as usize - 1]);
+        return change_file(random, file, set.slice_mut(file));
     }
-    let all: usize = CHANGES.iter().map(|(_, weight, _)| weight).sum();
+    let with_opacity: &[Weighted] = match set.slice(OPACITY) {
+        [] => &[],
+        _ => CHANGES_WITH_OPACITY,
+    };
+    let changes = CHANGES.iter().chain(with_opacity);
+    let all: usize = changes.clone().map(|(_, weight, _)| weight).sum();
     let mut at = random.below(all);
-    for (name, weight, change) in CHANGES {
+    for (name, weight, change) in changes {
         if at < *weight {
             change(random, record, set);
             return Some(name);
@@ -65,16 +94,20 @@ fn change_once(random: &mut Random, record: &Record, set: &mut Set) -> Option<&'
     unreachable!("the weights sum to {all}")
 }
 
-/// One of the files given, gas more often: it has the most entries.
+/// One of the files given; gas more often, which has many entries, and opacity, which besides is seldom given.
 fn pick_file(random: &mut Random, set: &Set) -> u32 {
-    let mut given: Vec<u32> = (AC2..=GAS).filter(|f| !set.slice(*f).is_empty()).collect();
-    if given.contains(&GAS) {
-        given.extend([GAS, GAS]);
-    }
-    if given.is_empty() {
-        AC2
-    } else {
-        random.pick(&given)
+    let weight = |file: u32| match file {
+        GAS => 3,
+        OPACITY => 9,
+        _ => 1,
+    };
+    let given = FILES
+        .into_iter()
+        .filter(|file| !set.slice(*file).is_empty());
+    let weighted: Vec<u32> = given.flat_map(|file| vec![file; weight(file)]).collect();
+    match weighted.as_slice() {
+        [] => AC2,
+        weighted => random.pick(weighted),
     }
 }
 
@@ -103,7 +136,7 @@ fn change_stem(random: &mut Random, _record: &Record, set: &mut Set) {
 /// The numbers of the slices that are given, or that are not.
 fn slices_where(set: &Set, given: bool) -> Vec<usize> {
     let fits = |at: &usize| set.slices[*at].is_empty() != given;
-    (0..6).filter(fits).collect()
+    (0..set.slices.len()).filter(fits).collect()
 }
 
 fn drop_slice(random: &mut Random, _record: &Record, set: &mut Set) {
@@ -134,8 +167,8 @@ fn add_slice(random: &mut Random, _record: &Record, set: &mut Set) {
 }
 
 fn swap_slices(random: &mut Random, _record: &Record, set: &mut Set) {
-    let (a, b) = (random.below(6), random.below(6));
-    set.slices.swap(a, b);
+    let count = set.slices.len();
+    set.slices.swap(random.below(count), random.below(count));
 }
 
 /// ACC given with a category L, whatever the stem's first digit.
@@ -144,7 +177,7 @@ fn acc_with_l(random: &mut Random, record: &Record, set: &mut Set) {
     if !ac2.get("CategoriaInternazionale").starts_with(b"L") || set.stem.len() < 3 {
         return;
     }
-    set.slices[ACC as usize - 1] = match random.below(3) {
+    *set.slice_mut(ACC) = match random.below(3) {
         0 => vec![b'x'; LONGEST_FILE + 1],
         1 => b"x".to_vec(),
         _ => Values::by_kinds(random, ACC, 0).text(random),
@@ -167,7 +200,7 @@ fn change_ac2(random: &mut Random, _record: &Record, set: &mut Set) {
         _ if random.chance(15) => Vec::new(),
         _ => generator::value(random, entry.kind, Size::Mixed),
     };
-    set_value(&mut set.slices[0], &entry.name, &value);
+    set_value(set.slice_mut(AC2), &entry.name, &value);
 }
 
 /// One to three of ACC's entries with values of the booking rules.
@@ -178,7 +211,7 @@ fn change_acc(random: &mut Random, record: &Record, set: &mut Set) {
     }
     if set.slice(ACC).is_empty() {
         let fuel = generator::old_fuel(ac2).unwrap_or_default();
-        set.slices[ACC as usize - 1] = generator::acc(random, ac2, &fuel).text(random);
+        *set.slice_mut(ACC) = generator::acc(random, ac2, &fuel).text(random);
     }
     for _ in 0..random.pick(&[1, 1, 1, 2, 3]) {
         let (name, texts) = match random.below(10) {
@@ -189,7 +222,7 @@ fn change_acc(random: &mut Random, record: &Record, set: &mut Set) {
             8 => ("FrenoStazionamento", "MANO|PEDALE|ELETTRICO|NON PRESENTE"),
             _ => ("NumAssiStazionamento", "0|1|2|3|4|5|6|7|8|9"),
         };
-        set_value(&mut set.slices[1], name, &one_of(random, texts));
+        set_value(set.slice_mut(ACC), name, &one_of(random, texts));
     }
 }
 
@@ -217,8 +250,8 @@ fn change_old_fuel(random: &mut Random, record: &Record, set: &mut Set) {
         ac2.set("CorrettorePressione", one_of(random, "S|N"));
     }
     let acc = generator::acc(random, &ac2, &fuel);
-    set.slices[AC2 as usize - 1] = ac2.text(random);
-    set.slices[ACC as usize - 1] = acc.text(random);
+    *set.slice_mut(AC2) = ac2.text(random);
+    *set.slice_mut(ACC) = acc.text(random);
 }
 
 /// AC2 as that of a category M or N with BENZINA, any directive and a day at a limit.
@@ -256,7 +289,7 @@ fn make_petrol_car(random: &mut Random, ac2: &mut Values) {
 
 /// One to three of suspension's values Differenza% or grips changed.
 fn change_differences(random: &mut Random, _record: &Record, set: &mut Set) {
-    let text = &mut set.slices[SUSPENSION as usize - 1];
+    let text = set.slice_mut(SUSPENSION);
     let mut lines = lines_of(text);
     for _ in 0..random.pick(&[1, 1, 2, 3]) {
         let name = one_of(
@@ -283,23 +316,48 @@ fn change_differences(random: &mut Random, _record: &Record, set: &mut Set) {
     *text = join_lines(&lines);
 }
 
-/// An entry of one of the axles of drift or suspension emptied.
-fn empty_axle(random: &mut Random, _record: &Record, set: &mut Set) {
+/// An entry of one of the axles of drift or suspension emptied or dropped.
+fn change_axle(random: &mut Random, _record: &Record, set: &mut Set) {
     let file = random.pick(&[DRIFT, SUSPENSION, SUSPENSION]);
     let name = match file {
         DRIFT => b"Deriva=".to_vec(),
         _ => one_of(random, "Aderenza%Sx=|Aderenza%Dx=|Differenza%="),
     };
-    let text = &mut set.slices[file as usize - 1];
+    let text = set.slice_mut(file);
     let mut lines = lines_of(text);
     if let Some(at) = pick_line(random, &lines, |line| line.starts_with(&name)) {
-        lines[at] = name;
+        if random.chance(50) {
+            lines[at] = name;
+        } else {
+            lines.remove(at);
+        }
         *text = join_lines(&lines);
     }
 }
 
-/// Link or version of one of the devices changed, the rest as it was.
-fn change_gas(random: &mut Random, _record: &Record, set: &mut Set) {
+/// Opacity dropped, or a lawful one added, whatever fuel and category.
+fn give_opacity(random: &mut Random, _record: &Record, set: &mut Set) {
+    let size = Size::any(random);
+    let opacity = set.slice_mut(OPACITY);
+    if opacity.is_empty() {
+        *opacity = generator::opacity(random, size).text(random);
+    } else {
+        opacity.clear();
+    }
+}
+
+/// Some of opacity's many entries absent, of another kind or empty.
+fn change_opacity_entries(random: &mut Random, _record: &Record, set: &mut Set) {
+    let text = set.slice_mut(OPACITY);
+    let mut lines = lines_of(text);
+    let change = random.pick(&CHANGES_OF_ENTRIES);
+    if change(random, OPACITY, &mut lines).is_some() {
+        *text = join_lines(&lines);
+    }
+}
+
+/// Link or version of one of the devices of a file changed, the rest as it was.
+fn change_device(random: &mut Random, file: u32, set: &mut Set) {
     let (name, value) = match random.below(5) {
         0 => (
             "TipoCollegamento",
@@ -316,20 +374,16 @@ fn change_gas(random: &mut Random, _record: &Record, set: &mut Set) {
             generator::version(random),
         ),
     };
-    set_value(&mut set.slices[GAS as usize - 1], name, &value);
+    set_value(set.slice_mut(file), name, &value);
 }
 
-/// One of the filled entries that are not always due emptied.
-fn empty_gas(random: &mut Random, _record: &Record, set: &mut Set) {
-    let text = &mut set.slices[GAS as usize - 1];
+/// One of the filled entries of a file that are not always due emptied.
+fn empty_conditional(random: &mut Random, file: u32, set: &mut Set) {
+    let text = set.slice_mut(file);
     let mut lines = lines_of(text);
     let found = pick_line(random, &lines, |line| {
-        let (name, value) = (name_of(line), value_of(line));
-        let conditional = name.ends_with(b"RS")
-            || name.ends_with(b"ProvaVelocita")
-            || name == b"NumVersioneProtocolloContagiri"
-            || name == b"COMinAcc";
-        conditional && !value.is_empty()
+        let name = String::from_utf8_lossy(name_of(line));
+        is_conditional(file, &name) && !value_of(line).is_empty()
     });
     if let Some(at) = found {
         lines[at] = with_value(&lines[at], b"");
@@ -351,7 +405,7 @@ fn change_identification(random: &mut Random, record: &Record, set: &mut Set) {
         change_frame(random, &mut answer);
         answer
     };
-    set.slices[IDENTIFICATION as usize - 1] = answer;
+    *set.slice_mut(IDENTIFICATION) = answer;
 }
 
 fn change_fields(random: &mut Random, fields: &mut Vec<Vec<u8>>) {

@@ -19,6 +19,18 @@ pub fn edge_value(random: &mut Random, kind: Kind) -> Vec<u8> {
             let length = random.pick(&[1, width - 1, width, width + 1]);
             return printable(random, length);
         }
+        Kind::Plate => {
+            let length = random.pick(&[1, 3, 4, 9, 10, 11]);
+            return printable(random, length);
+        }
+        Kind::NumberByHand(width) => {
+            let number = edge_value(random, Kind::Number(width));
+            return edge_hash(random, &number);
+        }
+        Kind::DecimalByHand { decimals, width } => {
+            let decimal = edge_value(random, Kind::Decimal { decimals, width });
+            return edge_hash(random, &decimal);
+        }
         Kind::Number(width) => {
             let mut value = match random.below(3) {
                 0 => random.digits(width),
@@ -66,6 +78,7 @@ pub fn edge_value(random: &mut Random, kind: Kind) -> Vec<u8> {
             "#850|850|#|##850|12345|#12345|123456|#123456|850#|0|#0|# 850|-850|8.5|00850|\
              #00850|8#5"
         }
+        Kind::Temperature => "-100|5.5|+5|-#9|-0|-05|007|#-99|1000|-|#|##5|#-100|--5|5-|#999",
         Kind::Axles => {
             "SSSSSSSSS|NNNNNNNNN|SNSNSNSNS|SSSSSSSS|SSSSSSSSSS|sSSSSSSSS|SSSSSSSSn|SSSS SSSS|\
              SSSSXSSSS|S|N"
@@ -73,6 +86,17 @@ pub fn edge_value(random: &mut Random, kind: Kind) -> Vec<u8> {
         Kind::Year => "1986|986|19860|198x|0000|9999| 986|1900",
     };
     one_of(random, texts)
+}
+
+/// `#` before a value, once, twice or not; behind it; alone.
+fn edge_hash(random: &mut Random, value: &[u8]) -> Vec<u8> {
+    match random.below(8) {
+        0..=2 => [b"#", value].concat(),
+        3 => [b"##", value].concat(),
+        4 => [value, b"#"].concat(),
+        5 => b"#".to_vec(),
+        _ => value.to_vec(),
+    }
 }
 
 /// Another byte in place of a digit, also the neighbours of 0 and 9.
@@ -94,7 +118,7 @@ fn edge_word(random: &mut Random, words: &[&str]) -> Vec<u8> {
             random,
             "M1G|N1G|M0|M4|N0|N4|O0|O5|L0e|L8e|L1|L1E|S|N|SI|DIR|RETE|RS SENZA ESITO|\
              RS CON ESITO|RS|ESTERNO|INTEGRATO|NESSUNA|RT1902|91/441/CEE|98/69/CE|MANO|\
-             NON PRESENTE|LEGGERO|PESANTE|MOTOVEICOLO",
+             NON PRESENTE|LEGGERO|PESANTE|MOTOVEICOLO|R|I|RI",
         ),
     }
 }

@@ -1,11 +1,11 @@
 //! Writings, changed or not.
 
 use super::values::edge_value;
-use super::{places_length, WRONG_FILES};
+use super::{places_length, PICKED_FILES, WRONG_FILES};
 use crate::generator::{any_axles, Values};
 use crate::random::Random;
 use crate::reference::kinds::Kind;
-use crate::reference::tables::table;
+use crate::reference::tables::{table, FILES};
 
 /// A writing; its values, if nothing was changed.
 pub struct Writing {
@@ -20,7 +20,7 @@ pub struct Writing {
 
 /// A writing of values that are right by their kinds, changed or not.
 pub fn writing(random: &mut Random) -> Writing {
-    let mut file = random.pick(&[1, 2, 3, 4, 4, 5, 5, 5]);
+    let mut file = random.pick(PICKED_FILES);
     let axles = any_axles(random, file);
     let values = Values::by_kinds(random, file, axles);
     let (mut text, mut pairs) = if random.chance(50) {
@@ -44,7 +44,7 @@ pub fn writing(random: &mut Random) -> Writing {
         changes.push("file or axles");
         match random.below(4) {
             0 => file = random.pick(WRONG_FILES),
-            1 => file = random.between(1, 5) as u32,
+            1 => file = random.pick(&FILES),
             2 => axles = random.pick(&[0, 1, 10, 11, 256, 65_537, u32::MAX]),
             _ => axles = random.between(0, 10) as u32,
         }

@@ -1,7 +1,7 @@
-//! 01, Due entries.
+//! 01, Due entries, and those of opacity (02, 2/14).
 
 use super::files::FileRead;
-use super::tables::{AC2, ACC, GAS};
+use super::tables::{AC2, ACC, GAS, OPACITY};
 use super::Refusal;
 
 /// What 01 asks of an entry.
@@ -28,6 +28,25 @@ pub fn category(ac2: &FileRead) -> String {
 /// 01, Bookings: "all L".
 pub fn is_l(ac2: &FileRead) -> bool {
     category(ac2).starts_with('L')
+}
+
+/// 01, Due entries: "with M or N".
+fn is_m_or_n(ac2: &FileRead) -> bool {
+    category(ac2).starts_with(['M', 'N'])
+}
+
+/// 01, Due entries: "Gas is given exactly when AC2 has BENZINA (ours)".
+pub fn is_gas_due(ac2: &FileRead) -> bool {
+    has_fuel(ac2, "BENZINA")
+}
+
+/// 02, 2/14: "The file is given exactly when AC2 has DIESEL with an M or N category."
+pub fn is_opacity_due(ac2: &FileRead) -> bool {
+    has_fuel(ac2, "DIESEL") && is_m_or_n(ac2)
+}
+
+fn has_fuel(ac2: &FileRead, fuel: &str) -> bool {
+    ac2.value("Alimentazione_1") == fuel.as_bytes()
 }
 
 fn is_moped(ac2: &FileRead) -> bool {
@@ -77,6 +96,7 @@ pub fn due(name: &str, read: &FileRead, ac2: &FileRead) -> Due {
         AC2 => due_in_ac2(name, ac2),
         ACC if name == "Alimentazione_1" => Due::Free,
         GAS => due_in_gas(name, read, ac2),
+        OPACITY => due_in_opacity(name, read),
         _ => Due::Filled,
     }
 }
@@ -84,15 +104,12 @@ pub fn due(name: &str, read: &FileRead, ac2: &FileRead) -> Due {
 /// 01, Due entries: CodiceCIC, Alimentazione_1, Turbo, CorrettorePressione, directives.
 fn due_in_ac2(name: &str, ac2: &FileRead) -> Due {
     let category = category(ac2);
-    let petrol = ac2.value("Alimentazione_1") == b"BENZINA";
-    let diesel = ac2.value("Alimentazione_1") == b"DIESEL";
+    let petrol = has_fuel(ac2, "BENZINA");
     match name {
         "CodiceCIC" => filled_when(is_moped(ac2) && ac2.value("TargaNominale").len() == 6),
         "Alimentazione_1" => filled_when(!category.starts_with('O')),
-        "Turbo" | "CorrettorePressione" => filled_when(diesel),
-        "DirettivaEmissioniGasBenzinaAuto" => {
-            filled_when(petrol && category.starts_with(['M', 'N']))
-        }
+        "Turbo" | "CorrettorePressione" => filled_when(has_fuel(ac2, "DIESEL")),
+        "DirettivaEmissioniGasBenzinaAuto" => filled_when(petrol && is_m_or_n(ac2)),
         "DirettivaEmissioniGasMotociclo" => {
             filled_when(petrol && matches!(category.as_str(), "L3e" | "L4e" | "L5e" | "L7e"))
         }
@@ -100,22 +117,15 @@ fn due_in_ac2(name: &str, ac2: &FileRead) -> Due {
     }
 }
 
-/// 01, Due entries: COMinAcc, Contagiri, ProvaVelocita, "Key ID, date, module, exponent:
-/// version 210; checksum: version 200. The version is the device's own number, and besides
-/// it T nothing needs RS SENZA ESITO, Contagiri ESTERNO, ProvaVelocita P."
+/// 01, Due entries: COMinAcc and, by condition P and the bench's version, what ends in ProvaVelocita or ProvaVelocitaRS.
 fn due_in_gas(name: &str, gas: &FileRead, ac2: &FileRead) -> Due {
-    let serial = gas.value("TipoCollegamento") == b"RS SENZA ESITO";
-    let external = gas.value("TipoCollegamentoContagiri") == b"ESTERNO";
     let p = condition_p(ac2);
-    let analyser = gas.value("NumVersioneProtocollo");
-    let counter = gas.value("NumVersioneProtocolloContagiri");
     let bench = gas.value("NumVersioneProtocolloProvaVelocita");
     match name {
         "COMinAcc" => {
             let directive = ac2.value("DirettivaEmissioniGasBenzinaAuto");
             filled_when(directive == b"91/441/CEE" || directive == b"98/69/CE")
         }
-        "NumVersioneProtocolloContagiri" => filled_when(external),
         "MarcaProvaVelocita"
         | "TipoProvaVelocita"
         | "NumOmologaProvaVelocita"
@@ -123,20 +133,44 @@ fn due_in_gas(name: &str, gas: &FileRead, ac2: &FileRead) -> Due {
         | "NumVersioneSoftwareProvaVelocita"
         | "NumVersioneProtocolloProvaVelocita"
         | "DataScadenzaProvaVelocita" => filled_when(p),
-        "IDChiaveRS" | "DataRegChiaveRS" | "ModuloChiaveRS" | "EsponenteChiaveRS" => {
-            filled_when(serial && analyser == b"210")
-        }
-        "ChecksumRS" => filled_when(serial && analyser == b"200"),
-        "IDChiaveContagiriRS"
-        | "DataRegChiaveContagiriRS"
-        | "ModuloChiaveContagiriRS"
-        | "EsponenteChiaveContagiriRS" => filled_when(external && counter == b"210"),
-        "ChecksumContagiriRS" => filled_when(external && counter == b"200"),
         "IDChiaveProvaVelocitaRS"
         | "DataRegChiaveProvaVelocitaRS"
         | "ModuloChiaveProvaVelocitaRS"
         | "EsponenteChiaveProvaVelocitaRS" => filled_when(p && bench == b"210"),
         "ChecksumProvaVelocitaRS" => filled_when(p && bench == b"200"),
+        _ => due_by_links(name, gas),
+    }
+}
+
+/// 02, 2/14: "An entry whose printed condition hangs on data outside the set may be filled or empty"; the others by the
+/// links printed in 001, 3.3.3.7.
+fn due_in_opacity(name: &str, opacity: &FileRead) -> Due {
+    match name {
+        "TempMinOlioMotore" | "ValoreK4" | "ValoreK5" | "ValoreK6" | "ValoreK7" | "ValoreK8"
+        | "OpacitaMedia" => Due::Free,
+        _ => due_by_links(name, opacity),
+    }
+}
+
+/// What hangs on the links and versions of the file's own device and of its rev counter, alike in gas and in opacity.
+/// 01, Due entries: "Key ID, date, module, exponent: version 210; checksum: version 200. The version is the device's own
+/// number, and besides it T nothing needs RS SENZA ESITO, Contagiri ESTERNO".
+fn due_by_links(name: &str, read: &FileRead) -> Due {
+    let serial = read.value("TipoCollegamento") == b"RS SENZA ESITO";
+    let external = read.value("TipoCollegamentoContagiri") == b"ESTERNO";
+    let own = read.value("NumVersioneProtocollo");
+    let counter = read.value("NumVersioneProtocolloContagiri");
+    match name {
+        "NumVersioneProtocolloContagiri" => filled_when(external),
+        "IDChiaveRS" | "DataRegChiaveRS" | "ModuloChiaveRS" | "EsponenteChiaveRS" => {
+            filled_when(serial && own == b"210")
+        }
+        "ChecksumRS" => filled_when(serial && own == b"200"),
+        "IDChiaveContagiriRS"
+        | "DataRegChiaveContagiriRS"
+        | "ModuloChiaveContagiriRS"
+        | "EsponenteChiaveContagiriRS" => filled_when(external && counter == b"210"),
+        "ChecksumContagiriRS" => filled_when(external && counter == b"200"),
         _ => Due::Filled,
     }
 }

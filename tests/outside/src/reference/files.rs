@@ -71,7 +71,7 @@ impl<'a> FileRead<'a> {
     }
 
     /// 01, Judging: "for each entry start and length of its value in its file, entries in
-    /// the order above, axles by number, files' first pairs at 0, 12, 18, 43, 86".
+    /// the order above, axles by number".
     pub fn fill_places(&self, places: &mut [u32]) {
         let pairs = self.table.first_pair..;
         for (pair, (_, found)) in pairs.zip(self.entries()) {

@@ -1,14 +1,14 @@
 //! 01, Judging: a whole set, and one file alone.
 
 use super::bookings::{judge_ac2, judge_acc};
-use super::due::{due_column, is_l, judge_due};
+use super::due::{due_column, is_gas_due, is_l, is_opacity_due, judge_due};
 use super::files::{read_file, FileRead};
 use super::identification::judge_identification;
 use super::kinds::{number, revs};
-use super::tables::{AC2, ACC, DRIFT, GAS, IDENTIFICATION, SUSPENSION};
+use super::tables::{AC2, ACC, DRIFT, FILES, GAS, IDENTIFICATION, OPACITY, SUSPENSION};
 use super::{Acceptance, FileAcceptance, Refusal, PLACES};
 
-/// 01: "A set is a stem (the files' common name) and six lent byte slices".
+/// 01: "A set is a stem (the files' common name) and six lent byte slices"; 02, 2/14: "Add slice 7, the opacity file".
 #[derive(Clone, Copy)]
 pub struct Slices<'a> {
     pub stem: &'a [u8],
@@ -18,6 +18,7 @@ pub struct Slices<'a> {
     pub suspension: &'a [u8],
     pub gas: &'a [u8],
     pub identification: &'a [u8],
+    pub opacity: &'a [u8],
 }
 
 /// The files of an accepted set that were read.
@@ -27,10 +28,11 @@ struct SetRead<'a> {
     drift: Option<FileRead<'a>>,
     suspension: Option<FileRead<'a>>,
     gas: Option<FileRead<'a>>,
+    opacity: Option<FileRead<'a>>,
 }
 
 /// 01, Judging: "The answer is acceptance .. or a refusal"; the places are filled. "Order:
-/// 1, 2, then slices 1 to 6."
+/// 1, 2, then slices 1 to 6"; 02, 2/14: opacity "after slice 6".
 pub fn judge_set(set: Slices, places: &mut [u32]) -> Result<Acceptance, Refusal> {
     clear_places(places)?;
     let read = read_set(set)?;
@@ -40,6 +42,7 @@ pub fn judge_set(set: Slices, places: &mut [u32]) -> Result<Acceptance, Refusal>
         read.drift.as_ref(),
         read.suspension.as_ref(),
         read.gas.as_ref(),
+        read.opacity.as_ref(),
     ];
     for file in files.into_iter().flatten() {
         file.fill_places(places);
@@ -52,11 +55,12 @@ pub fn judge_set(set: Slices, places: &mut [u32]) -> Result<Acceptance, Refusal>
         drift_mark: mark(&read.drift),
         suspension_mark: mark(&read.suspension),
         gas_mark: mark(&read.gas),
+        opacity_mark: mark(&read.opacity),
         by_hand: read.gas.as_ref().is_some_and(speed_by_hand),
     })
 }
 
-/// 02, 1/14: whether `#` stood before gas's idle speed; no other file has the mark.
+/// 02, 1/14: whether `#` stood before gas's idle speed; 02, 2/14: "the mark of 1/14 stays with gas alone".
 fn speed_by_hand(read: &FileRead) -> bool {
     read.table.file == GAS && revs(read.value("NumGiriMotoreMin")).is_some_and(|revs| revs.by_hand)
 }
@@ -81,12 +85,14 @@ fn read_set(set: Slices) -> Result<SetRead, Refusal> {
     let suspension = judge_slice_4(set.suspension, &ac2)?;
     let gas = judge_slice_5(set.gas, &ac2)?;
     judge_slice_6(set.identification, gas.as_ref())?;
+    let opacity = judge_slice_7(set.opacity, &ac2)?;
     Ok(SetRead {
         ac2,
         acc,
         drift,
         suspension,
         gas,
+        opacity,
     })
 }
 
@@ -162,16 +168,30 @@ fn judge_differences(suspension: &FileRead) -> Result<(), Refusal> {
     Ok(())
 }
 
-/// 01, Due entries: "Gas is given exactly when AC2 has BENZINA (ours)".
+/// Gas: given exactly when it is due.
 fn judge_slice_5<'a>(text: &'a [u8], ac2: &FileRead) -> Result<Option<FileRead<'a>>, Refusal> {
-    let due = ac2.value("Alimentazione_1") == b"BENZINA";
-    judge_given(!text.is_empty(), due, GAS)?;
+    judge_when_due(GAS, text, is_gas_due(ac2), ac2)
+}
+
+/// Opacity: likewise.
+fn judge_slice_7<'a>(text: &'a [u8], ac2: &FileRead) -> Result<Option<FileRead<'a>>, Refusal> {
+    judge_when_due(OPACITY, text, is_opacity_due(ac2), ac2)
+}
+
+/// A file that is given exactly when it is due: 11, then 3 to 10.
+fn judge_when_due<'a>(
+    file: u32,
+    text: &'a [u8],
+    due: bool,
+    ac2: &FileRead,
+) -> Result<Option<FileRead<'a>>, Refusal> {
+    judge_given(!text.is_empty(), due, file)?;
     if !due {
         return Ok(None);
     }
-    let gas = read_file(GAS, text)?;
-    judge_due(&gas, ac2)?;
-    Ok(Some(gas))
+    let read = read_file(file, text)?;
+    judge_due(&read, ac2)?;
+    Ok(Some(read))
 }
 
 /// 01, Due entries: "slice 6 exactly when gas has RS SENZA ESITO". "Slice 6: 11, 14, 15."
@@ -206,9 +226,9 @@ fn clear_places(places: &mut [u32]) -> Result<(), Refusal> {
     Ok(())
 }
 
-/// One file alone: 16, 11, then 3 to 9.
+/// One file alone: 16, which lets file 7 through by 02, 2/14, 11, then 3 to 9.
 fn read_by_number(file: u32, text: &[u8]) -> Result<FileRead<'_>, Refusal> {
-    if !(AC2..=GAS).contains(&file) {
+    if !FILES.contains(&file) {
         return Err(Refusal::new(16, file, 0));
     }
     if text.is_empty() {

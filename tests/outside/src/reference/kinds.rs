@@ -1,8 +1,10 @@
-//! 01, Kinds of value.
+//! 01, Kinds of value, and those of opacity (02, 2/14: "kinds and conditions as printed there", 001, 3.3.3.7).
+
+use std::ops::RangeInclusive;
 
 use super::lines::is_printable;
 
-/// 01, Kinds of value, and the three kinds of single entries.
+/// 01, Kinds of value, and the kinds of single entries.
 #[derive(Clone, Copy, Debug, PartialEq, Eq)]
 pub enum Kind {
     /// S w.
@@ -29,7 +31,28 @@ pub enum Kind {
     Axles,
     /// AnnoPrimaImm: four digits.
     Year,
+    /// 02, 2/14: opacity's Targa, S 10 of at least 4 bytes.
+    Plate,
+    /// 02, 2/14: N w, with `#` before it where entered by hand.
+    NumberByHand(usize),
+    /// 02, 2/14: N(d) w, likewise.
+    DecimalByHand { decimals: usize, width: usize },
+    /// 02, 2/14: TempAmbiente, a whole number from -99 to 999, likewise.
+    Temperature,
 }
+
+impl Kind {
+    /// Whether `#` before a value says that it was entered by hand.
+    pub fn may_be_by_hand(self) -> bool {
+        matches!(
+            self,
+            Kind::Revs | Kind::NumberByHand(_) | Kind::DecimalByHand { .. } | Kind::Temperature
+        )
+    }
+}
+
+/// 001, 3.3.3.7: Targa is S 10, "Il numero dei caratteri che compongono la targa non deve essere inferiore a 4".
+const PLATE_LENGTHS: RangeInclusive<usize> = 4..=10;
 
 /// 01, Kinds of value: whether a filled value has its kind.
 pub fn fits(kind: Kind, value: &[u8]) -> bool {
@@ -46,6 +69,10 @@ pub fn fits(kind: Kind, value: &[u8]) -> bool {
         Kind::FirstRegistration => is_first_registration(value),
         Kind::Axles => value.len() == 9 && value.iter().all(|b| *b == b'S' || *b == b'N'),
         Kind::Year => value.len() == 4 && all_digits(value),
+        Kind::Plate => PLATE_LENGTHS.contains(&value.len()) && all_printable(value),
+        Kind::NumberByHand(width) => is_number(split_hash(value).1, width),
+        Kind::DecimalByHand { decimals, width } => is_decimal(split_hash(value).1, decimals, width),
+        Kind::Temperature => is_temperature(split_hash(value).1),
     }
 }
 
@@ -59,7 +86,8 @@ pub fn shape(kind: Kind) -> [usize; 4] {
         Kind::Date => [5, "ddmmyyyy".len(), 0, 0],
         Kind::Time => [6, "hhmmss".len(), 0, 0],
         Kind::Drift => [7, "-99.99".len(), 2, 0],
-        Kind::Revs => [8, "#99999".len(), 0, 0],
+        Kind::Revs => shape(Kind::NumberByHand(5)),
+        Kind::NumberByHand(width) => [8, "#".len() + width, 0, 0],
         Kind::FirstRegistration => [9, "ddmmyyyy".len(), 0, 0],
         Kind::Year => [10, 4, 0, 0],
         Kind::Axles => [11, 9, 0, 0],
@@ -67,6 +95,9 @@ pub fn shape(kind: Kind) -> [usize; 4] {
             let longest = words.iter().map(|word| word.len()).max();
             [12, longest.unwrap_or(0), 0, words.len()]
         }
+        Kind::Plate => [13, *PLATE_LENGTHS.end(), 0, 0],
+        Kind::DecimalByHand { decimals, width } => [14, "#".len() + width, decimals, 0],
+        Kind::Temperature => [15, "#-99".len(), 0, 0],
     }
 }
 
@@ -175,6 +206,22 @@ pub fn drift_hundredths(value: &[u8]) -> Option<i32> {
     Some(sign * number(&digits) as i32)
 }
 
+/// Whether `#` stands before a value, and the rest of it. 001, 3.3.3.7: "introducibile anche manualmente" with "#".
+fn split_hash(value: &[u8]) -> (bool, &[u8]) {
+    match value.strip_prefix(b"#") {
+        Some(rest) => (true, rest),
+        None => (false, value),
+    }
+}
+
+/// 001, 3.3.3.7, TempAmbiente: "Sono ammessi solo valori compresi tra -99 e 999", in at most three bytes.
+fn is_temperature(value: &[u8]) -> bool {
+    match value.strip_prefix(b"-") {
+        Some(digits) => is_number(digits, 2),
+        None => is_number(value, 3),
+    }
+}
+
 /// 02, 1/14: "The reading of a revs value now gives the number and whether `#` stood before it".
 #[derive(Clone, Copy, Debug, PartialEq, Eq)]
 pub struct Revs {
@@ -184,10 +231,7 @@ pub struct Revs {
 
 /// 01, Kinds of value: "revs: N 5, with `#` before it where entered by hand."
 pub fn revs(value: &[u8]) -> Option<Revs> {
-    let (by_hand, digits) = match value.strip_prefix(b"#") {
-        Some(digits) => (true, digits),
-        None => (false, value),
-    };
+    let (by_hand, digits) = split_hash(value);
     is_number(digits, 5).then(|| Revs {
         number: number(digits),
         by_hand,

@@ -1,4 +1,4 @@
-//! Document 01 as a program, in the order of the paper, with the requests of document 02 that have landed: 1/14.
+//! Document 01 as a program, in the order of the paper, with the requests of document 02 that have landed: 1/14, 2/14.
 //!
 //! - `lines`: line form. - `kinds`: kinds of value. - `tables`: headings and entries.
 //! - `files`: one file, 3 to 9. - `due`: due entries. - `bookings`: rules of AC2 and ACC.
@@ -17,8 +17,8 @@ pub mod lines;
 pub mod tables;
 pub mod writing;
 
-/// 01, Judging: "at least 278 numbers of 32 bits".
-pub const PLACES: usize = 278;
+/// 01, Judging: "at least 278 numbers of 32 bits"; 02, 2/14: with opacity it grows "by two for each entry".
+pub const PLACES: usize = 278 + 2 * 55;
 
 /// 01, Judging: "a refusal that carries its number, file and line (from 1; 0 for none)".
 #[derive(Clone, Copy, Debug, PartialEq, Eq)]
@@ -43,6 +43,8 @@ pub struct Acceptance {
     pub drift_mark: bool,
     pub suspension_mark: bool,
     pub gas_mark: bool,
+    /// 02, 2/14: "It is a result file, so acceptance carries its CodErrore mark".
+    pub opacity_mark: bool,
     /// 02, 1/14: "acceptance carries that mark for the gas file, unset where none is given".
     pub by_hand: bool,
 }

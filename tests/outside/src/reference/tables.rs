@@ -1,4 +1,4 @@
-//! 01, Bookings and Results: the headings and entries of the five files, in table order.
+//! 01, Bookings and Results, and 02, 2/14: the headings and entries of the six files, in table order.
 
 use std::sync::OnceLock;
 
@@ -10,6 +10,10 @@ pub const DRIFT: u32 = 3;
 pub const SUSPENSION: u32 = 4;
 pub const GAS: u32 = 5;
 pub const IDENTIFICATION: u32 = 6;
+pub const OPACITY: u32 = 7;
+
+/// The files that have a table: all but the identification answer.
+pub const FILES: [u32; 6] = [AC2, ACC, DRIFT, SUSPENSION, GAS, OPACITY];
 
 /// 01, Results: "1 to 9 axles, as in suspension".
 pub const MOST_AXLES: usize = 9;
@@ -27,7 +31,7 @@ pub struct Section {
 /// One file: its fixed sections, then (drift, suspension) the sections of axles 1 to 9.
 pub struct Table {
     pub file: u32,
-    /// 01, Judging: "files' first pairs at 0, 12, 18, 43, 86".
+    /// 01, Judging: "files' first pairs at 0, 12, 18, 43, 86"; 02, 2/14: opacity's "start at 139".
     pub first_pair: usize,
     pub fixed: usize,
     pub sections: Vec<Section>,
@@ -41,6 +45,17 @@ impl Table {
     /// The sections of a file with this number of axles.
     pub fn sections(&self, axles: usize) -> &[Section] {
         &self.sections[..self.fixed + axles]
+    }
+
+    /// How many entries a file with this number of axles has.
+    pub fn entry_count(&self, axles: usize) -> usize {
+        let sections = self.sections(axles).iter();
+        sections.map(|section| section.entries.len()).sum()
+    }
+
+    /// How many entries the file has at most.
+    pub fn most_entries(&self) -> usize {
+        self.entry_count(self.sections.len() - self.fixed)
     }
 }
 
@@ -76,19 +91,20 @@ pub fn heading_name(file: u32, section: u32) -> Option<&'static str> {
     Some(&section.heading)
 }
 
-/// All sections of a file, none where it is not 1 to 5.
+/// All sections of a file, none where it has no table.
 fn sections_of(file: u32) -> &'static [Section] {
-    match file {
-        AC2..=GAS => &table(file).sections,
-        _ => &[],
-    }
+    find_table(file).map_or(&[], |table| &table.sections)
 }
 
-/// The table of file 1 to 5.
+/// The table of one of the files.
 pub fn table(file: u32) -> &'static Table {
-    static TABLES: OnceLock<[Table; 5]> = OnceLock::new();
-    let tables = TABLES.get_or_init(|| [ac2(), acc(), drift(), suspension(), gas()]);
-    &tables[file as usize - 1]
+    find_table(file).unwrap_or_else(|| panic!("file {file} has no table"))
+}
+
+fn find_table(file: u32) -> Option<&'static Table> {
+    static TABLES: OnceLock<[Table; 6]> = OnceLock::new();
+    let tables = TABLES.get_or_init(|| [ac2(), acc(), drift(), suspension(), gas(), opacity()]);
+    tables.iter().find(|table| table.file == file)
 }
 
 /// 01, Kinds of value: "w is 64 where none is given".
@@ -103,8 +119,10 @@ const YES_NO: &[&str] = &["S", "N"];
 const DIRECTIVES: &[&str] = &["NESSUNA", "RT1902", "91/441/CEE", "98/69/CE"];
 const PARKING_BRAKES: &[&str] = &["MANO", "PEDALE", "ELETTRICO", "NON PRESENTE"];
 const LINKS: &[&str] = &["DIR", "RETE"];
-const GAS_LINKS: &[&str] = &["DIR", "RETE", "RS SENZA ESITO"];
+const SERIAL_LINKS: &[&str] = &["DIR", "RETE", "RS SENZA ESITO"];
 const COUNTER_LINKS: &[&str] = &["ESTERNO", "INTEGRATO"];
+/// 001, 1.3.1, type E.
+const RESULTS: &[&str] = &["R", "I", "N"];
 
 fn entry(name: impl Into<String>, kind: Kind) -> Entry {
     Entry {
@@ -234,6 +252,41 @@ fn suspension() -> Table {
     }
 }
 
+/// N(d) w.
+const fn decimal(decimals: usize, width: usize) -> Kind {
+    Kind::Decimal { decimals, width }
+}
+
+/// 01, Results, and 02, 2/14: the rev counter's entries of gas and opacity, which name its software's version differently.
+fn rev_counter(software_version: &str) -> Vec<Entry> {
+    vec![
+        entry("MarcaContagiri", S),
+        entry("TipoContagiri", S),
+        entry("NumOmologaContagiri", S),
+        entry("NumSerieContagiri", S),
+        entry(software_version, S),
+        entry("DataScadenzaContagiri", Kind::Date),
+        entry("TipoCollegamentoContagiri", Kind::Word(COUNTER_LINKS)),
+        entry("NumVersioneProtocolloContagiri", Kind::Number(3)),
+    ]
+}
+
+/// 01, Results: "Then for T = nothing, Contagiri, ProvaVelocita: IDChiaveTRS C 5, DataRegChiaveTRS D; then for each T
+/// ChecksumTRS S 92, ModuloChiaveTRS C 172, EsponenteChiaveTRS C 4"; 02, 2/14: opacity has no ProvaVelocita.
+fn keys_and_checksums(devices: &[&str]) -> Vec<Entry> {
+    let mut entries = Vec::new();
+    for t in devices {
+        entries.push(entry(format!("IDChiave{t}RS"), Kind::Exact(5)));
+        entries.push(entry(format!("DataRegChiave{t}RS"), Kind::Date));
+    }
+    for t in devices {
+        entries.push(entry(format!("Checksum{t}RS"), Kind::Text(92)));
+        entries.push(entry(format!("ModuloChiave{t}RS"), Kind::Exact(172)));
+        entries.push(entry(format!("EsponenteChiave{t}RS"), Kind::Exact(4)));
+    }
+    entries
+}
+
 /// 01, Results: "Gas: heading as in 001, 3.3.3.5." and [AnalisiGasAlimentazione_1].
 fn gas() -> Table {
     let mut entries = vec![
@@ -243,14 +296,9 @@ fn gas() -> Table {
         entry("NumSerieAnalizzatore", S),
         entry("NumVersSoftwareAnalizzatore", S),
         entry("DataScadenzaAnalizzatore", Kind::Date),
-        entry("MarcaContagiri", S),
-        entry("TipoContagiri", S),
-        entry("NumOmologaContagiri", S),
-        entry("NumSerieContagiri", S),
-        entry("NumVersioneSoftwareContagiri", S),
-        entry("DataScadenzaContagiri", Kind::Date),
-        entry("TipoCollegamentoContagiri", Kind::Word(COUNTER_LINKS)),
-        entry("NumVersioneProtocolloContagiri", Kind::Number(3)),
+    ];
+    entries.extend(rev_counter("NumVersioneSoftwareContagiri"));
+    entries.extend([
         entry("MarcaProvaVelocita", S),
         entry("TipoProvaVelocita", S),
         entry("NumOmologaProvaVelocita", S),
@@ -258,34 +306,18 @@ fn gas() -> Table {
         entry("NumVersioneSoftwareProvaVelocita", S),
         entry("NumVersioneProtocolloProvaVelocita", Kind::Number(3)),
         entry("DataScadenzaProvaVelocita", Kind::Date),
-    ];
-    entries.extend(from_note_to_circular(GAS_LINKS));
-    for t in ["", "Contagiri", "ProvaVelocita"] {
-        entries.push(entry(format!("IDChiave{t}RS"), Kind::Exact(5)));
-        entries.push(entry(format!("DataRegChiave{t}RS"), Kind::Date));
-    }
-    for t in ["", "Contagiri", "ProvaVelocita"] {
-        entries.push(entry(format!("Checksum{t}RS"), Kind::Text(92)));
-        entries.push(entry(format!("ModuloChiave{t}RS"), Kind::Exact(172)));
-        entries.push(entry(format!("EsponenteChiave{t}RS"), Kind::Exact(4)));
-    }
+    ]);
+    entries.extend(from_note_to_circular(SERIAL_LINKS));
+    entries.extend(keys_and_checksums(&["", "Contagiri", "ProvaVelocita"]));
     entries.extend(from_error_to_operator());
-    let three = Kind::Decimal {
-        decimals: 3,
-        width: 5,
-    };
-    let two = Kind::Decimal {
-        decimals: 2,
-        width: 5,
-    };
     let measured = vec![
-        entry("COMin", three),
-        entry("COCorrettoMin", three),
-        entry("CO2Min", two),
+        entry("COMin", decimal(3, 5)),
+        entry("COCorrettoMin", decimal(3, 5)),
+        entry("CO2Min", decimal(2, 5)),
         entry("HCMin", Kind::Number(5)),
-        entry("O2Min", two),
+        entry("O2Min", decimal(2, 5)),
         entry("NumGiriMotoreMin", Kind::Revs),
-        entry("COMinAcc", three),
+        entry("COMinAcc", decimal(3, 5)),
     ];
     Table {
         file: GAS,
@@ -295,5 +327,50 @@ fn gas() -> Table {
             section("[AnalisiGas]", entries),
             section("[AnalisiGasAlimentazione_1]", measured),
         ],
+    }
+}
+
+/// 02, 2/14: "the opacity file, with every section and entry of source document 000, 3.3.3.7, in printed order"; 001
+/// rules over the translation.
+fn opacity() -> Table {
+    let by_hand = Kind::DecimalByHand {
+        decimals: 1,
+        width: 5,
+    };
+    let mut entries = vec![
+        entry("MarcaOpacimetro", S),
+        entry("TipoOpacimetro", S),
+        entry("NumOmologaOpacimetro", S),
+        entry("NumSerieOpacimetro", S),
+        entry("NumVersSoftwareOpacimetro", S),
+        entry("DataScadenzaOpacimetro", Kind::Date),
+    ];
+    entries.extend(rev_counter("NumVersSoftwareContagiri"));
+    entries.extend([
+        entry("Targa", Kind::Plate),
+        entry("NumGiriMotoreMax", Kind::Revs),
+        entry("LimiteK", decimal(1, 3)),
+        entry("DirettivaEmissioni", S),
+        entry("NumGiriMotoreMinMis", Kind::Revs),
+        entry("NumGiriMotoreMaxMis", Kind::Revs),
+        entry("TempOlioMotore", by_hand),
+        entry("TempMinOlioMotore", Kind::Number(2)),
+    ]);
+    entries.extend((1..=8).map(|peak| entry(format!("ValoreK{peak}"), decimal(2, 5))));
+    entries.extend([
+        entry("OpacitaMedia", decimal(2, 5)),
+        entry("PressAtmosferica", by_hand),
+        entry("TempAmbiente", Kind::Temperature),
+        entry("UmiditaRelativa", Kind::NumberByHand(3)),
+        entry("Esito", Kind::Word(RESULTS)),
+    ]);
+    entries.extend(from_note_to_circular(SERIAL_LINKS));
+    entries.extend(keys_and_checksums(&["", "Contagiri"]));
+    entries.extend(from_error_to_operator());
+    Table {
+        file: OPACITY,
+        first_pair: 139,
+        fixed: 1,
+        sections: vec![section("[AnalisiOpacita]", entries)],
     }
 }

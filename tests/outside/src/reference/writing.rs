@@ -1,7 +1,7 @@
 //! 01, Writing: one file from text, places, file and axle count.
 
 use super::kinds;
-use super::tables::{table, Entry, Section, AC2, DRIFT, GAS, SUSPENSION};
+use super::tables::{table, Entry, Section, FILES, MOST_AXLES};
 use super::{Refusal, PLACES};
 
 /// An entry to be written: the line that it would have, and its pair.
@@ -25,13 +25,8 @@ pub fn write_file(
     if places.len() < PLACES {
         return Err(Refusal::new(1, 0, 0));
     }
-    // 01, row 16: "file not 1 to 5; axles not 1 to 9 in 3, 4, or not 0 in 1, 2, 5".
-    let right = match file {
-        DRIFT | SUSPENSION => (1..=9).contains(&axles),
-        AC2..=GAS => axles == 0,
-        _ => false,
-    };
-    if !right {
+    // 01, row 16: "file not 1 to 5"; 02, 2/14: it "now lets through" file 7.
+    if !FILES.contains(&file) || !may_have_axles(file, axles) {
         return Err(Refusal::new(16, file, 0));
     }
     let sections = table(file).sections(axles as usize);
@@ -71,6 +66,15 @@ pub fn write_file(
     }
     output[..bytes.len()].copy_from_slice(&bytes);
     Ok(bytes.len())
+}
+
+/// 01, row 16: "axles not 1 to 9 in 3, 4, or not 0 in 1, 2, 5"; 02, 2/14: "written as file 7 with 0 axles".
+fn may_have_axles(file: u32, axles: u32) -> bool {
+    if table(file).has_axles() {
+        (1..=MOST_AXLES as u32).contains(&axles)
+    } else {
+        axles == 0
+    }
 }
 
 /// The entries of these sections in table order, each with "the line that the entry would

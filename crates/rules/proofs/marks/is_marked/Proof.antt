@@ -2,13 +2,13 @@
 use mathlib.Core.Path.{sym}
 use mathlib.Core.Bool.{false}
 use native.Mathlib.Omega.{arith}
-use Rattle.tables.specs.File.{File, drift, suspension, gas}
+use Rattle.tables.specs.File.{File, drift, suspension, gas, opacity}
 use Rattle.tables.specs.Value.{valuesOf}
 use Rattle.rules.specs.Marks.{isMarked}
 use Rattle.tables.proofs.Numbers.{first-pairs}
 use Rattle.tables.proofs.Files.{of-number, of-others}
 use Rattle.tables.proofs.Values.{number-held}
-use Rattle.rules.proofs.Rules.{drift-marked, suspension-marked, gas-marked, new-marked, old-marked}
+use Rattle.rules.proofs.Rules.{drift-marked, suspension-marked, gas-marked, opacity-marked, new-marked, old-marked}
 use Rattle.rules.proofs.marks.is_marked.Statement.{statement}
 use Rattle.rules.proofs.marks.is_marked.Tie as tie
 
@@ -20,6 +20,9 @@ length-of-requires-2 c κs = omega (arith, first-pairs .5, c .before .before .be
 
 length-of-requires-3 : tie.Need-length-of-requires-3
 length-of-requires-3 c κs = omega (arith, first-pairs .5, c .before .before .before .pre .0)
+
+length-of-requires-4 : tie.Need-length-of-requires-4
+length-of-requires-4 c κs = omega (arith, first-pairs .5, c .before .before .before .pre .0)
 
 returns : tie.Need-returns
 returns c =
@@ -38,9 +41,14 @@ returns-3 c =
 
 returns-4 : tie.Need-returns-4
 returns-4 c =
+    let x = c .before .before .before .before .args in
+    rw (of-number false (λ (f : File). isMarked f (valuesOf f (x .axles) (x .text .now) (x .places .now))) opacity _ (c .before .match .keys4), opacity-marked _ _ _ (number-held opacity _ _ _ _ (c .before .match .keys4) (c .before .before .before .before .pre)), ← (c .length-of4 .ensures))
+
+returns-5 : tie.Need-returns-5
+returns-5 c =
     let x = c .before .before .before .args in
     let n = c .match .rest in
-    sym (of-others false (λ (f : File). isMarked f (valuesOf f (x .axles) (x .text .now) (x .places .now))) _ (λ e. new-marked _ _ _) (λ e. old-marked _ _ _) (λ e. absurd (n .0 .0 .1 e)) (λ e. absurd (n .0 .1 e)) (λ e. absurd (n .1 e)))
+    sym (of-others false (λ (f : File). isMarked f (valuesOf f (x .axles) (x .text .now) (x .places .now))) _ (λ e. new-marked _ _ _) (λ e. old-marked _ _ _) (λ e. absurd (n .0 .0 .0 .1 e)) (λ e. absurd (n .0 .0 .1 e)) (λ e. absurd (n .0 .1 e)) (λ e. absurd (n .1 e)))
 
 pub is-marked-spec : {M : Type 1} → statement M
 is-marked-spec =
@@ -49,7 +57,9 @@ is-marked-spec =
     length-of-requires
     length-of-requires-2
     length-of-requires-3
+    length-of-requires-4
     returns
     returns-2
     returns-3
-    returns-4)
+    returns-4
+    returns-5)

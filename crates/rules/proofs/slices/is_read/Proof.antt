@@ -28,7 +28,7 @@ returns-3 : tie.Need-returns-3
 unfolding isRead
 returns-3 c =
     let x = c .before .args in
-    sym (of-others (x .given) (λ (f : File). isRead f (x .booking) (x .given)) _ (λ e. refl) (λ e. absurd (c .match .rest .1 e)) (λ e. refl) (λ e. refl) (λ e. refl))
+    sym (of-others (x .given) (λ (f : File). isRead f (x .booking) (x .given)) _ (λ e. refl) (λ e. absurd (c .match .rest .1 e)) (λ e. refl) (λ e. refl) (λ e. refl) (λ e. refl))
 
 pub is-read-spec : {M : Type 1} → statement M
 is-read-spec = tie.close (tie.spec returns is-l-requires returns-2 returns-3)

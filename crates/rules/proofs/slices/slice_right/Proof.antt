@@ -2,7 +2,7 @@
 use borrow.Author.Needs.{needs}
 use mathlib.Core.Path.{refl, sym, ap, _∙_}
 use mathlib.Core.Bool.{Bool, true}
-use Rattle.tables.specs.File.{File, ac2, acc, gas}
+use Rattle.tables.specs.File.{File, ac2, acc, gas, opacity}
 use Rattle.rules.specs.Slices.{exactly, sliceRight}
 use Rattle.tables.proofs.Files.{of-number, of-others}
 use Rattle.rules.proofs.slices.slice_right.Statement.{statement}
@@ -16,6 +16,12 @@ is-petrol-requires c κs = search needs
 
 is-exactly-requires : tie.Need-is-exactly-requires
 is-exactly-requires c κs = search needs
+
+opacity-due-requires : tie.Need-opacity-due-requires
+opacity-due-requires c κs = search needs
+
+is-exactly-requires-2 : tie.Need-is-exactly-requires-2
+is-exactly-requires-2 c κs = search needs
 
 returns : tie.Need-returns
 unfolding sliceRight
@@ -38,9 +44,15 @@ returns-3 c =
 returns-4 : tie.Need-returns-4
 unfolding sliceRight
 returns-4 c =
+    let x = c .before .before .before .args in
+    c .is-exactly2 .ensures ∙ (ap (λ (b : Bool). exactly b (x .given)) (c .before .opacity-due .ensures) ∙ sym (of-number true (λ (f : File). sliceRight f (x .stated) (x .booking) (x .given)) opacity _ (c .before .before .match .keys4)))
+
+returns-5 : tie.Need-returns-5
+unfolding sliceRight
+returns-5 c =
     let x = c .before .args in
     let n = c .match .rest in
-    sym (of-others true (λ (f : File). sliceRight f (x .stated) (x .booking) (x .given)) _ (λ e. absurd (n .0 .0 .1 e)) (λ e. absurd (n .0 .1 e)) (λ e. refl) (λ e. refl) (λ e. absurd (n .1 e)))
+    sym (of-others true (λ (f : File). sliceRight f (x .stated) (x .booking) (x .given)) _ (λ e. absurd (n .0 .0 .0 .1 e)) (λ e. absurd (n .0 .0 .1 e)) (λ e. refl) (λ e. refl) (λ e. absurd (n .0 .1 e)) (λ e. absurd (n .1 e)))
 
 pub slice-right-spec : {M : Type 1} → statement M
 slice-right-spec =
@@ -49,7 +61,10 @@ slice-right-spec =
     old-booking-right-requires
     is-petrol-requires
     is-exactly-requires
+    opacity-due-requires
+    is-exactly-requires-2
     returns
     returns-2
     returns-3
-    returns-4)
+    returns-4
+    returns-5)

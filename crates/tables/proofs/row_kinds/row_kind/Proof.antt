@@ -1,7 +1,7 @@
 -- `tables::row_kinds::row_kind` meets its contract: an arm for each file, and none for other numbers. Assumes nothing.
 use borrow.Author.Needs.{needs}
 use Rattle.kinds.specs.Kind.{numbered}
-use Rattle.tables.specs.File.{ac2, acc, drift, suspension, gas}
+use Rattle.tables.specs.File.{ac2, acc, drift, suspension, gas, opacity}
 use Rattle.tables.specs.Row.{rowKind}
 use Rattle.tables.proofs.Files.{table-none}
 use Rattle.tables.proofs.Rows.{kind-of-row}
@@ -24,8 +24,11 @@ returns-5 : tie.Need-returns-5
 returns-5 c = kind-of-row gas (c .before .before .before .before .args .file) (c .before .before .before .match .keys5) (c .before .before .gas-kinds .result) (c .before .before .gas-kinds .ensures) (c .kind-at5 .result) (c .before .before .before .before .args .row) (c .kind-at5 .ensures)
 
 returns-6 : tie.Need-returns-6
+returns-6 c = kind-of-row opacity (c .before .before .before .before .args .file) (c .before .before .before .match .keys6) (c .before .before .opacity-kinds .result) (c .before .before .opacity-kinds .ensures) (c .kind-at6 .result) (c .before .before .before .before .args .row) (c .kind-at6 .ensures)
+
+returns-7 : tie.Need-returns-7
 unfolding rowKind numbered
-returns-6 c = rw (table-none (c .before .args .file) (c .match .rest))
+returns-7 c = rw (table-none (c .before .args .file) (c .match .rest))
 
 pub row-kind-spec : {M : Type 1} → statement M
 row-kind-spec =
@@ -36,4 +39,5 @@ row-kind-spec =
     (λ c κs. search needs) (λ c. search needs) (λ c κs. search needs)
     (λ c κs. search needs) (λ c. search needs) (λ c κs. search needs)
     (λ c κs. search needs) (λ c. search needs) (λ c κs. search needs)
-    returns returns-2 returns-3 returns-4 returns-5 returns-6)
+    (λ c κs. search needs) (λ c. search needs) (λ c κs. search needs)
+    returns returns-2 returns-3 returns-4 returns-5 returns-6 returns-7)

@@ -1,7 +1,7 @@
 -- `tables::row_kinds::write_kinds` meets its contract: an arm for each file, and none for other numbers. Assumes nothing.
 use borrow.Author.Needs.{needs}
 use native.Mathlib.Omega.{arith}
-use Rattle.tables.specs.File.{ac2, acc, drift, suspension, gas}
+use Rattle.tables.specs.File.{ac2, acc, drift, suspension, gas, opacity}
 use Rattle.tables.specs.Row.{rowCount}
 use Rattle.tables.proofs.Files.{table-none}
 use Rattle.tables.proofs.Rows.{numbers-many, numbers-put}
@@ -38,9 +38,15 @@ put-requires-5 c κs = omega (arith, c .before .before .before .before .before .
 returns-5 : tie.Need-returns-5
 returns-5 c = numbers-put gas (c .before .before .before .before .before .before .before .before .args .file) (c .before .before .before .before .before .before .match .keys5) _ (c .before .before .before .before .before .gas-kinds .ensures) _ (c .before .before .put5 .ensures)
 
+put-requires-6 : tie.Need-put-requires-6
+put-requires-6 c κs = omega (arith, c .before .before .before .before .before .pre, numbers-many opacity (c .before .before .before .before .before .args .file) (c .before .before .before .match .keys6) (c .before .before .opacity-kinds .result) (c .before .before .opacity-kinds .ensures))
+
 returns-6 : tie.Need-returns-6
+returns-6 c = numbers-put opacity (c .before .before .before .before .before .before .before .before .args .file) (c .before .before .before .before .before .before .match .keys6) _ (c .before .before .before .before .before .opacity-kinds .ensures) _ (c .before .before .put6 .ensures)
+
+returns-7 : tie.Need-returns-7
 unfolding rowCount
-returns-6 c = rw (table-none (c .before .before .args .file) (c .match .rest))
+returns-7 c = rw (table-none (c .before .before .args .file) (c .match .rest))
 
 pub write-kinds-spec : {M : Type 1} → statement M
 write-kinds-spec =
@@ -51,9 +57,11 @@ write-kinds-spec =
     (λ c κs. search needs) (λ c. search needs) put-requires-3
     (λ c κs. search needs) (λ c. search needs) put-requires-4
     (λ c κs. search needs) (λ c. search needs) put-requires-5
+    (λ c κs. search needs) (λ c. search needs) put-requires-6
     (λ c. search needs) returns
     (λ c. search needs) returns-2
     (λ c. search needs) returns-3
     (λ c. search needs) returns-4
     (λ c. search needs) returns-5
-    returns-6)
+    (λ c. search needs) returns-6
+    returns-7)

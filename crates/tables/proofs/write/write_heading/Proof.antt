@@ -1,6 +1,6 @@
 -- `tables::write::write_heading` meets its contract: each file has its headings. Assumes nothing.
 use borrow.Author.Needs.{needs}
-use Rattle.tables.specs.File.{ac2, acc, drift, suspension, gas, sections, fixedSections, axleSections}
+use Rattle.tables.specs.File.{ac2, acc, drift, suspension, gas, opacity, sections, fixedSections, axleSections}
 use Rattle.tables.proofs.Files.{table-none}
 use Rattle.tables.proofs.Sections.{at-file}
 use Rattle.tables.proofs.write.write_heading.Statement.{statement}
@@ -21,6 +21,9 @@ write-suspension-heading-requires c κs = rw (at-file suspension (c .before .mat
 
 write-gas-heading-requires : tie.Need-write-gas-heading-requires
 write-gas-heading-requires c κs = rw (at-file gas (c .before .match .keys5)) at (c .before .before .before .pre)
+
+write-opacity-heading-requires : tie.Need-write-opacity-heading-requires
+write-opacity-heading-requires c κs = rw (at-file opacity (c .before .match .keys6)) at (c .before .before .before .pre)
 
 slice-aggregate-write-heading : tie.Need-slice-aggregate-write-heading
 slice-aggregate-write-heading c = search needs
@@ -63,7 +66,13 @@ same-length-6 : tie.Need-same-length-6
 same-length-6 c = search needs
 
 returns-6 : tie.Need-returns-6
-returns-6 c = rw (table-none _ (c .before .before .before .before .before .match .rest)) (c .before .before .write-heading .ensures)
+returns-6 c = rw (at-file opacity (c .before .before .before .before .match .keys6)) (c .before .before .write-opacity-heading .ensures)
+
+same-length-7 : tie.Need-same-length-7
+same-length-7 c = search needs
+
+returns-7 : tie.Need-returns-7
+returns-7 c = rw (table-none _ (c .before .before .before .before .before .match .rest)) (c .before .before .write-heading .ensures)
 
 pub write-heading-spec : {M : Type 1} → statement M
-write-heading-spec = tie.close (tie.spec write-booking-heading-requires write-booking-heading-requires-2 write-drift-heading-requires write-suspension-heading-requires write-gas-heading-requires slice-aggregate-write-heading write-heading-requires same-length returns same-length-2 returns-2 same-length-3 returns-3 same-length-4 returns-4 same-length-5 returns-5 same-length-6 returns-6)
+write-heading-spec = tie.close (tie.spec write-booking-heading-requires write-booking-heading-requires-2 write-drift-heading-requires write-suspension-heading-requires write-gas-heading-requires write-opacity-heading-requires slice-aggregate-write-heading write-heading-requires same-length returns same-length-2 returns-2 same-length-3 returns-3 same-length-4 returns-4 same-length-5 returns-5 same-length-6 returns-6 same-length-7 returns-7)
