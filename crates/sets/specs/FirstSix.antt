@@ -1,4 +1,5 @@
--- The fold over slices 1 to 6, as it was before 02, 2/14: where slice 7 is neither due nor given, the judge is this (proofs/FirstSix).
+-- The fold over slices 1 to 6, as before 02, 2/14 but for the least number of places, which is 388 here too: where slice 7 is neither
+-- due nor given, the judge is this (proofs/FirstSix).
 use Prim.Native.Nat.{ℕ}
 use mathlib.Core.Path.{_≡_}
 use mathlib.Core.Bool.{false, cond}
