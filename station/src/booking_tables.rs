@@ -8,10 +8,15 @@ use crate::shown::word_list;
 use crate::table;
 
 /// Days on both sides of those by which the fuel of the old booking changes.
-const DAYS: [&str; 4] = ["30091986", "01101986", "30062002", "01072002"];
+pub const DAYS: [&str; 4] = ["30091986", "01101986", "30062002", "01072002"];
+
+/// The same with days that are not known, two of them in a month that is not known either (02, 3/14).
+pub const UNKNOWN_DAYS: [&str; 6] = [
+    "00001986", "00091986", "00101986", "00002002", "00062002", "00072002",
+];
 
 /// Values by the names of their entries. What stands first counts.
-type Values<'a> = [(&'a str, &'a str)];
+pub type Values<'a> = [(&'a str, &'a str)];
 
 /// What both bookings have where nothing else is said: a car without any rule to break but the one that is tried.
 const PLAIN: [(&str, &str); 11] = [
@@ -67,12 +72,12 @@ fn words_of(name: &str) -> Vec<String> {
 }
 
 /// The words that pass at an entry of the old booking.
-fn fitting(ac2: &Values, name: &str, acc: &Values) -> String {
+fn fitting(ac2: &Values, name: &str, acc: &Values) -> Vec<String> {
     let fits = |word: &String| {
         let acc = [&[(name, word.as_str())], acc].concat();
         passes(ac2, Some(&acc))
     };
-    or_none(candidates::words().filter(fits).collect())
+    candidates::words().filter(fits).collect()
 }
 
 fn or_none(mut words: Vec<String>) -> String {
@@ -113,7 +118,7 @@ pub fn categories() -> Vec<[String; 3]> {
             let first = types.first().map_or("", String::as_str);
             let values = [&[("TipoVeicolo", first)], &values[..]].concat();
             let descriptions = match Test::NotL.passes(category.as_bytes()) {
-                true => fitting(&values, "DescrizioneVeicolo", &values),
+                true => or_none(fitting(&values, "DescrizioneVeicolo", &values)),
                 false => "not read".to_string(),
             };
             [format!("`{category}`"), or_none(types), descriptions]
@@ -153,46 +158,53 @@ pub fn goes_with(fuel: &str, word: &str) -> bool {
 /// Whether the fuel that passes in the old booking changes with one of these values of the new one, by trial with others
 /// in its place.
 pub fn changes_fuel(values: &Values, name: &str) -> bool {
-    let fuels = |values: &Values| {
-        let day = values.iter().find(|(name, _)| *name == "DataPrimaImm");
-        let years = day.map(|(_, day)| ("AnnoPrimaImm", year(day)));
-        let years: Vec<(&str, &str)> = years.into_iter().collect();
-        let alone = passes(values, None);
-        alone.then(|| fitting(values, "Alimentazione_1", &years))
-    };
     let others = match name {
         "DataPrimaImm" => DAYS.map(String::from).to_vec(),
         name => words_of(name),
     };
     let found = fuels(values);
     others.iter().any(|other| {
-        let values = [&[(name, other.as_str())], values].concat();
-        let changed = fuels(&values);
+        let changed = fuels_with(values, name, other);
         changed.is_some() && changed != found
     })
+}
+
+/// The fuels that pass in the old booking with this in place of one of these values of the new one.
+pub fn fuels_with(values: &Values, name: &str, other: &str) -> Option<Vec<String>> {
+    fuels(&[&[(name, other)], values].concat())
+}
+
+/// The fuels that pass in the old booking; None where the new one does not pass.
+pub fn fuels(values: &Values) -> Option<Vec<String>> {
+    let day = values.iter().find(|(name, _)| *name == "DataPrimaImm");
+    let years = day.map(|(_, day)| ("AnnoPrimaImm", year(day)));
+    let years: Vec<(&str, &str)> = years.into_iter().collect();
+    passes(values, None).then(|| fitting(values, "Alimentazione_1", &years))
 }
 
 fn year(day: &str) -> &str {
     day.get(4..).unwrap_or_default()
 }
 
-/// A car's directive, and the old booking's fuel for each of the days.
-pub fn petrol() -> (Vec<&'static str>, Vec<Vec<String>>) {
+/// A car's directive, and the old booking's fuel for each of these days.
+pub fn petrol(days: &[&str]) -> Vec<Vec<String>> {
     let rows = words_of("DirettivaEmissioniGasBenzinaAuto").into_iter();
     let rows = rows.map(|directive| {
-        let days = DAYS.iter().map(|day| {
-            let values = [
-                ("Alimentazione_1", "BENZINA"),
-                ("DirettivaEmissioniGasBenzinaAuto", directive.as_str()),
-                ("DataPrimaImm", day),
-                ("AnnoPrimaImm", year(day)),
-            ];
-            fitting(&values, "Alimentazione_1", &values)
-        });
-        let cells = std::iter::once(format!("`{directive}`")).chain(days);
+        let fuels = days.iter().map(|day| petrol_on(&directive, day));
+        let cells = std::iter::once(format!("`{directive}`")).chain(fuels);
         cells.collect()
     });
-    (DAYS.to_vec(), rows.collect())
+    rows.collect()
+}
+
+fn petrol_on(directive: &str, day: &str) -> String {
+    let values = [
+        ("Alimentazione_1", "BENZINA"),
+        ("DirettivaEmissioniGasBenzinaAuto", directive),
+        ("DataPrimaImm", day),
+        ("AnnoPrimaImm", year(day)),
+    ];
+    or_none(fitting(&values, "Alimentazione_1", &values))
 }
 
 /// Turbo, CorrettorePressione, and the old booking's fuel.
@@ -205,7 +217,7 @@ pub fn diesel() -> Vec<[String; 3]> {
                 ("Turbo", turbo.as_str()),
                 ("CorrettorePressione", corrector.as_str()),
             ];
-            let fuel = fitting(&values, "Alimentazione_1", &values);
+            let fuel = or_none(fitting(&values, "Alimentazione_1", &values));
             rows.push([format!("`{turbo}`"), format!("`{corrector}`"), fuel]);
         }
     }
@@ -218,36 +230,38 @@ pub fn brakes() -> Vec<[String; 2]> {
     let rows = rows.map(|brake| {
         let values = [("AzionamentoFrenoStazionamento", brake.as_str())];
         let fitting = fitting(&values, "FrenoStazionamento", &[]);
-        [format!("`{brake}`"), fitting]
+        [format!("`{brake}`"), or_none(fitting)]
     });
     rows.collect()
 }
 
 #[cfg(test)]
 mod tests {
-    use super::passes;
+    use super::petrol_on;
 
-    /// A day that is not known counts as 00, before all days of its month.
+    /// 02, 3/14: day 00 with a known month counts as its day 01, month 00 is before every month of its year.
     #[test]
-    fn days_are_compared_with_their_zeros() {
-        for (day, fuel) in [
-            ("00101986", "BENZINA<86"),
-            ("00001986", "BENZINA<86"),
-            ("01101986", "BENZINA NO CAT"),
+    fn unknown_days_count_as_the_first() {
+        let (before, from, none) = ("`BENZINA<86`", "`BENZINA NO CAT`", "none");
+        for (day, rt1902, nessuna) in [
+            ("00001986", before, before),
+            ("00091986", before, before),
+            ("30091986", before, before),
+            ("00101986", from, none),
+            ("01101986", from, none),
+            ("00111986", from, none),
+            ("00001987", from, none),
+            ("00002002", from, none),
+            ("00062002", from, none),
+            ("30062002", from, none),
+            ("00072002", none, none),
+            ("01072002", none, none),
+            ("00082002", none, none),
+            ("00002003", none, none),
         ] {
-            let ac2 = [
-                ("Alimentazione_1", "BENZINA"),
-                ("DirettivaEmissioniGasBenzinaAuto", "RT1902"),
-                ("DataPrimaImm", day),
-            ];
-            let acc = |fuel| [("Alimentazione_1", fuel), ("AnnoPrimaImm", "1986")];
-            for other in ["BENZINA<86", "BENZINA NO CAT"] {
-                assert_eq!(
-                    passes(&ac2, Some(&acc(other))),
-                    other == fuel,
-                    "{day} {other}"
-                );
-            }
+            assert_eq!(petrol_on("RT1902", day), rt1902, "RT1902 {day}");
+            assert_eq!(petrol_on("NESSUNA", day), nessuna, "NESSUNA {day}");
+            assert_eq!(petrol_on("98/69/CE", day), "`BENZINA CAT`", "{day}");
         }
     }
 }

@@ -41,6 +41,7 @@ mod rulebook;
 mod rules;
 mod shown;
 mod table;
+mod unknown_day;
 mod words;
 mod wrong_value;
 

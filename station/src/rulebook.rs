@@ -31,7 +31,10 @@ const LINES: &str = "
 ";
 
 const DAYS: &str = "
-Days are compared as yyyymmdd, zeros included: `00101986`, of which the day is not known, is before 01/10/1986.
+With petrol, ACC's Alimentazione_1 hangs on two fuel dates, 01/10/1986 and 01/07/2002. Compared with these, a DataPrimaImm
+whose day is not known (day 00) counts as day 01 of its month: `00101986` is not before 01/10/1986, as no day of that month
+is. One whose month is not known either (month 00) is before every month of its year: `00001986` is before 01/10/1986. Only
+with these two dates do zeros count so.
 ";
 
 const ANSWER: &str = "
@@ -141,15 +144,8 @@ fn bookings() -> String {
         ],
         &booking_tables::categories(),
     );
-    let (days, rows) = booking_tables::petrol();
-    let days = days
-        .iter()
-        .map(|day| format!("ACC's fuel, DataPrimaImm {day}"));
-    let head: Vec<String> = iter::once("BENZINA, directive".to_string())
-        .chain(days)
-        .collect();
-    let head: Vec<&str> = head.iter().map(String::as_str).collect();
-    text += &table(&head, &rows);
+    text += &petrol(&booking_tables::DAYS);
+    text += &petrol(&booking_tables::UNKNOWN_DAYS);
     text += &table(
         &[
             "DIESEL, Turbo",
@@ -165,6 +161,18 @@ fn bookings() -> String {
         ],
         &booking_tables::brakes(),
     )
+}
+
+/// The fuel of the old booking for each of these days.
+fn petrol(days: &[&str]) -> String {
+    let fuels = days
+        .iter()
+        .map(|day| format!("ACC's fuel, DataPrimaImm {day}"));
+    let head: Vec<String> = iter::once("BENZINA, directive".to_string())
+        .chain(fuels)
+        .collect();
+    let head: Vec<&str> = head.iter().map(String::as_str).collect();
+    table(&head, &booking_tables::petrol(days))
 }
 
 fn table(head: &[&str], rows: &[impl AsRef<[String]>]) -> String {

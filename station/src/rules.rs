@@ -14,6 +14,7 @@ use crate::not_as_due::{correction, then_lacking, Correction};
 use crate::reasons::{doubtful, Looked};
 use crate::shown;
 use crate::table;
+use crate::unknown_day::{self, Zeros};
 use crate::words;
 
 /// Refusal 12.
@@ -26,14 +27,11 @@ pub fn booking(refused: &Refused) -> Option<Finding> {
         return Some(doubted(refused, doubt, &found));
     }
     let deciding = deciding(refused, names);
-    let hangs: Vec<String> = deciding.iter().map(Given::words).collect();
-    let behind = match hangs.as_slice() {
-        [] => String::new(),
-        hangs => format!("; this hangs on {}", hangs.join(", ")),
-    };
+    let zeros = unknown_day::zeros(&texts(&deciding));
+    let behind = behind(&deciding) + &count(zeros.as_ref());
     let passing = passing(refused);
     if passing.is_empty() {
-        if let Some(finding) = no_fuel_fits(&deciding, &found) {
+        if let Some(finding) = no_fuel_fits(&deciding, zeros.as_ref(), &found) {
             return Some(finding);
         }
         let rule = words::booking_rule(refused.refusal.file, name)?;
@@ -83,10 +81,7 @@ fn deciding<'a>(refused: &Refused<'a>, names: &[&'static str]) -> Vec<Given<'a>>
         Some(Given { name, line, value })
     });
     let given: Vec<Given> = given.collect();
-    let texts: Vec<(&str, &str)> = given
-        .iter()
-        .filter_map(|given| Some((given.name, std::str::from_utf8(given.value).ok()?)))
-        .collect();
+    let texts = texts(&given);
     let decides = |given: &Given| {
         given.name == fuels::ENTRY || booking_tables::changes_fuel(&texts, given.name)
     };
@@ -96,21 +91,46 @@ fn deciding<'a>(refused: &Refused<'a>, names: &[&'static str]) -> Vec<Given<'a>>
     }
 }
 
+/// Their names and values, for trials.
+fn texts<'a>(given: &[Given<'a>]) -> Vec<(&'static str, &'a str)> {
+    let texts = given.iter();
+    texts
+        .filter_map(|given| Some((given.name, std::str::from_utf8(given.value).ok()?)))
+        .collect()
+}
+
+/// The values that decide, behind what is found.
+fn behind(deciding: &[Given]) -> String {
+    let hangs: Vec<String> = deciding.iter().map(Given::words).collect();
+    match hangs.as_slice() {
+        [] => String::new(),
+        hangs => format!("; this hangs on {}", hangs.join(", ")),
+    }
+}
+
+/// How zeros of the day count, behind these.
+fn count(zeros: Option<&Zeros>) -> String {
+    zeros.map_or(String::new(), |zeros| format!("; {}", zeros.words))
+}
+
 /// Where two values of the new booking leave no fuel for the old one.
-fn no_fuel_fits(deciding: &[Given], found: &str) -> Option<Finding> {
+fn no_fuel_fits(deciding: &[Given], zeros: Option<&Zeros>, found: &str) -> Option<Finding> {
     let others = deciding.iter().filter(|given| given.name != fuels::ENTRY);
     let others: Vec<&Given> = others.collect();
     let [one, other] = others.as_slice() else {
         return None;
     };
     let cause = format!(
-        "{found}, and no value fits here: {} does not go with {} ({}, {})",
+        "{found}, and no value fits here: {} does not go with {} ({}, {}){}",
         shown::value(one.value),
         shown::value(other.value),
         one.words(),
-        other.words()
+        other.words(),
+        count(zeros)
     );
-    let advice = format!("correct AC2 line {} or {}", one.line, other.line);
+    let in_vain = zeros.and_then(|zeros| zeros.in_vain);
+    let in_vain = in_vain.map_or(String::new(), |what| format!("; {what}"));
+    let advice = format!("correct AC2 line {} or {}{in_vain}", one.line, other.line);
     Some(Finding::cause(cause).advice(advice))
 }
 

@@ -1,15 +1,17 @@
 -- A value that passes its kind is read as what it means; a speed entered by hand is told from a measured one; a drift lies between -9999 and 9999. Assumes nothing.
 use mathlib.Core.Path.{_≡_, refl, sym, ap, _∙_}
 use mathlib.Core.Bool.{Bool, true, false, cond, _&&_, false≢true}
-use mathlib.Core.List.{List, [], _∷_}
-use Prim.Native.Nat.{ℕ, zero, suc, _+_, _≤_, zero-le}
+use mathlib.Core.List.{List, [], _∷_, _++_}
+use Prim.Native.Nat.{ℕ, zero, suc, _+_, _-_, _*_, _≤_, min, zero-le}
 use native.Mathlib.Omega.{arith}
-use borrow.Author.Tests.{le-leb, ne-eqb}
+use borrow.Author.Tests.{le-leb, eq-eqb, ne-eqb}
 use lib.Dec.{leb, le→leb}
 use lib.IntN.{ℤ, pos, negsuc, negℤ, natAbs}
 use lib.Signed.{_≤ℤ_, leZ-yes}
-use lib.ListN.{length, getD, take, drop, length-take, length-drop}
+use lib.ListN.{length, getD, take, drop, length-take, length-drop, take-append-drop}
+use lib.Seq.{take-all, drop-drop}
 use Rattle.lines.proofs.Bools.{and-left, and-right}
+use Rattle.lines.proofs.Bytes.{same-is}
 use Rattle.kinds.specs.Kind.{N, D, Deriva, Revs, DataPrimaImm}
 use Rattle.kinds.specs.Digits.{isDigit, allDigits, number, numberFrom}
 use Rattle.kinds.specs.Value.{isNumber, isFixed, pointPlace, isYear, isGregorian, isDay, isFirstDate, isFirstDay, startsWith, isDrift, bare, areDigits, dayOf, monthOf, yearOf, kindOk}
@@ -18,7 +20,7 @@ use Rattle.kinds.specs.declared.NumberRead.the-variants as NumberRead
 use Rattle.kinds.specs.declared.DriftRead.{DriftRead}
 use Rattle.kinds.specs.declared.DriftRead.the-variants as DriftRead
 use Rattle.kinds.specs.declared.RevsRead.the-variants as RevsRead
-use Rattle.kinds.proofs.Laws.{digit, digit-at, FixedPoint, fixed-point, number-long, number-short, number-all, by-test}
+use Rattle.kinds.proofs.Laws.{digit, digit-at, all-take, all-drop, digits-length, digits-all, digits-drop, same-number, FixedPoint, fixed-point, number-long, number-short, number-all, by-test}
 
 module _ (v : List ℕ) where
   pub number-reads : (w : ℕ) → w ≤ 9 → kindOk (N w) v ≡ true → numberRead v ≡ NumberRead.Of (number v)
@@ -75,6 +77,44 @@ two-digits (a ∷ []) h e = omega (arith, digit a (and-left (isDigit a) true e))
 two-digits (a ∷ b ∷ []) h e =
     omega (arith, digit a (and-left (isDigit a) _ e), digit b (and-left (isDigit b) true (and-right (isDigit a) (isDigit b && true) e)))
 two-digits (a ∷ b ∷ x ∷ l) h e = absurd (omega arith)
+
+-- ---- dates by their number yyyymmdd
+
+module _ (v : List ℕ) (e : areDigits 8 v ≡ true) where
+  pub day-most : dayOf v ≤ 99
+  day-most = two-digits (take 2 v) (simp length-take (omega arith)) (all-take 2 v (digits-all 8 v e))
+
+  pub month-most : monthOf v ≤ 99
+  month-most = two-digits (take 2 (drop 2 v)) (simp length-take (omega arith)) (all-take 2 (drop 2 v) (all-drop 2 v (digits-all 8 v e)))
+
+  -- day, month and year are all of it
+  date-parts : take 2 v ++ (take 2 (drop 2 v) ++ take 4 (drop 4 v)) ≡ v
+  date-parts =
+      let year : take 4 (drop 4 v) ≡ drop 4 v = take-all 4 (drop 4 v) (omega (arith, digits-length 4 (drop 4 v) (digits-drop 8 v e 4))) in
+      rw (year, ← (drop-drop 2 2 v), take-append-drop 2 (drop 2 v)) (take-append-drop 2 v)
+
+  part-spelt : (at count : ℕ) → at + count ≤ 8 → areDigits count (take count (drop at v)) ≡ true
+  unfolding areDigits
+  part-spelt at count h =
+      rw (length-take, length-drop, digits-length 8 v e, eq-eqb (min count (8 - at)) count (omega arith)) (all-take count (drop at v) (all-drop at v (digits-all 8 v e)))
+
+-- day and month have two digits each, so the number yyyymmdd keeps all three apart
+pub parts-told : (d m y e n z : ℕ) → d ≤ 99 → m ≤ 99 → e ≤ 99 → n ≤ 99 → y * 10000 + m * 100 + d ≡ z * 10000 + n * 100 + e → (d ≡ e) × (m ≡ n) × (y ≡ z)
+parts-told d m y e n z hd hm he hn q = (omega arith, omega arith, omega arith)
+
+-- two dates that have one number are the same
+pub same-date : (s t : List ℕ) → areDigits 8 s ≡ true → areDigits 8 t ≡ true → dayNumber s ≡ dayNumber t → s ≡ t
+unfolding dayNumber
+same-date s t p q e =
+    let part : (at count : ℕ) → at + count ≤ 8 → number (take count (drop at s)) ≡ number (take count (drop at t)) → take count (drop at s) ≡ take count (drop at t) =
+    λ at count h n. same-is _ _ (same-number count _ _ (part-spelt s p at count h) (part-spelt t q at count h) ∙ eq-eqb _ _ n) in
+    let told = parts-told (dayOf s) (monthOf s) (yearOf s) (dayOf t) (monthOf t) (yearOf t) (day-most s p) (month-most s p) (day-most t q) (month-most t q) e in
+    let day : take 2 s ≡ take 2 t = part 0 2 (omega arith) (told .0) in
+    let month : take 2 (drop 2 s) ≡ take 2 (drop 2 t) = part 2 2 (omega arith) (told .1) in
+    let year : take 4 (drop 4 s) ≡ take 4 (drop 4 t) = part 4 4 (omega arith) (told .2) in
+    cc (date-parts s p, date-parts t q)
+
+-- ---- drifts
 
 hundredths-most : (v : List ℕ) → isFixed 2 5 v ≡ true → hundredths v ≤ 9999
 unfolding hundredths

@@ -16,19 +16,19 @@ use Rattle.kinds.specs.Digits.{number}
 use Rattle.kinds.specs.Value.{isNumber, isFirstDay, wordIndex, isWord, areDigits, yearOf, kindOk}
 use Rattle.kinds.specs.Meaning.{dayNumber}
 use Rattle.kinds.proofs.Laws.{and-true, by-test, digits-length, digits-drop, same-number}
-use Rattle.kinds.proofs.Readings.{number-reads, first-day-reads}
+use Rattle.kinds.proofs.Readings.{number-reads}
 use Rattle.tables.specs.File.{File, ac2, acc}
 use Rattle.tables.specs.Value.{of}
 use Rattle.due.specs.Booking.{isL, isPetrol, fuelIn, bookingIn}
 use Rattle.due.specs.declared.Fuel.the-variants.{Petrol, Diesel, OtherFuel}
 use Rattle.rules.specs.Rule.{Rule, allHold, firstBroken}
-use Rattle.rules.specs.Bookings.{parkingBrakeFits, descriptionsOf, descriptions, yearFits, directiveOf, periodAt, periodOf, petrolWord, petrolFits, dieselFits, fuelFits, oldBrakeFits, numberIs, countOf, parkingAxlesFit, oldRules}
+use Rattle.rules.specs.Bookings.{parkingBrakeFits, descriptionsOf, descriptions, yearFits, directiveOf, periodAt, comparedDate, periodOf, petrolWord, petrolFits, dieselFits, fuelFits, oldBrakeFits, numberIs, countOf, parkingAxlesFit, oldRules}
 use Rattle.rules.specs.Differences.{difference, differenceFits}
 use Rattle.rules.specs.Identification.{sameFields}
 use Rattle.rules.specs.declared.BrokenRule.{BrokenRule}
 use Rattle.rules.specs.declared.RuleCheck.{RuleCheck}
 use Rattle.rules.specs.declared.RuleCheck.the-variants.{Kept, Broken}
-use Rattle.rules.proofs.Tests.{word-here, word-later, word-last, number-of, day-of}
+use Rattle.rules.proofs.Tests.{word-here, word-later, word-last, number-of}
 
 -- ---- the first broken rule
 
@@ -115,9 +115,10 @@ unfolding differenceFits
 difference-is l r d el er ed =
     rw (number-kept 2 l (omega arith) el, number-kept 2 r (omega arith) er) (number-is 2 d (difference (number l) (number r)) (omega arith) ed)
 
--- the fuel dates compare as the number yyyymmdd
-pub period-is : (v : List ℕ) → kindOk DataPrimaImm v ≡ true → periodOf v ≡ periodAt (dayNumber v)
-period-is v e = day-of v (dayNumber v) (first-day-reads v e)
+-- the date as it counts is compared as the number yyyymmdd
+pub period-is : (v : List ℕ) → kindOk DataPrimaImm v ≡ true → periodOf v ≡ periodAt (dayNumber (comparedDate v))
+unfolding kindOk periodOf
+period-is v e = rw e refl
 
 -- ---- the rules of bookings, in plain terms (01, Bookings)
 
@@ -142,19 +143,19 @@ year-is date year d y =
     rw (take-all 4 (drop 4 date) (omega (arith, digits-length 4 (drop 4 date) e))) (same-number 4 year (drop 4 date) y e)
 
 -- "with 91/441/CEE or 98/69/CE "BENZINA CAT"; with RT1902 or NESSUNA before 01/10/1986 "BENZINA<86"; with RT1902 from then
--- and before 01/07/2002 "BENZINA NO CAT"; else no value fits", the day as the number yyyymmdd
+-- and before 01/07/2002 "BENZINA NO CAT"; else no value fits", the date as it counts, as the number yyyymmdd
 pub petrol-words : (date old : List ℕ) → kindOk DataPrimaImm date ≡ true
     → (petrolFits (petrolWord (directiveOf (bytes "91/441/CEE")) (periodOf date)) old ≡ sameBytes old (bytes "BENZINA CAT"))
     × (petrolFits (petrolWord (directiveOf (bytes "98/69/CE")) (periodOf date)) old ≡ sameBytes old (bytes "BENZINA CAT"))
     × (petrolFits (petrolWord (directiveOf (bytes "RT1902")) (periodOf date)) old
-    ≡ cond (ltb (dayNumber date) 19861001) (sameBytes old (bytes "BENZINA<86")) (ltb (dayNumber date) 20020701 && sameBytes old (bytes "BENZINA NO CAT")))
-    × (petrolFits (petrolWord (directiveOf (bytes "NESSUNA")) (periodOf date)) old ≡ (ltb (dayNumber date) 19861001 && sameBytes old (bytes "BENZINA<86")))
+    ≡ cond (ltb (dayNumber (comparedDate date)) 19861001) (sameBytes old (bytes "BENZINA<86")) (ltb (dayNumber (comparedDate date)) 20020701 && sameBytes old (bytes "BENZINA NO CAT")))
+    × (petrolFits (petrolWord (directiveOf (bytes "NESSUNA")) (periodOf date)) old ≡ (ltb (dayNumber (comparedDate date)) 19861001 && sameBytes old (bytes "BENZINA<86")))
 unfolding directiveOf wordIndex words sameBytes periodAt
 petrol-words date old d =
     rw (period-is date d)
-    (by-test (ltb (dayNumber date) 19861001)
+    (by-test (ltb (dayNumber (comparedDate date)) 19861001)
     (λ h. rw h (refl, refl, refl, refl))
-    (λ h. by-test (ltb (dayNumber date) 20020701) (λ k. rw (h, k) (refl, refl, refl, refl)) (λ k. rw (h, k) (refl, refl, refl, refl))))
+    (λ h. by-test (ltb (dayNumber (comparedDate date)) 20020701) (λ k. rw (h, k) (refl, refl, refl, refl)) (λ k. rw (h, k) (refl, refl, refl, refl))))
 
 -- "Turbo S "DIESEL TURBO COMPRESSO"; else by AC2's CorrettorePressione, N .., S .."
 pub diesel-words : (corrector old : List ℕ)
@@ -163,6 +164,12 @@ pub diesel-words : (corrector old : List ℕ)
     × (dieselFits (bytes "N") (bytes "S") old ≡ sameBytes old (bytes "DIESEL ASPIRATO CON CORRETTORE"))
 unfolding dieselFits sameBytes
 diesel-words corrector old = (refl, refl, refl)
+
+-- "where AC2 has BENZINA": by its directive and day
+pub petrol-fuel : (a : List (List ℕ)) (old : List ℕ) → of ac2 a "Alimentazione_1" ≡ bytes "BENZINA"
+    → fuelFits a old ≡ petrolFits (petrolWord (directiveOf (of ac2 a "DirettivaEmissioniGasBenzinaAuto")) (periodOf (of ac2 a "DataPrimaImm"))) old
+unfolding fuelFits bookingIn fuelIn
+petrol-fuel a old p = rw (p, same-refl (bytes "BENZINA")) refl
 
 -- "Else the same bytes": of a fuel that is neither
 pub other-fuel : (a : List (List ℕ)) (old : List ℕ) → (of ac2 a "Alimentazione_1" ≡ bytes "BENZINA" → ⊥) → (of ac2 a "Alimentazione_1" ≡ bytes "DIESEL" → ⊥)
@@ -205,6 +212,15 @@ old-rules-are a o day year axles =
       year-is (of ac2 a "DataPrimaImm") (of acc o "AnnoPrimaImm") day year,
       parking-axles-are (of ac2 a "PosAssiStaz") (of acc o "NumAssiStazionamento") axles,
     ) refl
+
+-- where all six hold, the fuel of ACC fits AC2's values
+pub fuel-kept : (a o : List (List ℕ)) → allHold (oldRules a o) ≡ true → fuelFits a (of acc o "Alimentazione_1") ≡ true
+unfolding allHold oldRules
+fuel-kept a o e =
+    and-left (fuelFits a (of acc o "Alimentazione_1")) _
+    (and-right (yearFits (of ac2 a "DataPrimaImm") (of acc o "AnnoPrimaImm")) _
+    (and-right (isWord (descriptions (descriptionsOf (bookingIn a .category))) (of acc o "DescrizioneVeicolo")) _
+    (and-right (sameBytes (of acc o "TipoVeicolo") (of ac2 a "TipoVeicolo")) _ e)))
 
 -- ---- "AC2 has BENZINA"
 

@@ -22,7 +22,7 @@ use Rattle.tables.specs.File.{ac2, suspension, fixedSections, axleEntries, axle
 use Rattle.tables.specs.Value.{placeOf, axlePlaceOf}
 use Rattle.due.specs.Booking.{isM, isN, isO, isL, fuelIn, isLate, bookingIn}
 use Rattle.rules.specs.Rule.{broken, firstBroken}
-use Rattle.rules.specs.Bookings.{typeOf, parkingBrakeFits, newRules, descriptionsOf, directiveOf, periodAt, periodOf, petrolWord, petrolFits, numberIs}
+use Rattle.rules.specs.Bookings.{typeOf, parkingBrakeFits, newRules, descriptionsOf, directiveOf, periodAt, comparedDate, periodOf, petrolWord, petrolFits, numberIs}
 use Rattle.rules.specs.Differences.{differenceFits, differencesFrom}
 use Rattle.rules.specs.Slices.{goodStem, statedOf, oldBookingRight}
 use Rattle.rules.specs.declared.VehicleType.the-variants.{Leggero, Pesante, Motoveicolo}
@@ -36,25 +36,41 @@ fits directive date old = petrolFits (petrolWord (directiveOf directive) (period
 -- RT1902 with 30091986 BENZINA<86, 01101986 BENZINA NO CAT, 01072002 none
 module _ (old : List ℕ) where
   pub before-1986 : fits (bytes "RT1902") (bytes "30091986") old ≡ sameBytes old (bytes "BENZINA<86")
-  unfolding directiveOf wordIndex words periodOf periodAt sameBytes isFirstDay areDigits allDigits isFirstDate isYear isGregorian daysIn isLeap dayNumber numberFrom
+  unfolding directiveOf wordIndex words periodOf periodAt comparedDate sameBytes isFirstDay areDigits allDigits isFirstDate isYear isGregorian daysIn isLeap dayNumber numberFrom
   before-1986 = refl
 
   pub from-1986 : fits (bytes "RT1902") (bytes "01101986") old ≡ sameBytes old (bytes "BENZINA NO CAT")
-  unfolding directiveOf wordIndex words periodOf periodAt sameBytes isFirstDay areDigits allDigits isFirstDate isYear isGregorian daysIn isLeap dayNumber numberFrom
+  unfolding directiveOf wordIndex words periodOf periodAt comparedDate sameBytes isFirstDay areDigits allDigits isFirstDate isYear isGregorian daysIn isLeap dayNumber numberFrom
   from-1986 = refl
 
   pub from-2002 : fits (bytes "RT1902") (bytes "01072002") old ≡ false
-  unfolding directiveOf wordIndex words periodOf periodAt sameBytes isFirstDay areDigits allDigits isFirstDate isYear isGregorian daysIn isLeap dayNumber numberFrom
+  unfolding directiveOf wordIndex words periodOf periodAt comparedDate sameBytes isFirstDay areDigits allDigits isFirstDate isYear isGregorian daysIn isLeap dayNumber numberFrom
   from-2002 = refl
 
-  -- zeros included: day 00 of October 1986 is before 01/10/1986; and NESSUNA from then has no word
-  pub unknown-day : fits (bytes "NESSUNA") (bytes "00101986") old ≡ sameBytes old (bytes "BENZINA<86")
-  unfolding directiveOf wordIndex words periodOf periodAt sameBytes isFirstDay areDigits allDigits isFirstDate isYear isGregorian daysIn isLeap dayNumber numberFrom
-  unknown-day = refl
-
   pub nessuna-later : fits (bytes "NESSUNA") (bytes "01101986") old ≡ false
-  unfolding directiveOf wordIndex words periodOf periodAt sameBytes isFirstDay areDigits allDigits isFirstDate isYear isGregorian daysIn isLeap dayNumber numberFrom
+  unfolding directiveOf wordIndex words periodOf periodAt comparedDate sameBytes isFirstDay areDigits allDigits isFirstDate isYear isGregorian daysIn isLeap dayNumber numberFrom
   nessuna-later = refl
+
+  -- 02, 3/14: unknown days about the two dates, with RT1902 and with NESSUNA
+  pub unknown-days :
+      (fits (bytes "RT1902") (bytes "00101986") old ≡ sameBytes old (bytes "BENZINA NO CAT"))
+      × (fits (bytes "RT1902") (bytes "00091986") old ≡ sameBytes old (bytes "BENZINA<86"))
+      × (fits (bytes "RT1902") (bytes "00001986") old ≡ sameBytes old (bytes "BENZINA<86"))
+      × (fits (bytes "RT1902") (bytes "00072002") old ≡ false)
+      × (fits (bytes "RT1902") (bytes "00002002") old ≡ sameBytes old (bytes "BENZINA NO CAT"))
+      × (fits (bytes "NESSUNA") (bytes "00101986") old ≡ false)
+      × (fits (bytes "NESSUNA") (bytes "00091986") old ≡ sameBytes old (bytes "BENZINA<86"))
+      × (fits (bytes "NESSUNA") (bytes "00001986") old ≡ sameBytes old (bytes "BENZINA<86"))
+      × (fits (bytes "NESSUNA") (bytes "00072002") old ≡ false)
+      × (fits (bytes "NESSUNA") (bytes "00002002") old ≡ false)
+  unfolding directiveOf wordIndex words periodOf periodAt comparedDate sameBytes isFirstDay areDigits allDigits isFirstDate isYear isGregorian daysIn isLeap dayNumber numberFrom
+  unknown-days = (refl, refl, refl, refl, refl, refl, refl, refl, refl, refl)
+
+-- "day 00 with a known month counts as day 01 ..; 00001986 remains before"
+pub counts-as : (comparedDate (bytes "00101986") ≡ bytes "01101986") × (comparedDate (bytes "00001986") ≡ bytes "00001986")
+    × (comparedDate (bytes "30091986") ≡ bytes "30091986")
+unfolding comparedDate numberFrom
+counts-as = (refl, refl, refl)
 
 -- 01, Established samples: "Together, as a single statement"
 pub established :

@@ -16,7 +16,7 @@ use Rattle.kinds.specs.Meaning.{numberRead, dayRead, dayNumber}
 use Rattle.kinds.proofs.Laws.{by-test}
 use Rattle.kinds.specs.declared.NumberRead.{NumberRead}
 use Rattle.kinds.specs.declared.NumberRead.the-variants as NumberRead
-use Rattle.rules.specs.Bookings.{directiveOf, countOf, periodOf, periodAt}
+use Rattle.rules.specs.Bookings.{directiveOf, countOf, periodOf}
 use Rattle.rules.specs.declared.Directive.the-variants.{Nessuna, Rt1902, Catalyst, NoDirective}
 use Rattle.rules.specs.declared.Period.the-variants.{Later}
 
@@ -65,7 +65,7 @@ read-test : (t : Bool) (n : ℕ) → isOf (cond t (NumberRead.Of n) NumberRead.W
 read-test true n = refl
 read-test false n = refl
 
-read-of : (t : Bool) (n m : ℕ) → cond t (NumberRead.Of n) NumberRead.Wrong ≡ NumberRead.Of m → (t ≡ true) × (n ≡ m)
+pub read-of : (t : Bool) (n m : ℕ) → cond t (NumberRead.Of n) NumberRead.Wrong ≡ NumberRead.Of m → (t ≡ true) × (n ≡ m)
 read-of true n m e = (refl, ap readAs e)
 read-of false n m e = absurd (true≢false (sym (ap isOf e)))
 
@@ -76,10 +76,6 @@ number-of v m e = read-of (isNumber 9 v) (number v) m e
 pub no-number : (v : List ℕ) → numberRead v ≡ NumberRead.Wrong → isNumber 9 v ≡ false
 unfolding numberRead
 no-number v e = sym (read-test (isNumber 9 v) (number v)) ∙ ap isOf e
-
-pub day-of : (v : List ℕ) (m : ℕ) → dayRead v ≡ NumberRead.Of m → periodOf v ≡ periodAt m
-unfolding dayRead periodOf
-day-of v m e = let r = read-of (isFirstDay v) (dayNumber v) m e in rw (r .0, r .1) refl
 
 pub no-day : (v : List ℕ) → dayRead v ≡ NumberRead.Wrong → periodOf v ≡ Later
 unfolding dayRead periodOf

@@ -2,14 +2,14 @@
 use Prim.Native.Nat.{ℕ, suc}
 use Prim.Native.String.{String}
 use mathlib.Core.Bool.{Bool, false, cond, not, _&&_, _||_}
-use mathlib.Core.List.{List, [], _∷_}
+use mathlib.Core.List.{List, [], _∷_, _++_}
 use lib.Dec.{eqb, ltb}
 use lib.ListN.{getD, drop}
 use Rattle.lines.specs.Bytes.{sameBytes}
 use Rattle.lines.specs.Text.{bytes}
 use Rattle.kinds.specs.Digits.{number}
 use Rattle.kinds.specs.Kind.{words, petrolDirectives}
-use Rattle.kinds.specs.Value.{wordIndex, isWord, isNumber, isFirstDay}
+use Rattle.kinds.specs.Value.{wordIndex, isWord, isNumber, isFirstDay, dayOf, monthOf}
 use Rattle.kinds.specs.Meaning.{dayNumber}
 use Rattle.refusals.specs.declared.RefusalKind.the-variants.{BookingRule}
 use Rattle.tables.specs.File.{ac2, acc}
@@ -92,9 +92,16 @@ directiveOf v = getD (Nessuna ∷ Rt1902 ∷ Catalyst ∷ Catalyst ∷ []) (word
 unfoldable pub periodAt : ℕ → Period
 periodAt day = cond (ltb day 19861001) Before1986 (cond (ltb day 20020701) Before2002 Later)
 
+-- 02, 3/14: "day 00 with a known month counts as day 01 when compared with the two fuel dates; 00001986 remains before"
+abbrev pub isUnknownDay : ℕ → ℕ → Bool
+isUnknownDay day month = eqb day 0 && not (eqb month 0)
+
+unfoldable pub comparedDate : List ℕ → List ℕ
+comparedDate v = cond (isUnknownDay (dayOf v) (monthOf v)) (bytes "01" ++ drop 2 v) v
+
 -- the period of a value of DataPrimaImm; a value that is no such day is before neither date (9 refuses it)
 unfoldable pub periodOf : List ℕ → Period
-periodOf v = cond (isFirstDay v) (periodAt (dayNumber v)) Later
+periodOf v = cond (isFirstDay v) (periodAt (dayNumber (comparedDate v))) Later
 
 -- "with 91/441/CEE or 98/69/CE "BENZINA CAT"; with RT1902 or NESSUNA before 01/10/1986 "BENZINA<86"; with RT1902 from then
 -- and before 01/07/2002 "BENZINA NO CAT"; else no value fits"

@@ -1,16 +1,18 @@
 // The rules of bookings (01, Bookings; row 12): AC2's own, and ACC against AC2. Each test is of values.
 ghost use mathlib.Core.Path.{_≡_};
 ghost use mathlib.Core.Bool.{cond};
-ghost use mathlib.Core.List.{[], _∷_};
-ghost use Prim.Native.Nat.{_-_, _≤_};
+ghost use mathlib.Core.List.{List, [], _∷_};
+ghost use Prim.Native.Nat.{ℕ, _-_, _≤_};
 ghost use lib.Dec.{eqb};
 ghost use Rattle.kinds.specs.Value.{isWord};
+ghost use Rattle.kinds.specs.Meaning.{dayRead};
+ghost use Rattle.kinds.specs.declared.NumberRead.{NumberRead};
 ghost use Rattle.tables.specs.File.{ac2, acc};
 ghost use Rattle.tables.specs.Value.{valuesOf, Held};
 ghost use Rattle.due.specs.Values.{newValues};
 ghost use Rattle.due.specs.Booking.{bookingIn};
 ghost use Rattle.rules.specs.Rule.{broken, firstBroken};
-ghost use Rattle.rules.specs.Bookings.{typeOf, typeIs, parkingBrakeFits, descriptionsOf, descriptions, yearFits, directiveOf, periodAt, periodOf, petrolWord, petrolFits, dieselFits, fuelFits, oldBrakeFits, numberIs, countOf, specialWords, parkingAxlesFit, newRules, oldRules};
+ghost use Rattle.rules.specs.Bookings.{typeOf, typeIs, parkingBrakeFits, descriptionsOf, descriptions, yearFits, directiveOf, periodOf, petrolWord, petrolFits, dieselFits, fuelFits, oldBrakeFits, numberIs, countOf, specialWords, parkingAxlesFit, newRules, oldRules};
 ghost use Rattle.rules.specs.declared.Directive.{Directive};
 ghost use Rattle.refusals.specs.declared.RefusalKind.{RefusalKind};
 use crate::BrokenRule;
@@ -201,14 +203,15 @@ fn directive_of(value: &[u8]) -> Directive
     }
 }
 
-// Of a day as the number yyyymmdd.
+// Of every value that reads as this day, the number yyyymmdd. Both fuel dates are the first of their month, and day 00 counts as
+// that day: so the month decides, and a date's month begins with its day 00.
 fn period_at(day: u32) -> Period
-    ensures { λ r. ⌜ r ≡ periodAt day ⌝ }
+    ensures { λ r. ⌜ ((v : List ℕ) → dayRead v ≡ NumberRead.Of day → r ≡ periodOf v) ⌝ }
 {
-    if day < 19861001 {
+    if day < 19861000 {
         return Period::Before1986;
     }
-    if day < 20020701 {
+    if day < 20020700 {
         return Period::Before2002;
     }
     Period::Later

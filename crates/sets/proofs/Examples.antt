@@ -1,7 +1,7 @@
 -- Lawful records are there: three of them, each with a set that it fits, by computation; and sets that none fits. Assumes nothing.
 use Prim.Native.Nat.{ℕ}
 use Prim.Native.String.{String}
-use mathlib.Core.Path.{_≡_, refl, ap, _∙_, subst}
+use mathlib.Core.Path.{_≡_, refl, sym, ap, _∙_, subst}
 use mathlib.Core.Bool.{true, false}
 use mathlib.Core.List.{List, [], _∷_, _++_, map}
 use lib.Dec.{leb}
@@ -9,12 +9,15 @@ use lib.ListN.{length}
 use Rattle.lines.specs.Text.{bytes}
 use Rattle.lines.proofs.Texts.{laid-out}
 use Rattle.lines.proofs.Bools.{clash}
+use Rattle.lines.proofs.Bytes.{same-is}
 use Rattle.refusals.specs.Answer.{acceptance}
 use Rattle.places.specs.Places.{Pair, valueAt}
 use Rattle.reading.specs.Tables.{mostBytes}
 use Rattle.files.specs.Files.{readBy, readFile, axlesOf}
 use Rattle.files.proofs.Theorem.{file-unique}
 use Rattle.rules.specs.declared.Stated.{Stated}
+use Rattle.rules.proofs.Laws.{petrol-fuel, fuel-kept}
+use Rattle.rules.proofs.Samples.{unknown-days}
 use Rattle.lines.specs.Bytes.{sameBytes, allPrintable, without}
 use Rattle.lines.specs.Line.{Line, heading, entry, textOf, wellFormed, allWellFormed}
 use Rattle.lines.specs.Layout.{Layout, layoutOf}
@@ -26,19 +29,19 @@ use Rattle.tables.specs.Section.{entriesOf}
 use Rattle.tables.specs.Entries.{newBooking, oldBooking, tester, protocol, measurement, sixteen, driftAxle, suspensionAxle, analyser, counter, speedTest, allKeyDates, allKeyBodies, analysis, fuelAnalysis, opacimeter, opacityTest, opacityKeys, opacityAnalysis}
 use Rattle.tables.specs.File.{File, ac2, acc, drift, suspension, gas, opacity, allSections, fixedSections, axleEntries, axlesFrom, axleSections, sections, leastSections, entries}
 use Rattle.tables.specs.Row.{rowCount, rowAt}
-use Rattle.tables.specs.Value.{placeOf, axlePlaceOf}
+use Rattle.tables.specs.Value.{of, placeOf, axlePlaceOf}
 use Rattle.reading.specs.Reading.{Reading, read, refused, readScan, readText, emptySlots, scan, firstWrong, firstAbsent, ownerRow}
 use Rattle.due.specs.Booking.{isM, isN, isO, isL, fuelIn, isLate, bookingIn}
 use Rattle.due.specs.Conditions.{versionIn, isSerialLink, linksIn, conditionsOf}
 use Rattle.due.specs.Due.{exceptions, conditionOf, conditionAt, isMoped, isMotorcycle, isMorN, conditionP, holdsIn, dueOf, firstNotAsDueFrom, firstNotAsDue}
 use Rattle.rules.specs.Rule.{firstBroken}
 use Rattle.rules.specs.Rules.{rulesOf}
-use Rattle.rules.specs.Bookings.{typeOf, parkingBrakeFits, newRules, descriptionsOf, yearFits, directiveOf, periodAt, periodOf, dieselFits, fuelFits, oldBrakeFits, numberIs, countOf, parkingAxlesFit, oldRules}
+use Rattle.rules.specs.Bookings.{typeOf, parkingBrakeFits, newRules, descriptionsOf, yearFits, directiveOf, periodAt, comparedDate, periodOf, dieselFits, fuelFits, oldBrakeFits, numberIs, countOf, parkingAxlesFit, oldRules}
 use Rattle.rules.specs.Differences.{differenceFits, differencesFrom}
 use Rattle.rules.specs.Slices.{statedOf, oldBookingRight, opacityDue, sliceRight, isRead, identificationRight}
 use Rattle.rules.specs.Identification.{sevenOf}
 use Rattle.serial.specs.Identification.{separated, sum, hexDigit, checksum, identificationOf, addressOk, fieldOk, allFieldsOk, sevenOk}
-use Rattle.sets.specs.Records.{Slices, eachFile, slicesOf, isGiven, Record, Lawful, Fits}
+use Rattle.sets.specs.Records.{Slices, eachFile, slicesOf, isGiven, Record, Read, Lawful, Fits}
 use Rattle.sets.specs.Judge.{passed, fileChecks, firstFailed, FileRead, notRead, judgeFile, judgeIdentification, SetRead}
 use Rattle.sets.proofs.File.{file-sound, file-accepted}
 use Rattle.sets.proofs.Identification.{identification-sound, identification-complete}
@@ -145,7 +148,8 @@ motorcycleRecord = record {
   address = [];
 }
 
--- ---- a petrol car with slices 1 to 6: RS SENZA ESITO, version 210, CodErrore filled in drift, sections and entries in another order
+-- ---- a petrol car with slices 1 to 6: RS SENZA ESITO, version 210, CodErrore filled in drift, sections and entries in another order; of
+-- document 02: the day of October 1986 is not known
 
 abbrev pub carNew : List Line
 carNew =
@@ -156,32 +160,32 @@ carNew =
     e "TargaNominale" "AB123CD" ∷
     e "Turbo" "" ∷
     e "PosAssiStaz" "NSNNNNNNN" ∷
-    e "DataPrimaImm" "15062005" ∷
+    e "DataPrimaImm" "00101986" ∷
     e "Alimentazione_1" "BENZINA" ∷
     e "CategoriaInternazionale" "M1" ∷
-    e "DirettivaEmissioniGasBenzinaAuto" "98/69/CE" ∷
+    e "DirettivaEmissioniGasBenzinaAuto" "RT1902" ∷
     e "DirettivaEmissioniGasMotociclo" "" ∷
     e "CodiceCIC" "" ∷ []
 
 abbrev pub carNewValues : List (List ℕ)
 carNewValues =
     map bytes (
-    "AB123CD" ∷ "LEGGERO" ∷ "M1" ∷ "" ∷ "15062005" ∷ "BENZINA" ∷ "" ∷ "" ∷ "98/69/CE" ∷ "" ∷ "MANO" ∷ "NSNNNNNNN" ∷ [])
+    "AB123CD" ∷ "LEGGERO" ∷ "M1" ∷ "" ∷ "00101986" ∷ "BENZINA" ∷ "" ∷ "" ∷ "RT1902" ∷ "" ∷ "MANO" ∷ "NSNNNNNNN" ∷ [])
 
 abbrev pub carOld : List Line
 carOld =
     h "[DatiLibrettoVeicolo]" ∷
-    e "Alimentazione_1" "BENZINA CAT" ∷
+    e "Alimentazione_1" "BENZINA NO CAT" ∷
     e "NumAssiStazionamento" "1" ∷
     e "FrenoStazionamento" "MANO" ∷
     e "TipoVeicolo" "LEGGERO" ∷
-    e "AnnoPrimaImm" "2005" ∷
+    e "AnnoPrimaImm" "1986" ∷
     e "DescrizioneVeicolo" "AUTOVETTURA" ∷ []
 
 abbrev pub carOldValues : List (List ℕ)
 carOldValues =
     map bytes (
-    "LEGGERO" ∷ "AUTOVETTURA" ∷ "2005" ∷ "BENZINA CAT" ∷ "MANO" ∷ "1" ∷ [])
+    "LEGGERO" ∷ "AUTOVETTURA" ∷ "1986" ∷ "BENZINA NO CAT" ∷ "MANO" ∷ "1" ∷ [])
 
 abbrev pub carDrift : List Line
 carDrift =
@@ -249,7 +253,7 @@ carGas =
     e "O2Min" "0.10" ∷
     e "NumGiriMotoreMin" "#850" ∷
     e "COMin" "0.012" ∷
-    e "COMinAcc" "0.010" ∷
+    e "COMinAcc" "" ∷
     e "HCMin" "25" ∷
     e "CO2Min" "14.80" ∷
     e "COCorrettoMin" "0.015" ∷
@@ -308,7 +312,7 @@ carGasValues =
     "" ∷ "" ∷ "" ∷ "" ∷ "210" ∷ "01012020" ∷ "RS SENZA ESITO" ∷ "C1" ∷ "AB12C" ∷ "01022023" ∷ "" ∷ "" ∷ "" ∷ "" ∷ "" ∷
     "MIGfMA0GCSqGSIb3DQEBAQUAA4GNADCBiQKBgQC7MIGfMA0GCSqGSIb3DQEBAQUAA4GNADCBiQKBgQC7MIGfMA0GCSqGSIb3DQEBAQUAA4GNADCBiQKBgQC7MIGfMA0GCSqGSIb3DQEBAQUAA4GNADCBiQKBgQC7MIGfMA0GCSqG" ∷
     "AQAB" ∷ "" ∷ "" ∷ "" ∷ "" ∷ "" ∷ "" ∷ "" ∷ "02032024" ∷ "101500" ∷ "102000" ∷ "ROSSI" ∷ "0.012" ∷ "0.015" ∷ "14.80" ∷ "25" ∷ "0.10" ∷ "#850" ∷
-    "0.010" ∷ [])
+    "" ∷ [])
 
 abbrev pub carStem : List ℕ
 carStem = bytes "AB123456"
@@ -474,7 +478,7 @@ computed :
     × (judgeFile gas vanStated vanNewValues [] ≡ acceptance notRead)
     × Computed opacity vanStated vanNewValues vanOpacity 1 vanOpacityValues
     × (opacityDue (bookingIn vanNewValues) ≡ true)
-unfolding sameBytes allPrintable without textOf wellFormed allWellFormed layoutOf words allDigits numberFrom dayNumber isString isExact isNumber isFixed isLeap daysIn isYear isGregorian areDigits isDay isTime wordIndex isWord startsWith isDrift bare isTemperature isPlate isFirstDate isFirstDay allSorN isPositions kindOk kindKept entriesOf newBooking oldBooking tester protocol measurement sixteen driftAxle suspensionAxle analyser counter speedTest allKeyDates allKeyBodies analysis fuelAnalysis opacimeter opacityTest opacityKeys opacityAnalysis fixedSections axleEntries axlesFrom axleSections sections leastSections entries rowCount rowAt placeOf axlePlaceOf scan firstWrong firstAbsent ownerRow isM isN isO isL fuelIn isLate bookingIn versionIn linksIn conditionsOf exceptions conditionOf conditionAt isMoped isMotorcycle isMorN conditionP holdsIn dueOf firstNotAsDueFrom firstNotAsDue firstBroken rulesOf typeOf parkingBrakeFits newRules descriptionsOf yearFits directiveOf periodAt periodOf dieselFits fuelFits oldBrakeFits numberIs countOf parkingAxlesFit oldRules differenceFits differencesFrom statedOf oldBookingRight opacityDue sliceRight isRead isSerialLink identificationRight sevenOf separated sum hexDigit checksum identificationOf addressOk fieldOk allFieldsOk sevenOk judgeFile judgeIdentification
+unfolding sameBytes allPrintable without textOf wellFormed allWellFormed layoutOf words allDigits numberFrom dayNumber isString isExact isNumber isFixed isLeap daysIn isYear isGregorian areDigits isDay isTime wordIndex isWord startsWith isDrift bare isTemperature isPlate isFirstDate isFirstDay allSorN isPositions kindOk kindKept entriesOf newBooking oldBooking tester protocol measurement sixteen driftAxle suspensionAxle analyser counter speedTest allKeyDates allKeyBodies analysis fuelAnalysis opacimeter opacityTest opacityKeys opacityAnalysis fixedSections axleEntries axlesFrom axleSections sections leastSections entries rowCount rowAt placeOf axlePlaceOf scan firstWrong firstAbsent ownerRow isM isN isO isL fuelIn isLate bookingIn versionIn linksIn conditionsOf exceptions conditionOf conditionAt isMoped isMotorcycle isMorN conditionP holdsIn dueOf firstNotAsDueFrom firstNotAsDue firstBroken rulesOf typeOf parkingBrakeFits newRules descriptionsOf yearFits directiveOf periodAt comparedDate periodOf dieselFits fuelFits oldBrakeFits numberIs countOf parkingAxlesFit oldRules differenceFits differencesFrom statedOf oldBookingRight opacityDue sliceRight isRead isSerialLink identificationRight sevenOf separated sum hexDigit checksum identificationOf addressOk fieldOk allFieldsOk sevenOk judgeFile judgeIdentification
 computed = (
   record { slice = refl; is-read = refl; well-formed = refl; short = refl; reads = refl; values = refl; checks = refl },
   refl,
@@ -575,3 +579,15 @@ van-without st r s new none l f =
     let vans = file-of vanStated vanSet vanRecord (van-lawful .0) (van-lawful .1) ac2 refl .1 in
     let same : r .values ac2 ≡ vanNewValues = file-unique ac2 _ _ _ _ _ (rw new at mine) vans .1 in
     without-opacity st r s none (rw same (computed .23)) l f
+
+-- 02, 3/14: whose AC2 has BENZINA, RT1902 and 00101986 has BENZINA NO CAT in ACC, where it is read: with BENZINA<86 none fits, in any
+-- order of the lines
+pub unknown-day-fuel : (st : Stated) (r : Record) → of ac2 (r .values ac2) "Alimentazione_1" ≡ bytes "BENZINA"
+    → of ac2 (r .values ac2) "DirettivaEmissioniGasBenzinaAuto" ≡ bytes "RT1902" → of ac2 (r .values ac2) "DataPrimaImm" ≡ bytes "00101986"
+    → Lawful st r → Read r acc → of acc (r .values acc) "Alimentazione_1" ≡ bytes "BENZINA NO CAT"
+unfolding rulesOf
+unknown-day-fuel st r fuel directive day l q =
+    let a : List (List ℕ) = r .values ac2 in
+    let old : List ℕ = of acc (r .values acc) "Alimentazione_1" in
+    let kept : fuelFits a old ≡ true = fuel-kept a (r .values acc) (l .rules acc q) in
+    same-is old (bytes "BENZINA NO CAT") (sym (unknown-days old .0) ∙ (rw (petrol-fuel a old fuel, directive, day) at kept))

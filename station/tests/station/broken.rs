@@ -8,7 +8,7 @@ use std::os::unix::fs::{symlink, PermissionsExt};
 use std::path::{Path, PathBuf};
 use std::process::Command;
 
-use crate::common::{empty_folder, repository, run};
+use crate::common::{changed, empty_folder, put, repository, run, Change};
 use crate::transcripts::check;
 
 /// A sample that broken sets are made from.
@@ -79,6 +79,14 @@ impl Broken {
         change_file(&DIESEL.file(&self.diesel(name), ending), |text| {
             replaced(&text, old.as_bytes(), new.as_bytes())
         });
+    }
+
+    /// A copy of the car whose day is not known, with changes.
+    fn unknown_day(&self, name: &str, changes: &[Change]) {
+        let folder = self.folder.join(name);
+        for (file, text) in changed("accepted-unknown-day", changes) {
+            put(folder.join(file), text);
+        }
     }
 
     /// A copy of the car without one file; its path.
@@ -154,7 +162,7 @@ pub fn identification(inner: &[u8]) -> Vec<u8> {
 }
 
 /// How many sets there are.
-const COUNT: usize = 98;
+const COUNT: usize = 102;
 
 /// All of them, in a new folder of this name.
 pub fn broken_sets(name: &str) -> PathBuf {
@@ -169,6 +177,7 @@ pub fn broken_sets(name: &str) -> PathBuf {
     opacity_as_a_whole(&broken);
     opacity_values(&broken);
     names_and_marks(&broken);
+    unknown_days(&broken);
     broken.folder
 }
 
@@ -433,6 +442,21 @@ fn names_and_marks(broken: &Broken) {
         b"NumGiriMotoreMin=#",
         b"#NumGiriMotoreMin=",
     );
+}
+
+/// The old booking's fuel where the day or the month is not known; all but the last passed before 02, 3/14.
+fn unknown_days(broken: &Broken) {
+    const BEFORE: Change = ("ACC", "=BENZINA NO CAT", "=BENZINA<86");
+    broken.unknown_day("99-day-00", &[BEFORE]);
+    broken.unknown_day(
+        "100-day-00-no-directive",
+        &[("AC2", "=RT1902", "=NESSUNA"), BEFORE],
+    );
+    broken.unknown_day(
+        "101-day-00-of-2002",
+        &[("AC2", "=00101986", "=00072002"), ("ACC", "=1986", "=2002")],
+    );
+    broken.unknown_day("102-month-00", &[("AC2", "=00101986", "=00001986")]);
 }
 
 #[test]

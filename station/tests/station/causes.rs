@@ -46,6 +46,16 @@ const fn diesel(name: &'static str, changes: &'static [Change], gone: &'static [
     }
 }
 
+const fn unknown_day(name: &'static str, changes: &'static [Change]) -> Made {
+    Made {
+        name,
+        sample: "accepted-unknown-day",
+        changes,
+        gone: &[],
+        more: None,
+    }
+}
+
 impl Made {
     const fn without(self, gone: &'static [&'static str]) -> Made {
         Made { gone, ..self }
@@ -69,7 +79,7 @@ const DIRECTIVE: Change = ("AC2", "=98/69/CE", "=");
 const NO_TURBO: Change = ("AC2", "Turbo=S", "Turbo=");
 const NO_CORRECTOR: Change = ("AC2", "CorrettorePressione=N", "CorrettorePressione=");
 
-const SETS: [Made; 43] = [
+const SETS: [Made; 50] = [
     moped("category", &[("AC2", "=L1e", "=L3e")]),
     moped("plate", &[("AC2", "=X2ABCD", "=X2ABCDE")]),
     moped(
@@ -240,6 +250,31 @@ const SETS: [Made; 43] = [
             "NumVersioneProtocollo=201",
         )],
         &[],
+    ),
+    unknown_day(
+        "day-00-plain-fuel",
+        &[("ACC", "=BENZINA NO CAT", "=BENZINA")],
+    ),
+    unknown_day(
+        "day-00-other-fuel",
+        &[("ACC", "=BENZINA NO CAT", "=METANO")],
+    ),
+    unknown_day("day-00-month-before", &[("AC2", "=00101986", "=00091986")]),
+    unknown_day(
+        "day-00-month-behind",
+        &[
+            ("AC2", "=00101986", "=00111986"),
+            ("ACC", "=BENZINA NO CAT", "=BENZINA<86"),
+        ],
+    ),
+    unknown_day("day-00-catalyst", &[("AC2", "=RT1902", "=98/69/CE")]),
+    unknown_day("day-00-year", &[("ACC", "=1986", "=1987")]),
+    unknown_day(
+        "day-known",
+        &[
+            ("AC2", "=00101986", "=15101986"),
+            ("AC2", "=RT1902", "=NESSUNA"),
+        ],
     ),
 ];
 

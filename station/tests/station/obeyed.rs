@@ -17,7 +17,7 @@ use outside::random::Random;
 const MOST_STEPS: usize = 20;
 
 /// The broken sets that are accepted once the advice is obeyed, besides those that are accepted as they are.
-const MENDED: [&str; 40] = [
+const MENDED: [&str; 42] = [
     "01-lf-only",
     "02-bom",
     "03-trailing-blank",
@@ -27,6 +27,7 @@ const MENDED: [&str; 40] = [
     "08-date-yyyymmdd",
     "09-space-after-word",
     "10-space-after-num",
+    "102-month-00",
     "21-small-stem",
     "26-tab-indent",
     "27-spaces-round-eq",
@@ -58,6 +59,7 @@ const MENDED: [&str; 40] = [
     "80-humidity-float",
     "82-outcome-small",
     "95-marks",
+    "99-day-00",
 ];
 
 /// Generated sets; seeds apart from those of other tests.

@@ -50,7 +50,7 @@ impl Amounts {
 const OTHER_ANSWERS: u64 = 500;
 
 /// One accepted set in so many is written anew and judged again.
-const REWRITTEN: u64 = 10;
+const REWRITTEN: u64 = 5;
 
 const FIRST_SET: u64 = 1 << 40;
 const FIRST_READ: u64 = 2 << 40;

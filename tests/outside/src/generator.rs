@@ -96,32 +96,37 @@ pub fn date(random: &mut Random) -> Vec<u8> {
     format!("{day:02}{month:02}{year:04}").into_bytes()
 }
 
-/// A value of DataPrimaImm, often near the two limits of Alimentazione_1.
+/// First registrations next to the two fuel dates, and with an unknown day in their months and years (02, 3/14).
+pub const FUEL_DAYS: &[&[u8]] = &[
+    b"00001986",
+    b"00091986",
+    b"30091986",
+    b"00101986",
+    b"01101986",
+    b"00002002",
+    b"00062002",
+    b"30062002",
+    b"00072002",
+    b"01072002",
+];
+
+/// A value of DataPrimaImm, often near the two fuel dates.
 pub fn first_registration(random: &mut Random) -> Vec<u8> {
     const NEAR: &[&[u8]] = &[
-        b"30091986",
-        b"01101986",
         b"02101986",
-        b"00091986",
-        b"00101986",
         b"00111986",
-        b"00001986",
         b"00001987",
         b"31121986",
         b"01011986",
-        b"30062002",
-        b"01072002",
         b"02072002",
-        b"00062002",
-        b"00072002",
         b"00082002",
-        b"00002002",
         b"00002003",
         b"31122002",
         b"01012002",
     ];
     match random.below(10) {
-        0..=5 => random.pick(NEAR).to_vec(),
+        0..=2 => random.pick(FUEL_DAYS).to_vec(),
+        3..=5 => random.pick(NEAR).to_vec(),
         6 => {
             let (month, year) = (random.between(0, 12), random.between(1900, 2099));
             format!("00{month:02}{year:04}").into_bytes()
@@ -533,6 +538,9 @@ fn ac2(random: &mut Random, size: Size) -> Values {
     let petrol = fuel == b"BENZINA";
     if !petrol || is_l {
         ac2.empty(&["DirettivaEmissioniGasBenzinaAuto"]);
+    } else if random.chance(50) {
+        // Only petrol with M or N is compared with the fuel dates.
+        ac2.set("DataPrimaImm", random.pick(FUEL_DAYS));
     }
     if petrol && is_l && !moped {
         let directives: &[&str] = &[
@@ -560,11 +568,12 @@ fn ac2(random: &mut Random, size: Size) -> Values {
 
 /// The value of ACC's Alimentazione_1; None where none fits.
 pub fn old_fuel(ac2: &Values) -> Option<Vec<u8>> {
-    // The day as yyyymmdd, compared as a string.
+    // Both fuel dates are the first day of a month, and no day of it, known or not, is before that (02, 3/14): yyyymm,
+    // compared as a string, decides.
     let day = ac2.get("DataPrimaImm");
-    let turned = [&day[4..], &day[2..4], &day[..2]].concat();
-    let before_1986 = turned.as_slice() < b"19861001".as_slice();
-    let before_2002 = turned.as_slice() < b"20020701".as_slice();
+    let month = [&day[4..], &day[2..4]].concat();
+    let before_1986 = month.as_slice() < b"198610".as_slice();
+    let before_2002 = month.as_slice() < b"200207".as_slice();
     let fuel = match ac2.get("Alimentazione_1") {
         b"BENZINA" => match ac2.get("DirettivaEmissioniGasBenzinaAuto") {
             b"91/441/CEE" | b"98/69/CE" => b"BENZINA CAT".to_vec(),

@@ -12,6 +12,7 @@ pub mod judge;
 pub mod library;
 pub mod met;
 pub mod mutator;
+pub mod old_fuels;
 pub mod opacities;
 pub mod random;
 pub mod reference;

@@ -1,7 +1,9 @@
 //! What a run must meet of opacity (02, 2/14), by call.
 
 use crate::judge::{Call, Outcome, Set, OPACITY_MARK};
-use crate::met::{Met, Wanted, JUDGED, JUDGED_AGAIN, JUDGE_11, JUDGE_9, READ, READ_9, READ_BACK};
+use crate::met::{
+    value_in, Met, Wanted, JUDGED, JUDGED_AGAIN, JUDGE_11, JUDGE_9, READ, READ_9, READ_BACK,
+};
 use crate::reference::tables::{AC2, IDENTIFICATION, OPACITY};
 use crate::reference::Refusal;
 
@@ -92,14 +94,6 @@ pub fn wanted() -> Vec<Wanted> {
     wanted
 }
 
-/// The value of an entry in a text of one section that passed 3 to 8.
-fn value<'a>(text: &'a [u8], name: &str) -> &'a str {
-    let text = std::str::from_utf8(text).expect("bytes of 20 to 7E hex");
-    let mut lines = text.lines().filter_map(|line| line.split_once('='));
-    let found = lines.find(|(other, _)| *other == name);
-    found.expect("every entry is there").1
-}
-
 /// A version by what hangs on it.
 fn version(value: &str) -> &str {
     match value {
@@ -137,7 +131,7 @@ fn mark(set: &Set, outcome: &Outcome) -> &'static str {
 }
 
 fn note_links(met: &mut Met, what: &'static str, set: &Set) {
-    let value = |name| value(set.slice(OPACITY), name);
+    let value = |name| value_in(set.slice(OPACITY), name);
     let own = value("TipoCollegamento");
     met.count(what, link(own, version(value("NumVersioneProtocollo"))));
     let counter = version(value("NumVersioneProtocolloContagiri"));
@@ -148,8 +142,8 @@ fn note_links(met: &mut Met, what: &'static str, set: &Set) {
 }
 
 fn note_values(met: &mut Met, what: &'static str, text: &[u8]) {
-    met.count(what, plate(value(text, "Targa").len()));
-    met.count(what, temperature(value(text, "TempAmbiente")));
+    met.count(what, plate(value_in(text, "Targa").len()));
+    met.count(what, temperature(value_in(text, "TempAmbiente")));
 }
 
 /// Notes a value of opacity that is refused by 9.
@@ -166,8 +160,8 @@ pub fn note_not_as_due(met: &mut Met, set: &Set, refusal: Refusal) {
     let opacity = set.slice(OPACITY);
     match refusal.file {
         OPACITY => {
-            let category = value(set.slice(AC2), "CategoriaInternazionale");
-            let fuel = match value(set.slice(AC2), "Alimentazione_1") {
+            let category = value_in(set.slice(AC2), "CategoriaInternazionale");
+            let fuel = match value_in(set.slice(AC2), "Alimentazione_1") {
                 "" => NO_FUEL,
                 fuel @ ("DIESEL" | "BENZINA") => fuel,
                 _ => OTHER_FUEL,

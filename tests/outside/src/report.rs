@@ -3,8 +3,9 @@
 use std::collections::BTreeMap;
 
 use crate::entries::{free_entries, is_conditional};
-use crate::judge::{Call, Outcome, BY_HAND};
-use crate::met::{summary, Met, Wanted, JUDGED, JUDGE_9, READ, READ_9};
+use crate::judge::{Call, Outcome, Set, BY_HAND};
+use crate::met::{summary, Met, Wanted, JUDGED, JUDGE_12, JUDGE_9, READ, READ_9};
+use crate::old_fuels;
 use crate::opacities;
 use crate::reference::kinds::Kind;
 use crate::reference::tables::{
@@ -19,11 +20,10 @@ const NUMBERS: usize = 19;
 /// File, heading and name of an entry.
 type EntryOf = (u32, String, String);
 
-/// Refusals for which the entries are noted, besides judge 9 and read 9.
+/// Refusals for which the entries are noted, besides judge 9, judge 12 and read 9.
 const JUDGE_8: &str = "judge 8";
 const JUDGE_10_EMPTY: &str = "judge 10, due and empty";
 const JUDGE_10_FILLED: &str = "judge 10, filled and not due";
-const JUDGE_12: &str = "judge 12";
 const JUDGE_13: &str = "judge 13";
 const WRITE_9: &str = "write 9";
 const WRITE_17: &str = "write 17";
@@ -108,7 +108,7 @@ pub struct Report {
     counts: [[u64; NUMBERS]; 8],
     /// How often each noted refusal was reached at each entry.
     reached: BTreeMap<&'static str, BTreeMap<EntryOf, u64>>,
-    /// Refused files, idle speeds and what opacity brought.
+    /// Refused files, idle speeds, what opacity brought and old fuels.
     met: Met,
     /// Written files that were read back.
     pub read_back: u64,
@@ -275,11 +275,12 @@ fn entry_of(call: &Call, refusal: Refusal) -> Option<(&'static str, EntryOf)> {
 }
 
 /// What a run must meet besides numbers and entries.
-fn wanted() -> [(&'static str, Vec<Wanted>); 3] {
+fn wanted() -> [(&'static str, Vec<Wanted>); 4] {
     [
         ("refused files", refused_files()),
         ("idle speeds", speeds::wanted()),
         ("opacity", opacities::wanted()),
+        ("old fuels", old_fuels::wanted()),
     ]
 }
 
@@ -317,6 +318,7 @@ impl Report {
             (Call::Judge { set, .. }, 11) => {
                 opacities::note_not_as_due(&mut self.met, set, refusal)
             }
+            (Call::Judge { set, .. }, 12) => self.note_old_fuel(set, refusal),
             _ => {}
         }
     }
@@ -325,6 +327,9 @@ impl Report {
     pub fn meet(&mut self, what: &'static str, call: &Call, outcome: &Outcome) {
         speeds::note(&mut self.met, what, call, outcome);
         opacities::note(&mut self.met, what, call, outcome);
+        if let Call::Judge { set, .. } = call {
+            old_fuels::note(&mut self.met, what, set);
+        }
     }
 
     /// Notes the values of an accepted file that begin with `#`, where the answer has no mark.
@@ -349,6 +354,15 @@ impl Report {
                 };
                 self.note(what, entry);
             }
+        }
+    }
+
+    /// Notes the bookings of a set that is refused by 12, if it is for ACC's fuel.
+    fn note_old_fuel(&mut self, set: &Set, refusal: Refusal) {
+        let found = entry_at(refusal.file, set.slice(refusal.file), refusal.line);
+        let is_fuel = |(file, _, name): EntryOf| file == ACC && name == "Alimentazione_1";
+        if found.is_some_and(|(entry, _)| is_fuel(entry)) {
+            old_fuels::note(&mut self.met, JUDGE_12, set);
         }
     }
 

@@ -5,7 +5,9 @@ use super::files::{
 };
 use super::one_of;
 use crate::entries::is_conditional;
-use crate::generator::{self, identification, join_lines, printable, Record, Size, Values};
+use crate::generator::{
+    self, identification, join_lines, printable, Record, Size, Values, FUEL_DAYS,
+};
 use crate::judge::Set;
 use crate::random::Random;
 use crate::reference::lines::LONGEST_FILE;
@@ -27,7 +29,7 @@ const CHANGES: &[Weighted] = &[
     ("ACC with L", 4, acc_with_l),
     ("AC2 entry", 10, change_ac2),
     ("ACC entries", 20, change_acc),
-    ("old fuel", 12, change_old_fuel),
+    ("old fuel", 24, change_old_fuel),
     ("differences", 8, change_differences),
     ("axle entry emptied or dropped", 12, change_axle),
     ("gas link or version", 8, |random, _, set| {
@@ -275,11 +277,10 @@ fn make_petrol_car(random: &mut Random, ac2: &mut Values) {
     ]);
     let directive = one_of(random, "NESSUNA|NESSUNA|RT1902|RT1902|91/441/CEE|98/69/CE");
     ac2.set("DirettivaEmissioniGasBenzinaAuto", directive);
-    let day = one_of(
-        random,
-        "30091986|01101986|00101986|00111986|00001987|30062002|01072002|00072002|00082002|\
-         00002003",
-    );
+    let day = match random.below(4) {
+        0 => one_of(random, "00111986|00001987|00082002|00002003"),
+        _ => random.pick(FUEL_DAYS).to_vec(),
+    };
     ac2.set("DataPrimaImm", day);
     ac2.set(
         "AzionamentoFrenoStazionamento",

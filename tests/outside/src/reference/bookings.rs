@@ -51,6 +51,18 @@ fn descriptions(category: &str) -> &'static [&'static str] {
     }
 }
 
+/// A first registration as the number that is compared. 02, 3/14: "day 00 with a known month counts as day 01 when
+/// compared with the two fuel dates; 00001986 remains before."
+fn compared_with_fuel_dates(first_registration: &[u8]) -> u32 {
+    let date = date_number(first_registration);
+    let (month, day) = (date / 100 % 100, date % 100);
+    if day == 0 && month != 0 {
+        date + 1
+    } else {
+        date
+    }
+}
+
 /// 01, Bookings: the value of Alimentazione_1 that ACC needs; None where no value fits.
 pub fn old_fuel<'a>(
     fuel: &'a [u8],
@@ -60,7 +72,7 @@ pub fn old_fuel<'a>(
     corrector: &[u8],
 ) -> Option<&'a [u8]> {
     if fuel == b"BENZINA" {
-        let date = date_number(first_registration);
+        let date = compared_with_fuel_dates(first_registration);
         let early = date < date_number(b"01101986");
         let late = date >= date_number(b"01072002");
         return match directive {

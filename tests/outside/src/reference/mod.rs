@@ -1,4 +1,4 @@
-//! Document 01 as a program, in the order of the paper, with the requests of document 02 that have landed: 1/14, 2/14.
+//! Document 01 as a program, in the order of the paper, with the requests of document 02 that have landed: 1/14 to 3/14.
 //!
 //! - `lines`: line form. - `kinds`: kinds of value. - `tables`: headings and entries.
 //! - `files`: one file, 3 to 9. - `due`: due entries. - `bookings`: rules of AC2 and ACC.

@@ -1,16 +1,19 @@
 //! The runner itself: it finds the faults of wrong judges, and its calls can be made again.
 
+mod old_fuel;
 mod opacity;
 
 use outside::comparison::{
     column_case, kind_cases, name_cases, read_case, run_of, set_case, word_cases, write_case,
-    Amounts,
+    Amounts, ONE_RUN,
 };
-use outside::judge::{Arrays, Call, Judge, Reference, BY_HAND};
+use outside::judge::{make, Arrays, Call, Judge, Reference, BY_HAND};
+use outside::old_fuels;
 use outside::reference::tables::{table, GAS, OPACITY};
 use outside::reference::PLACES;
 use outside::replay;
 
+use old_fuel::OldFuel;
 use opacity::Opacity;
 
 /// The fault of a wrong judge.
@@ -34,6 +37,7 @@ enum Fault {
     WordsFirstByte,
     Mark(Mark),
     Opacity(Opacity),
+    OldFuel(OldFuel),
 }
 
 /// A fault in the mark of the idle speed (02, 1/14): where it is set, or whence it is taken.
@@ -130,6 +134,12 @@ const NONE: Amounts = Amounts {
     columns: 0,
 };
 
+/// Old fuels are judged in sets alone; a day that a fault hangs on is seldom in them.
+const SETS: Amounts = Amounts {
+    sets: ONE_RUN.sets,
+    ..NONE
+};
+
 struct Wrong(Fault);
 
 impl Judge for Wrong {
@@ -151,7 +161,14 @@ impl Judge for Wrong {
             output: &mut *output,
             answer: &mut *answer,
         };
-        let number = Reference.answer(call, lent);
+        let taken = match (self.0, call) {
+            (Fault::OldFuel(fault), Call::Judge { set, places }) => Some(Call::Judge {
+                set: fault.taken(set),
+                places: places.clone(),
+            }),
+            _ => None,
+        };
+        let number = Reference.answer(taken.as_ref().unwrap_or(call), lent);
         if answer.len() < 16 {
             if let (Fault::AnswerTooShort, Some(first)) = (self.0, answer.first_mut()) {
                 *first = 0;
@@ -228,6 +245,27 @@ fn what_was_not_reached_in_opacity_is_missing() {
     }
 }
 
+#[test]
+fn what_was_not_reached_of_old_fuels_is_missing() {
+    let report = run_of(&Reference, NONE).expect("no difference");
+    let missing = report.missing();
+    for line in [
+        "judge 0: never RT1902, 00101986 and `BENZINA NO CAT`, day behind directive",
+        "judge 0: never NESSUNA, 00001986 and `BENZINA<86`, day before directive",
+        "judged again: never RT1902, 00002002 and `BENZINA NO CAT`, day before directive",
+        "judge 12: never RT1902, 00101986 and `BENZINA<86`, day before directive",
+        "judge 12: never NESSUNA, 00101986 and `BENZINA NO CAT`, day behind directive",
+        "judge 12: never RT1902, 00072002 and `BENZINA NO CAT`, day behind directive",
+    ] {
+        assert!(missing.contains(&line.to_string()), "{line}");
+    }
+    let wanted = old_fuels::wanted();
+    let never = |(call, what): &(&str, String)| missing.contains(&format!("{call}: never {what}"));
+    // Of ten days, two directives and three old fuels 11 fit, each in two orders and judged again; 49 do not.
+    assert_eq!(wanted.len(), 3 * 11 + 2 * 49);
+    assert!(wanted.iter().all(never));
+}
+
 #[cfg(feature = "library")]
 #[test]
 fn the_library_agrees_with_the_reference() {
@@ -274,13 +312,27 @@ fn faults_of_opacity_are_found() {
     }
 }
 
-fn assert_found(fault: Fault, amounts: Amounts) {
+#[test]
+fn faults_of_the_old_fuel_are_found() {
+    for fault in old_fuel::FAULTS {
+        let call = assert_found(Fault::OldFuel(fault), SETS);
+        let right = make(&Reference, &call).refusal();
+        let found = make(&Wrong(Fault::OldFuel(fault)), &call).refusal();
+        // One of both refuses the set for what the fault is one in, the other does not.
+        let reason = fault.reason(&call);
+        assert_ne!(right, found, "{fault:?}");
+        assert!(reason == right || reason == found, "{fault:?}");
+    }
+}
+
+/// The call at which a fault is found.
+fn assert_found(fault: Fault, amounts: Amounts) -> Call {
     match run_of(&Wrong(fault), amounts) {
         Ok(_) => panic!("{fault:?} was not found"),
         Err(text) => {
             // The last line is the call.
             let call = text.lines().last().expect("a line");
-            replay::from_text(call).expect("a call that can be made again");
+            replay::from_text(call).expect("a call that can be made again")
         }
     }
 }

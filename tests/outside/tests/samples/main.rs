@@ -1,6 +1,7 @@
 //! The reference against the samples of document 01: the table's rows, the established
 //! samples, the misreadings and the settled readings; then those of document 02.
 
+mod old_fuel;
 mod opacity;
 
 use outside::generator::{record, value, Size};
@@ -670,23 +671,6 @@ fn readings_of_kinds() {
     );
     all(Kind::Text(10), &[" ", "a=[]b"], &["12345678901", "a\x7F"]);
     all(Kind::Exact(5), &["12345"], &["1234", "123456"]);
-}
-
-#[test]
-fn dates_compare_with_their_zeros() {
-    let fuel = |directive: &str, date: &str| {
-        let fuel = old_fuel(b"BENZINA", directive.as_bytes(), date.as_bytes(), b"", b"");
-        fuel.map(|bytes| String::from_utf8_lossy(bytes).into_owned())
-    };
-    assert_eq!(fuel("RT1902", "00101986").as_deref(), Some("BENZINA<86"));
-    assert_eq!(fuel("NESSUNA", "00001986").as_deref(), Some("BENZINA<86"));
-    assert_eq!(fuel("NESSUNA", "01101986"), None);
-    assert_eq!(
-        fuel("RT1902", "00072002").as_deref(),
-        Some("BENZINA NO CAT")
-    );
-    assert_eq!(fuel("RT1902", "00082002"), None);
-    assert_eq!(fuel("98/69/CE", "01011950").as_deref(), Some("BENZINA CAT"));
 }
 
 #[test]

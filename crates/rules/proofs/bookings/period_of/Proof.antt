@@ -1,7 +1,7 @@
 -- `rules::bookings::period_of` meets its contract: the value reads as a day, or it is none. Assumes nothing.
 use borrow.Author.Needs.{needs}
 use mathlib.Core.Path.{sym, _∙_}
-use Rattle.rules.proofs.Tests.{day-of, no-day}
+use Rattle.rules.proofs.Tests.{no-day}
 use Rattle.rules.proofs.bookings.period_of.Statement.{statement}
 use Rattle.rules.proofs.bookings.period_of.Tie as tie
 
@@ -18,7 +18,7 @@ enum-told : tie.Need-enum-told
 enum-told c = search needs
 
 returns : tie.Need-returns
-returns c = c .period-at .ensures ∙ sym (day-of _ _ (sym (c .before .before .before .before .read-day .ensures) ∙ c .before .before .day .given .1))
+returns c = c .period-at .ensures _ (sym (c .before .before .before .before .read-day .ensures) ∙ c .before .before .day .given .1)
 
 returns-2 : tie.Need-returns-2
 returns-2 c = sym (no-day _ (sym (c .before .before .read-day .ensures) ∙ c .enum-told .given .1))
