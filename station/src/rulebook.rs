@@ -31,10 +31,10 @@ const LINES: &str = "
 ";
 
 const DAYS: &str = "
-With petrol, ACC's Alimentazione_1 hangs on two fuel dates, 01/10/1986 and 01/07/2002. Compared with these, a DataPrimaImm
-whose day is not known (day 00) counts as day 01 of its month: `00101986` is not before 01/10/1986, as no day of that month
-is. One whose month is not known either (month 00) is before every month of its year: `00001986` is before 01/10/1986. Only
-with these two dates do zeros count so.
+With petrol and RT1902 or NESSUNA, ACC's Alimentazione_1 hangs on two fuel dates, 01/10/1986 and 01/07/2002. Compared with
+these, a DataPrimaImm whose day is not known (day 00) counts as day 01 of its month: `00101986` counts as 01/10/1986, so it
+is not before it. One whose month is not known either (month 00) is before every month of its year: `00001986` is before
+01/10/1986. Only with these two dates do zeros count so.
 ";
 
 const ANSWER: &str = "

@@ -27,11 +27,16 @@ pub fn booking(refused: &Refused) -> Option<Finding> {
         return Some(doubted(refused, doubt, &found));
     }
     let deciding = deciding(refused, names);
-    let zeros = unknown_day::zeros(&texts(&deciding));
-    let behind = behind(&deciding) + &count(zeros.as_ref());
+    let contradiction = other_fuel(refused, name, value);
+    let zeros = match contradiction {
+        Some(_) => None,
+        None => unknown_day::zeros(&texts(&deciding), value),
+    };
+    let behind = behind(&deciding) + &how_zeros_count(zeros.as_ref());
     let passing = passing(refused);
     if passing.is_empty() {
-        if let Some(finding) = no_fuel_fits(&deciding, zeros.as_ref(), &found) {
+        let first = contradiction.as_deref();
+        if let Some(finding) = no_fuel_fits(&deciding, first, zeros.as_ref(), &found) {
             return Some(finding);
         }
         let rule = words::booking_rule(refused.refusal.file, name)?;
@@ -48,7 +53,7 @@ pub fn booking(refused: &Refused) -> Option<Finding> {
     let expected: Vec<String> = passing.iter().map(|value| format!("`{value}`")).collect();
     let expected = shown::listed(&expected, "or");
     let finding = Finding::cause(format!("{found}{behind}")).expected(Some(expected));
-    if let Some(first) = other_fuel(refused, name, value) {
+    if let Some(first) = contradiction {
         let advice = advice.replacen("write line", "write ACC line", 1);
         return Some(finding.advice(format!("{first}; only if AC2 is right, {advice}")));
     }
@@ -109,12 +114,18 @@ fn behind(deciding: &[Given]) -> String {
 }
 
 /// How zeros of the day count, behind these.
-fn count(zeros: Option<&Zeros>) -> String {
+fn how_zeros_count(zeros: Option<&Zeros>) -> String {
     zeros.map_or(String::new(), |zeros| format!("; {}", zeros.words))
 }
 
-/// Where two values of the new booking leave no fuel for the old one.
-fn no_fuel_fits(deciding: &[Given], zeros: Option<&Zeros>, found: &str) -> Option<Finding> {
+/// Where two values of the new booking leave no fuel for the old one. Before them the fuel itself is looked at, where the
+/// bookings contradict each other in it.
+fn no_fuel_fits(
+    deciding: &[Given],
+    first: Option<&str>,
+    zeros: Option<&Zeros>,
+    found: &str,
+) -> Option<Finding> {
     let others = deciding.iter().filter(|given| given.name != fuels::ENTRY);
     let others: Vec<&Given> = others.collect();
     let [one, other] = others.as_slice() else {
@@ -126,11 +137,15 @@ fn no_fuel_fits(deciding: &[Given], zeros: Option<&Zeros>, found: &str) -> Optio
         shown::value(other.value),
         one.words(),
         other.words(),
-        count(zeros)
+        how_zeros_count(zeros)
     );
     let in_vain = zeros.and_then(|zeros| zeros.in_vain);
     let in_vain = in_vain.map_or(String::new(), |what| format!("; {what}"));
-    let advice = format!("correct AC2 line {} or {}{in_vain}", one.line, other.line);
+    let first = first.map_or(String::new(), |first| {
+        format!("{first}; only if AC2's fuel is right, ")
+    });
+    let (one, other) = (one.line, other.line);
+    let advice = format!("{first}correct AC2 line {one} or {other}{in_vain}");
     Some(Finding::cause(cause).advice(advice))
 }
 

@@ -187,9 +187,10 @@ pub fn booking_rule(file: u32, entry: &[u8]) -> Option<&'static str> {
         (2, b"Alimentazione_1") => {
             "where the new booking has BENZINA: BENZINA CAT with directive 91/441/CEE or 98/69/CE; BENZINA<86 with \
              RT1902 or NESSUNA and a DataPrimaImm before 01/10/1986; BENZINA NO CAT with RT1902 and one from then and \
-             before 01/07/2002; else no value fits; day 00 with a known month counts as day 01. Where it has DIESEL: \
-             DIESEL TURBO COMPRESSO with Turbo S; else DIESEL ASPIRATO SENZA CORRETTORE with CorrettorePressione N and \
-             DIESEL ASPIRATO CON CORRETTORE with S. Else the same as in the new booking"
+             before 01/07/2002; else no value fits. For both dates day 00 with a known month counts as day 01, and \
+             month 00 as before every month of its year. Where it has DIESEL: DIESEL TURBO COMPRESSO with Turbo S; else \
+             DIESEL ASPIRATO SENZA CORRETTORE with CorrettorePressione N and DIESEL ASPIRATO CON CORRETTORE with S. \
+             Else the same as in the new booking"
         }
         (2, b"FrenoStazionamento") => {
             "MANO or PEDALE where the new booking has ELETTRICO, else the same as there"

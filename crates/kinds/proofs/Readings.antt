@@ -1,4 +1,4 @@
--- A value that passes its kind is read as what it means; a speed entered by hand is told from a measured one; a drift lies between -9999 and 9999. Assumes nothing.
+-- A value that passes its kind is read as what it means; a speed entered by hand is told from a measured one; dates of one number are the same; a drift lies between -9999 and 9999. Assumes nothing.
 use mathlib.Core.Path.{_≡_, refl, sym, ap, _∙_}
 use mathlib.Core.Bool.{Bool, true, false, cond, _&&_, false≢true}
 use mathlib.Core.List.{List, [], _∷_, _++_}

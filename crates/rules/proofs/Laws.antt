@@ -1,5 +1,5 @@
 -- Laws of the rules for their users: which rules hold, when fields are the same, and what the tests say of values of their kind. Assumes nothing.
-use Prim.Native.Nat.{ℕ, _≤_}
+use Prim.Native.Nat.{ℕ, zero, suc, _≤_}
 use native.Mathlib.Omega.{arith}
 use mathlib.Core.Path.{_≡_, refl, ap, ap₂, sym, _∙_}
 use mathlib.Core.Bool.{Bool, true, false, cond, false≢true, _&&_, _||_}
@@ -80,6 +80,12 @@ pub hold-both : (rs qs : List Rule) → allHold (rs ++ qs) ≡ (allHold rs && al
 unfolding allHold
 hold-both [] qs = refl
 hold-both (r ∷ rs) qs = by-test (r .holds) (λ h. rw h (hold-both rs qs)) (λ h. rw h refl)
+
+pub hold-later : (k : ℕ) (rs : List Rule) → allHold rs ≡ true → allHold (drop k rs) ≡ true
+unfolding allHold
+hold-later zero rs e = e
+hold-later (suc k) [] e = refl
+hold-later (suc k) (r ∷ rs) e = hold-later k rs (and-right (r .holds) (allHold rs) e)
 
 -- ---- fields
 
@@ -165,7 +171,7 @@ pub diesel-words : (corrector old : List ℕ)
 unfolding dieselFits sameBytes
 diesel-words corrector old = (refl, refl, refl)
 
--- "where AC2 has BENZINA": by its directive and day
+-- "AC2 BENZINA: .." by its directive and day
 pub petrol-fuel : (a : List (List ℕ)) (old : List ℕ) → of ac2 a "Alimentazione_1" ≡ bytes "BENZINA"
     → fuelFits a old ≡ petrolFits (petrolWord (directiveOf (of ac2 a "DirettivaEmissioniGasBenzinaAuto")) (periodOf (of ac2 a "DataPrimaImm"))) old
 unfolding fuelFits bookingIn fuelIn
@@ -216,11 +222,7 @@ old-rules-are a o day year axles =
 -- where all six hold, the fuel of ACC fits AC2's values
 pub fuel-kept : (a o : List (List ℕ)) → allHold (oldRules a o) ≡ true → fuelFits a (of acc o "Alimentazione_1") ≡ true
 unfolding allHold oldRules
-fuel-kept a o e =
-    and-left (fuelFits a (of acc o "Alimentazione_1")) _
-    (and-right (yearFits (of ac2 a "DataPrimaImm") (of acc o "AnnoPrimaImm")) _
-    (and-right (isWord (descriptions (descriptionsOf (bookingIn a .category))) (of acc o "DescrizioneVeicolo")) _
-    (and-right (sameBytes (of acc o "TipoVeicolo") (of ac2 a "TipoVeicolo")) _ e)))
+fuel-kept a o e = and-left (fuelFits a (of acc o "Alimentazione_1")) _ (hold-later 3 (oldRules a o) e)
 
 -- ---- "AC2 has BENZINA"
 

@@ -92,12 +92,13 @@ directiveOf v = getD (Nessuna ∷ Rt1902 ∷ Catalyst ∷ Catalyst ∷ []) (word
 unfoldable pub periodAt : ℕ → Period
 periodAt day = cond (ltb day 19861001) Before1986 (cond (ltb day 20020701) Before2002 Later)
 
--- 02, 3/14: "day 00 with a known month counts as day 01 when compared with the two fuel dates; 00001986 remains before"
-abbrev pub isUnknownDay : ℕ → ℕ → Bool
-isUnknownDay day month = eqb day 0 && not (eqb month 0)
+-- 02, 3/14: "day 00 with a known month ..
+abbrev pub isMonthOnly : ℕ → ℕ → Bool
+isMonthOnly day month = eqb day 0 && not (eqb month 0)
 
+-- .. counts as day 01 when compared with the two fuel dates; 00001986 remains before"
 unfoldable pub comparedDate : List ℕ → List ℕ
-comparedDate v = cond (isUnknownDay (dayOf v) (monthOf v)) (bytes "01" ++ drop 2 v) v
+comparedDate v = cond (isMonthOnly (dayOf v) (monthOf v)) (bytes "01" ++ drop 2 v) v
 
 -- the period of a value of DataPrimaImm; a value that is no such day is before neither date (9 refuses it)
 unfoldable pub periodOf : List ℕ → Period

@@ -580,8 +580,8 @@ van-without st r s new none l f =
     let same : r .values ac2 ≡ vanNewValues = file-unique ac2 _ _ _ _ _ (rw new at mine) vans .1 in
     without-opacity st r s none (rw same (computed .23)) l f
 
--- 02, 3/14: whose AC2 has BENZINA, RT1902 and 00101986 has BENZINA NO CAT in ACC, where it is read: with BENZINA<86 none fits, in any
--- order of the lines
+-- 02, 3/14: a lawful record whose AC2 has BENZINA, RT1902 and 00101986 has BENZINA NO CAT in ACC, where that is read; so by demand 3 no
+-- such set with BENZINA<86 is accepted, in whatever order its lines stand
 pub unknown-day-fuel : (st : Stated) (r : Record) → of ac2 (r .values ac2) "Alimentazione_1" ≡ bytes "BENZINA"
     → of ac2 (r .values ac2) "DirettivaEmissioniGasBenzinaAuto" ≡ bytes "RT1902" → of ac2 (r .values ac2) "DataPrimaImm" ≡ bytes "00101986"
     → Lawful st r → Read r acc → of acc (r .values acc) "Alimentazione_1" ≡ bytes "BENZINA NO CAT"

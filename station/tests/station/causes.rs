@@ -79,7 +79,7 @@ const DIRECTIVE: Change = ("AC2", "=98/69/CE", "=");
 const NO_TURBO: Change = ("AC2", "Turbo=S", "Turbo=");
 const NO_CORRECTOR: Change = ("AC2", "CorrettorePressione=N", "CorrettorePressione=");
 
-const SETS: [Made; 50] = [
+const SETS: [Made; 57] = [
     moped("category", &[("AC2", "=L1e", "=L3e")]),
     moped("plate", &[("AC2", "=X2ABCD", "=X2ABCDE")]),
     moped(
@@ -259,6 +259,14 @@ const SETS: [Made; 50] = [
         "day-00-other-fuel",
         &[("ACC", "=BENZINA NO CAT", "=METANO")],
     ),
+    unknown_day(
+        "day-00-near-word",
+        &[("ACC", "=BENZINA NO CAT", "=benzina <86")],
+    ),
+    unknown_day(
+        "day-00-catalyst-word",
+        &[("ACC", "=BENZINA NO CAT", "=BENZINA CAT")],
+    ),
     unknown_day("day-00-month-before", &[("AC2", "=00101986", "=00091986")]),
     unknown_day(
         "day-00-month-behind",
@@ -269,6 +277,42 @@ const SETS: [Made; 50] = [
     ),
     unknown_day("day-00-catalyst", &[("AC2", "=RT1902", "=98/69/CE")]),
     unknown_day("day-00-year", &[("ACC", "=1986", "=1987")]),
+    unknown_day(
+        "day-00-no-fuel-diesel",
+        &[
+            ("AC2", "=RT1902", "=NESSUNA"),
+            ("ACC", "=BENZINA NO CAT", "=DIESEL TURBO COMPRESSO"),
+        ],
+    ),
+    unknown_day(
+        "day-00-no-fuel-methane",
+        &[
+            ("AC2", "=RT1902", "=NESSUNA"),
+            ("ACC", "=BENZINA NO CAT", "=METANO"),
+        ],
+    ),
+    unknown_day(
+        "month-00-of-2002",
+        &[
+            ("AC2", "=00101986", "=00002002"),
+            ("ACC", "=1986", "=2002"),
+            ("ACC", "=BENZINA NO CAT", "=BENZINA<86"),
+        ],
+    ),
+    unknown_day(
+        "month-00-catalyst-word",
+        &[
+            ("AC2", "=00101986", "=00001986"),
+            ("ACC", "=BENZINA NO CAT", "=BENZINA CAT"),
+        ],
+    ),
+    unknown_day(
+        "month-00-no-directive",
+        &[
+            ("AC2", "=00101986", "=00001986"),
+            ("AC2", "=RT1902", "=NESSUNA"),
+        ],
+    ),
     unknown_day(
         "day-known",
         &[

@@ -4,6 +4,7 @@
 
 use crate::entries::free_entries;
 use crate::judge::Set;
+use crate::old_fuels;
 use crate::random::Random;
 use crate::reference::kinds::Kind;
 use crate::reference::tables::{
@@ -96,19 +97,11 @@ pub fn date(random: &mut Random) -> Vec<u8> {
     format!("{day:02}{month:02}{year:04}").into_bytes()
 }
 
-/// First registrations next to the two fuel dates, and with an unknown day in their months and years (02, 3/14).
-pub const FUEL_DAYS: &[&[u8]] = &[
-    b"00001986",
-    b"00091986",
-    b"30091986",
-    b"00101986",
-    b"01101986",
-    b"00002002",
-    b"00062002",
-    b"30062002",
-    b"00072002",
-    b"01072002",
-];
+/// A first registration about the two fuel dates (02, 3/14).
+pub fn fuel_day(random: &mut Random) -> Vec<u8> {
+    let (day, _) = random.pick(&old_fuels::DAYS);
+    day.as_bytes().to_vec()
+}
 
 /// A value of DataPrimaImm, often near the two fuel dates.
 pub fn first_registration(random: &mut Random) -> Vec<u8> {
@@ -125,7 +118,7 @@ pub fn first_registration(random: &mut Random) -> Vec<u8> {
         b"01012002",
     ];
     match random.below(10) {
-        0..=2 => random.pick(FUEL_DAYS).to_vec(),
+        0..=2 => fuel_day(random),
         3..=5 => random.pick(NEAR).to_vec(),
         6 => {
             let (month, year) = (random.between(0, 12), random.between(1900, 2099));
@@ -540,7 +533,7 @@ fn ac2(random: &mut Random, size: Size) -> Values {
         ac2.empty(&["DirettivaEmissioniGasBenzinaAuto"]);
     } else if random.chance(50) {
         // Only petrol with M or N is compared with the fuel dates.
-        ac2.set("DataPrimaImm", random.pick(FUEL_DAYS));
+        ac2.set("DataPrimaImm", fuel_day(random));
     }
     if petrol && is_l && !moped {
         let directives: &[&str] = &[

@@ -4,11 +4,15 @@ use crate::judge::Set;
 use crate::met::{value_in, Met, Wanted, JUDGED, JUDGED_AGAIN, JUDGE_12};
 use crate::reference::tables::{AC2, ACC};
 
+/// The entries of AC2 that decide.
+const DIRECTIVE: &str = "DirettivaEmissioniGasBenzinaAuto";
+const DAY: &str = "DataPrimaImm";
+
 const BEFORE_1986: Option<&str> = Some("BENZINA<86");
 const BEFORE_2002: Option<&str> = Some("BENZINA NO CAT");
 
-/// First registrations, days 00 and those next to the fuel dates, with the old fuel that fits: by RT1902 and by NESSUNA.
-const DAYS: [(&str, [Option<&str>; 2]); 10] = [
+/// First registrations about the fuel dates, known and with day 00, and the old fuel that fits: by RT1902 and by NESSUNA.
+pub const DAYS: [(&str, [Option<&str>; 2]); 10] = [
     ("00001986", [BEFORE_1986, BEFORE_1986]),
     ("00091986", [BEFORE_1986, BEFORE_1986]),
     ("30091986", [BEFORE_1986, BEFORE_1986]),
@@ -25,7 +29,7 @@ const DIRECTIVES: [&str; 2] = ["RT1902", "NESSUNA"];
 /// The old fuels that are tried with each.
 const OLD_FUELS: [&str; 3] = ["BENZINA<86", "BENZINA NO CAT", ""];
 
-/// Lines of AC2 in the table's order, and in another: "for sets in any line order".
+/// The two values of AC2 that decide, in either order: "for sets in any line order".
 const DAY_FIRST: &str = "day before directive";
 const DAY_BEHIND: &str = "day behind directive";
 
@@ -68,9 +72,6 @@ pub fn note(met: &mut Met, what: &'static str, set: &Set) {
     let (day, old_fuel) = (value_in(ac2, DAY), value_in(acc, "Alimentazione_1"));
     met.count(what, bookings(directive, day, old_fuel, order(ac2)));
 }
-
-const DIRECTIVE: &str = "DirettivaEmissioniGasBenzinaAuto";
-const DAY: &str = "DataPrimaImm";
 
 fn order(ac2: &[u8]) -> &'static str {
     let text = String::from_utf8_lossy(ac2);

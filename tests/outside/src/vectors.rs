@@ -16,10 +16,11 @@ macro_rules! vectors_in {
     };
 }
 
-/// The sets after 02, 3/14, which landed last: earlier ones no longer hold. It changes no file read alone and no writing,
-/// so those after 2/14 go on holding.
-const FILES: [File; 3] = [
+/// Those after 02, 3/14, which landed last, and those after 2/14 that go on holding: all files read alone and writings, and
+/// all sets but one.
+const FILES: [File; 4] = [
     vectors_in!("02/3/sets.txt", set_vector),
+    vectors_in!("02/2/sets.txt", set_vector),
     vectors_in!("02/2/reads.txt", read_vector),
     vectors_in!("02/2/writes.txt", write_vector),
 ];

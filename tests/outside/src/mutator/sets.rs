@@ -6,7 +6,7 @@ use super::files::{
 use super::one_of;
 use crate::entries::is_conditional;
 use crate::generator::{
-    self, identification, join_lines, printable, Record, Size, Values, FUEL_DAYS,
+    self, fuel_day, identification, join_lines, printable, Record, Size, Values,
 };
 use crate::judge::Set;
 use crate::random::Random;
@@ -279,7 +279,7 @@ fn make_petrol_car(random: &mut Random, ac2: &mut Values) {
     ac2.set("DirettivaEmissioniGasBenzinaAuto", directive);
     let day = match random.below(4) {
         0 => one_of(random, "00111986|00001987|00082002|00002003"),
-        _ => random.pick(FUEL_DAYS).to_vec(),
+        _ => fuel_day(random),
     };
     ac2.set("DataPrimaImm", day);
     ac2.set(

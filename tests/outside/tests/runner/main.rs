@@ -112,7 +112,7 @@ impl Mark {
     }
 }
 
-/// Enough to find each fault but some of opacity's.
+/// Enough to find each fault but some of opacity's and of old fuels'.
 const FEW: Amounts = Amounts {
     sets: 500,
     reads: 200,
