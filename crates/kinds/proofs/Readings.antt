@@ -20,7 +20,7 @@ use Rattle.kinds.specs.declared.NumberRead.the-variants as NumberRead
 use Rattle.kinds.specs.declared.DriftRead.{DriftRead}
 use Rattle.kinds.specs.declared.DriftRead.the-variants as DriftRead
 use Rattle.kinds.specs.declared.RevsRead.the-variants as RevsRead
-use Rattle.kinds.proofs.Laws.{digit, digit-at, all-take, all-drop, digits-length, digits-all, digits-drop, same-number, FixedPoint, fixed-point, number-long, number-short, number-all, by-test}
+use Rattle.kinds.proofs.Laws.{digit, digit-at, part-digits, digits-length, digits-all, digits-drop, same-number, FixedPoint, fixed-point, number-long, number-short, number-all, by-test}
 
 module _ (v : List ℕ) where
   pub number-reads : (w : ℕ) → w ≤ 9 → kindOk (N w) v ≡ true → numberRead v ≡ NumberRead.Of (number v)
@@ -81,11 +81,9 @@ two-digits (a ∷ b ∷ x ∷ l) h e = absurd (omega arith)
 -- ---- dates by their number yyyymmdd
 
 module _ (v : List ℕ) (e : areDigits 8 v ≡ true) where
-  pub day-most : dayOf v ≤ 99
-  day-most = two-digits (take 2 v) (simp length-take (omega arith)) (all-take 2 v (digits-all 8 v e))
-
-  pub month-most : monthOf v ≤ 99
-  month-most = two-digits (take 2 (drop 2 v)) (simp length-take (omega arith)) (all-take 2 (drop 2 v) (all-drop 2 v (digits-all 8 v e)))
+  -- day and month are such parts
+  pub part-most : (at : ℕ) → number (take 2 (drop at v)) ≤ 99
+  part-most at = two-digits (take 2 (drop at v)) (simp length-take (omega arith)) (part-digits 2 at v (omega arith) (digits-all 8 v e) .1)
 
   -- day, month and year are all of it
   date-parts : take 2 v ++ (take 2 (drop 2 v) ++ take 4 (drop 4 v)) ≡ v
@@ -96,7 +94,7 @@ module _ (v : List ℕ) (e : areDigits 8 v ≡ true) where
   part-spelt : (at count : ℕ) → at + count ≤ 8 → areDigits count (take count (drop at v)) ≡ true
   unfolding areDigits
   part-spelt at count h =
-      rw (length-take, length-drop, digits-length 8 v e, eq-eqb (min count (8 - at)) count (omega arith)) (all-take count (drop at v) (all-drop at v (digits-all 8 v e)))
+      rw (length-take, length-drop, digits-length 8 v e, eq-eqb (min count (8 - at)) count (omega arith)) (part-digits count at v (omega arith) (digits-all 8 v e) .1)
 
 -- day and month have two digits each, so the number yyyymmdd keeps all three apart
 pub parts-told : (d m y e n z : ℕ) → d ≤ 99 → m ≤ 99 → e ≤ 99 → n ≤ 99 → y * 10000 + m * 100 + d ≡ z * 10000 + n * 100 + e → (d ≡ e) × (m ≡ n) × (y ≡ z)
@@ -108,7 +106,7 @@ unfolding dayNumber
 same-date s t p q e =
     let part : (at count : ℕ) → at + count ≤ 8 → number (take count (drop at s)) ≡ number (take count (drop at t)) → take count (drop at s) ≡ take count (drop at t) =
     λ at count h n. same-is _ _ (same-number count _ _ (part-spelt s p at count h) (part-spelt t q at count h) ∙ eq-eqb _ _ n) in
-    let told = parts-told (dayOf s) (monthOf s) (yearOf s) (dayOf t) (monthOf t) (yearOf t) (day-most s p) (month-most s p) (day-most t q) (month-most t q) e in
+    let told = parts-told (dayOf s) (monthOf s) (yearOf s) (dayOf t) (monthOf t) (yearOf t) (part-most s p 0) (part-most s p 2) (part-most t q 0) (part-most t q 2) e in
     let day : take 2 s ≡ take 2 t = part 0 2 (omega arith) (told .0) in
     let month : take 2 (drop 2 s) ≡ take 2 (drop 2 t) = part 2 2 (omega arith) (told .1) in
     let year : take 4 (drop 4 s) ≡ take 4 (drop 4 t) = part 4 4 (omega arith) (told .2) in

@@ -16,7 +16,7 @@ use Rattle.kinds.specs.Value.{isLeap, daysIn, isYear, isGregorian, areDigits, i
 use Rattle.kinds.specs.Meaning.{dayNumber, dayRead}
 use Rattle.kinds.specs.declared.NumberRead.the-variants as NumberRead
 use Rattle.kinds.proofs.Laws.{by-test, digits-length, digits-all, digits-drop}
-use Rattle.kinds.proofs.Readings.{day-most, month-most, parts-told, same-date}
+use Rattle.kinds.proofs.Readings.{part-most, parts-told, same-date}
 use Rattle.rules.specs.Bookings.{periodAt, isMonthOnly, comparedDate, periodOf}
 use Rattle.rules.specs.declared.Period.{Period}
 use Rattle.rules.specs.declared.Period.the-variants.{Before1986, Before2002, Later}
@@ -79,7 +79,7 @@ module _ (v : List ℕ) (e : isFirstDay v ≡ true) where
   unfolding dayNumber
   before month year known most =
       ap (λ (n : ℕ). ltb n (year * 10000 + month * 100 + 1)) (counted v)
-      ∙ by-month (dayOf v) (monthOf v) (yearOf v) month year (day-most v digits) (month-most v digits) known most
+      ∙ by-month (dayOf v) (monthOf v) (yearOf v) month year (part-most v digits 0) (part-most v digits 2) known most
 
   by-number : periodOf v ≡ byMonth (dayNumber v)
   unfolding periodOf periodAt

@@ -81,6 +81,7 @@ unfolding allHold
 hold-both [] qs = refl
 hold-both (r ∷ rs) qs = by-test (r .holds) (λ h. rw h (hold-both rs qs)) (λ h. rw h refl)
 
+-- where all hold, those after the first k do
 pub hold-later : (k : ℕ) (rs : List Rule) → allHold rs ≡ true → allHold (drop k rs) ≡ true
 unfolding allHold
 hold-later zero rs e = e

@@ -204,7 +204,7 @@ fn directive_of(value: &[u8]) -> Directive
 }
 
 // Of every value that reads as this day, the number yyyymmdd. Both fuel dates are the first of their month, and day 00 counts as
-// that day: so the month decides, and a date's month begins with its day 00.
+// that day (02, 3/14): so the month decides, whose first number is that of its day 00.
 fn period_at(day: u32) -> Period
     ensures { λ r. ⌜ ((v : List ℕ) → dayRead v ≡ NumberRead.Of day → r ≡ periodOf v) ⌝ }
 {

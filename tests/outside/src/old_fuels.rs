@@ -37,13 +37,19 @@ fn bookings(directive: &str, day: &str, old_fuel: &str, order: &str) -> String {
     format!("{directive}, {day} and `{old_fuel}`, {order}")
 }
 
+/// Each directive with each day, and the old fuel that fits.
+pub fn cases() -> impl Iterator<Item = (&'static str, &'static str, Option<&'static str>)> {
+    DAYS.into_iter().flat_map(|(day, fitting)| {
+        let each = DIRECTIVES.into_iter().zip(fitting);
+        each.map(move |(directive, fits)| (directive, day, fits))
+    })
+}
+
 /// What a run must meet: each old fuel by each directive with each day, accepted where it fits, else refused.
 pub fn wanted() -> Vec<Wanted> {
-    let by_directives = |(day, fitting): (&'static str, [Option<&'static str>; 2])| {
-        let each = DIRECTIVES.into_iter().zip(fitting);
-        each.flat_map(move |(directive, fits)| wanted_with(directive, day, fits))
-    };
-    DAYS.into_iter().flat_map(by_directives).collect()
+    cases()
+        .flat_map(|(directive, day, fits)| wanted_with(directive, day, fits))
+        .collect()
 }
 
 fn wanted_with(directive: &str, day: &str, fits: Option<&str>) -> Vec<Wanted> {

@@ -2,46 +2,31 @@
 
 use outside::judge::Set;
 use outside::mutator::files::set_value;
+use outside::old_fuels::cases;
 use outside::reference::bookings::old_fuel;
 use outside::reference::kinds::{fits, Kind};
 use outside::reference::tables::{AC2, ACC, GAS};
 
 use super::{assert_accepted, assert_refused, motorcycle, sample};
 
-const BEFORE_1986: Option<&str> = Some("BENZINA<86");
-const BEFORE_2002: Option<&str> = Some("BENZINA NO CAT");
-
 /// Directive, first registration and the old fuel that fits.
-const UNKNOWN_DAYS: [(&str, &str, Option<&str>); 10] = [
-    ("RT1902", "00001986", BEFORE_1986),
-    ("RT1902", "00091986", BEFORE_1986),
-    ("RT1902", "00101986", BEFORE_2002),
-    ("RT1902", "00002002", BEFORE_2002),
-    ("RT1902", "00072002", None),
-    ("NESSUNA", "00001986", BEFORE_1986),
-    ("NESSUNA", "00091986", BEFORE_1986),
-    ("NESSUNA", "00101986", None),
-    ("NESSUNA", "00002002", None),
-    ("NESSUNA", "00072002", None),
+type Case = (&'static str, &'static str, Option<&'static str>);
+
+/// Months and years behind those of the fuel dates.
+const LATER: [Case; 3] = [
+    ("RT1902", "00111986", Some("BENZINA NO CAT")),
+    ("RT1902", "00001987", Some("BENZINA NO CAT")),
+    ("RT1902", "00082002", None),
 ];
 
-/// Days whose side was no question.
-const OTHER_DAYS: [(&str, &str, Option<&str>); 10] = [
-    ("RT1902", "30091986", BEFORE_1986),
-    ("RT1902", "01101986", BEFORE_2002),
-    ("RT1902", "00111986", BEFORE_2002),
-    ("RT1902", "00001987", BEFORE_2002),
-    ("RT1902", "00062002", BEFORE_2002),
-    ("RT1902", "30062002", BEFORE_2002),
-    ("RT1902", "01072002", None),
-    ("RT1902", "00082002", None),
-    ("NESSUNA", "30091986", BEFORE_1986),
-    ("NESSUNA", "01101986", None),
-];
+/// Those of which the day is not known.
+fn unknown_days() -> impl Iterator<Item = Case> {
+    cases().filter(|(_, day, _)| day.starts_with("00"))
+}
 
 #[test]
 fn the_old_fuel_about_the_fuel_dates() {
-    for (directive, day, right) in UNKNOWN_DAYS.into_iter().chain(OTHER_DAYS) {
+    for (directive, day, right) in cases().chain(LATER) {
         let found = old_fuel(b"BENZINA", directive.as_bytes(), day.as_bytes(), b"", b"");
         assert_eq!(found, right.map(str::as_bytes), "{directive}, {day}");
     }
@@ -99,14 +84,14 @@ fn assert_old_fuels(directive: &str, day: &str, right: Option<&str>) {
 
 #[test]
 fn sets_about_the_fuel_dates_in_two_line_orders() {
-    for (directive, day, right) in UNKNOWN_DAYS.into_iter().chain(OTHER_DAYS) {
+    for (directive, day, right) in cases().chain(LATER) {
         assert_old_fuels(directive, day, right);
     }
 }
 
 #[test]
 fn an_unknown_day_where_acc_is_not_read() {
-    for (directive, day, _) in UNKNOWN_DAYS {
+    for (directive, day, _) in unknown_days() {
         let mut set = car(directive, day, "");
         set.slice_mut(ACC).clear();
         assert_accepted(&set);
@@ -122,7 +107,7 @@ fn year_and_kind_of_an_unknown_day_stay() {
     let mut set = car("RT1902", "00101986", "BENZINA NO CAT");
     set_value(set.slice_mut(ACC), "AnnoPrimaImm", b"1987");
     assert_refused(&set, (12, 2, 4));
-    for (_, day, _) in UNKNOWN_DAYS {
+    for (_, day, _) in unknown_days() {
         assert!(fits(Kind::FirstRegistration, day.as_bytes()), "{day}");
         assert!(!fits(Kind::Date, day.as_bytes()), "{day}");
     }
