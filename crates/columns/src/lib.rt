@@ -1,5 +1,7 @@
 // The due column of one file (01, Due entries): due, not due or free for each of its entries, from the texts of AC2 and
 // of the file. No value is held to it, so that it serves refused sets as well.
+#![tactic(auto)]
+
 ghost use Rattle.std.specs.Prelude.{◌≡◌, ◌++◌, ◌≤◌, length, drop};
 ghost use Rattle.tables.specs.File.{least_places};
 ghost use Rattle.due.specs.Due.{due_in};

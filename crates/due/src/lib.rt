@@ -1,4 +1,6 @@
 // Due entries (01, Due entries): conditions made from values, and what they ask of each entry.
+#![tactic(auto)]
+
 ghost use Rattle.std.specs.Prelude.{◌≡◌, ◌&&◌, ◌+◌, ◌*◌, ◌<◌, ◌≤◌, ltb, length};
 ghost use Rattle.places.specs.Places.{place_size, length_of, pairs_at};
 ghost use Rattle.tables.specs.File.{ac2, of_number};

@@ -1,4 +1,6 @@
 // One file read by its table (01, Judging), for a set and alone.
+#![tactic(auto)]
+
 ghost use Rattle.std.specs.Prelude.{◌≡◌, map, ◌+◌, ◌≤◌, ◌<◌, length, take, true};
 ghost use Rattle.lines.specs.Bytes.{all_printable};
 ghost use Rattle.places.specs.Places.{value_at};

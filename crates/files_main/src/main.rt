@@ -4,6 +4,8 @@
 //     write FILE PLACES AXLES OUTPUT   the text is read alone, then written from its pairs
 // Behind `write` may stand PAIR START LENGTH, up to fifteen times: pairs that are changed before the writing.
 // PLACES numbers are lent, each of which holds 7, and OUTPUT bytes, each of which holds AA hex.
+#![tactic(auto)]
+
 ghost use Rattle.std.specs.Prelude.{◌≤◌, length};
 
 use files::FileAnswer;

@@ -1,4 +1,6 @@
 // The judge of a whole set (01, Judging): the answer, and the pairs of its values in the places.
+#![tactic(auto)]
+
 ghost use Rattle.std.specs.Prelude.{◌≡◌, ◌≤◌, length, get_or};
 ghost use Rattle.tables.specs.File.{ac2 as booking_file, files, most_axles, least_places};
 ghost use Rattle.tables.specs.Row.{most_rows};

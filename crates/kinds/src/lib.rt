@@ -1,4 +1,6 @@
 // Kinds of value (01, Kinds of value): judges and readers of a value's own bytes.
+#![tactic(auto)]
+
 pub mod numbers; // numbers.rt: the numbers of the kinds and of the lists of words
 pub mod shapes; // shapes.rt: what a filled value of a kind must look like
 pub mod words; // words.rt: the words of the kinds

@@ -1,5 +1,7 @@
 // Judges a table of values by their kinds. Each line of the standard input is a kind number, a space and a value; it is
 // written back with the verdict and, where the value has a meaning of its kind, what it reads as.
+#![tactic(auto)]
+
 ghost use Rattle.std.specs.Prelude.{◌≤◌, nat_abs, length};
 
 use kinds::numbers::OUTCOMES;

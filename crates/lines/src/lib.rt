@@ -1,4 +1,6 @@
 // Lines of a text (01, Lines): read forward, compared and written. No name, heading or size of a file is known here.
+#![tactic(auto)]
+
 ghost use Rattle.std.specs.Prelude.{◌≡◌, false, ◌++◌, ◌+◌, ◌/◌, ◌<◌, ◌≤◌, min, length, take, drop};
 ghost use Rattle.std.specs.Int.Count.{count_trailing_zeros};
 ghost use Rattle.lines.specs.Bytes.{is_printable, is_name, all_printable, same_bytes, without, other_run, printable_run, name_run};

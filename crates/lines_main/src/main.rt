@@ -1,5 +1,7 @@
 // Reads the lines of stored texts and prints what each is, its number and its places.
 // Standard input: for each text a title and the text, each ended by a byte 00.
+#![tactic(auto)]
+
 ghost use Rattle.std.specs.Prelude.{◌≡◌, ◌+◌, ◌≤◌, min, length};
 
 use lines::{Cursor, LineRead};

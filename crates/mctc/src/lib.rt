@@ -1,6 +1,8 @@
 // The interface for C (include/mctc.h): a whole set judged, one file read alone, one file written, names of entries
 // and headings copied, the kinds of entries and their words, the due column of one file. Each call fills an array of
 // numbers that the caller lends with its answer, and returns the first of them.
+#![tactic(auto)]
+
 mod asked; // asked.rt: what the judge goes by, for whoever explains a refusal
 
 ghost use Rattle.std.specs.Prelude.{◌≡◌, ◌≤◌, length};

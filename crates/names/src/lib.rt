@@ -1,6 +1,8 @@
 // Names of entries and headings by file and number, copied into lent output. The line of the name is written by crate
 // `tables`, so that no byte string stands here once more, into a local array, and its first bytes are copied. Likewise
 // the words that an entry's value may be, from their rows in crate `kinds`, and the shape of its kind.
+#![tactic(auto)]
+
 ghost use Rattle.std.specs.Prelude.{◌≡◌, ◌<◌, ◌≤◌, length, take};
 ghost use Rattle.std.proofs.Math.Option.{some};
 ghost use Rattle.lines.specs.Writing.{put};

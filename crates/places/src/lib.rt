@@ -1,4 +1,6 @@
 // Places (01, Judging): the start and length of each value, in numbers that the caller lends.
+#![tactic(auto)]
+
 ghost use Rattle.std.specs.Prelude.{◌≡◌, ◌+◌, ◌*◌, ◌<◌, ◌≤◌, length};
 ghost use Rattle.places.specs.Places.{place_size, start_of, length_of, set_pair, value_of, cleared};
 

@@ -1,5 +1,7 @@
 // Why an entry is due or not, and a file given or not (01, Due entries and row 11): what is asked of it, and the values
 // that decide, each with its file, its entry and the test that it must pass. Tests, too, are answered here, of a value alone.
+#![tactic(auto)]
+
 ghost use Rattle.std.specs.Prelude.{◌≡◌, true};
 ghost use Rattle.tables.specs.File.{File};
 ghost use Rattle.due.specs.Conditions.{is200, is210};

@@ -1,4 +1,6 @@
 // Refusals (01, Judging): a kind for each row of the table, with file and line.
+#![tactic(auto)]
+
 ghost use Rattle.std.specs.Prelude.{◌≡◌};
 ghost use Rattle.refusals.specs.Refusals.{number_of};
 

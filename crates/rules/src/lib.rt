@@ -1,5 +1,7 @@
 // Rules over values (01, Bookings, Results and Judging): bookings (12), Differenza% (13), which slices are due (11),
 // the stem (2), and what the identification answer must equal (15).
+#![tactic(auto)]
+
 mod bookings; // bookings.rt: the rules of bookings
 mod differences; // differences.rt: Differenza%
 mod identification; // identification.rt: the identification answer against gas

@@ -7,6 +7,8 @@
 //   given    AC2, a stem: for each file whether it may be left out, whether it may be given, whether it is read then
 //   answer   gas or nothing, the answer or nothing
 // F is one digit. With file 1 the second part is empty: AC2 is the file.
+#![tactic(auto)]
+
 ghost use Rattle.std.specs.Prelude.{◌≡◌, true, ◌+◌, ◌*◌, ◌<◌, ◌≤◌, min, length};
 ghost use Rattle.places.specs.Places.{place_size, pairs_at, Within};
 ghost use Rattle.tables.specs.File.{ac2, gas as gas_file, entries, first_pair, least_places, of_number, most_axles};

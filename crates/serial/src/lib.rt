@@ -1,5 +1,7 @@
 // The analyser's identification answer (01, Identification answer): its form, and where its fields stand.
 // No entry of a file is known here.
+#![tactic(auto)]
+
 ghost use Rattle.std.specs.Prelude.{◌≡◌, ◌+◌, ◌<◌, ◌≤◌, ◌%◌, length};
 ghost use Rattle.lines.specs.Bytes.{part};
 ghost use Rattle.serial.specs.Identification.{sum, hex_digit, address_ok, field_ok, all_fields_ok};

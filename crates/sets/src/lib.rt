@@ -1,4 +1,5 @@
 // Judging a whole set (01, Judging): lawful records, the judge's definition, demand 3. The judge's answer in the code.
+#![tactic(auto)]
 
 // What acceptance takes from a file that passed: its axle count, whether its CodErrore is filled, and whether its idle
 // speed was entered by hand.

@@ -1,5 +1,7 @@
 // The tables of the files (01, Bookings and Results): headings, entry names and first pairs, by the numbers of a file
 // (from 1), a section and an entry (from 0). No number is forbidden: what there is not, has nothing in it.
+#![tactic(auto)]
+
 mod compare; // compare.rt: headings compared
 pub mod groups; // groups.rt: the names of the entries, with their lengths and tags
 pub mod pairs; // pairs.rt: the pairs of entries that conditions and rules look at

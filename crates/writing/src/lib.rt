@@ -1,4 +1,6 @@
 // One file written from a text and its pairs (01, Writing): first all checks with the length, then the bytes.
+#![tactic(auto)]
+
 ghost use Rattle.std.specs.Prelude.{◌≡◌, true, ◌+◌, ◌*◌, ◌<◌, ◌≤◌, ltb, length, take, get_or};
 ghost use Rattle.lines.specs.Writing.{Wrote};
 ghost use Rattle.places.specs.Places.{place_size, start_of, length_of, pairs_at};
