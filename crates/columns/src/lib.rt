@@ -13,13 +13,13 @@ use refusals::{Refusal, RefusalKind};
 use tables::AC2;
 
 // What is said besides a column: the file's axle count, 0 for a file without axles, and how many entries it has.
-#[derive(Drop)]
+#[derive(Clone, Copy)]
 pub struct ColumnAcceptance {
     pub axles: u32,
     pub count: u32,
 }
 
-#[derive(Drop)]
+#[derive(Clone, Copy)]
 pub enum ColumnAnswer {
     Column(ColumnAcceptance),
     Refused(Refusal),

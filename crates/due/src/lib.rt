@@ -14,7 +14,7 @@ ghost use Rattle.due.specs.Table.{first_condition, fixed_count};
 use kinds::numbers::{CATEGORIES, PETROL_DIRECTIVES};
 use tables::{AC2, ACC, DRIFT, GAS, OPACITY, SUSPENSION, pairs};
 
-#[derive(Drop)]
+#[derive(Clone, Copy)]
 pub enum Fuel {
     Petrol,
     Diesel,
@@ -24,7 +24,7 @@ pub enum Fuel {
 // What the rules ask of AC2, each reduced to the few cases that matter: the category's place in 01's list, whether
 // TargaNominale has six bytes, the fuel, whether DirettivaEmissioniGasBenzinaAuto is 91/441/CEE or later, and whether
 // DirettivaEmissioniGasMotociclo is NESSUNA.
-#[derive(Drop)]
+#[derive(Clone, Copy)]
 pub struct Booking {
     pub category: usize,
     pub six: bool,
@@ -33,7 +33,7 @@ pub struct Booking {
     pub nessuna: bool,
 }
 
-#[derive(Drop)]
+#[derive(Clone, Copy)]
 pub enum Version {
     V200,
     V210,
@@ -42,7 +42,7 @@ pub enum Version {
 
 // What due entries ask of a file with device links: whether TipoCollegamento is RS SENZA ESITO, whether
 // TipoCollegamentoContagiri is ESTERNO, and the protocol version of each device.
-#[derive(Drop)]
+#[derive(Clone, Copy)]
 pub struct Links {
     pub serial: bool,
     pub external: bool,
@@ -52,7 +52,7 @@ pub struct Links {
 }
 
 // The pairs of four values that links are made from.
-#[derive(Drop)]
+#[derive(Clone, Copy)]
 struct LinkPairs {
     link: usize,
     version: usize,
@@ -84,7 +84,7 @@ const NO_LINKS: Links = Links {
 };
 
 // All that due entries depend on: a booking's five and the links' five.
-#[derive(Drop)]
+#[derive(Clone, Copy)]
 pub struct Conditions {
     pub category: usize,
     pub six: bool,
@@ -99,7 +99,7 @@ pub struct Conditions {
 }
 
 // What is asked of an entry: filled, empty, or nothing.
-#[derive(Drop)]
+#[derive(Clone, Copy)]
 pub enum Due {
     IsDue,
     NotDue,
@@ -108,7 +108,7 @@ pub enum Due {
 
 // What an entry hangs on, in 01's order. DieselEntry: Turbo and CorrettorePressione. SpeedTest: condition P.
 // The last six: the key and the checksum of each device.
-#[derive(Drop)]
+#[derive(Clone, Copy)]
 pub enum Condition {
     Always,
     Free,

@@ -26,33 +26,33 @@ use tables::{MOST_ROWS, groups, pairs, row_kinds};
 const MOST_BYTES: usize = 16384;
 
 // What an accepted file says: its axle count, 0 for a file without axles, and whether its idle speed was entered by hand.
-#[derive(Drop)]
+#[derive(Clone, Copy)]
 pub struct FileAcceptance {
     pub axles: u32,
     pub byhand: bool,
 }
 
-#[derive(Drop)]
+#[derive(Clone, Copy)]
 pub enum FileAnswer {
     Accepted(FileAcceptance),
     Refused(Refusal),
 }
 
 // A text that was read: how many sections it has, or the kind of its refusal with the line.
-#[derive(Drop)]
+#[derive(Clone, Copy)]
 pub enum TextAnswer {
     Sections(usize),
     Faulty(Fault),
 }
 
-#[derive(Drop)]
+#[derive(Clone, Copy)]
 pub struct Fault {
     pub kind: RefusalKind,
     pub line: u32,
 }
 
 // A check of a text.
-#[derive(Drop)]
+#[derive(Clone, Copy)]
 enum Outcome {
     Passed,
     Failed(Fault),

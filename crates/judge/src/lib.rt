@@ -26,20 +26,20 @@ const NO_FIGURES: Figures = Figures {
 };
 
 // A slice that was judged.
-#[derive(Drop)]
+#[derive(Clone, Copy)]
 enum Step {
     Stop(Refusal),
     Go(Figures),
 }
 
 // AC2 that passed: what its values say, for all slices after it, and its figures.
-#[derive(Drop)]
+#[derive(Clone, Copy)]
 struct Booked {
     booking: Booking,
     figures: Figures,
 }
 
-#[derive(Drop)]
+#[derive(Clone, Copy)]
 enum BookingStep {
     Stop(Refusal),
     Go(Booked),

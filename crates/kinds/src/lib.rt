@@ -13,27 +13,27 @@ ghost use Rattle.kinds.specs.Value.{is_number, is_fixed, is_leap, days_in, is_ye
 ghost use Rattle.kinds.specs.Meaning.{number_read, hundredths as Meaning·hundredths, signed as Meaning·signed, signed_read, drift_read, revs, revs_read, day_number, day_read};
 
 // A number, or that the value is no such number.
-#[derive(Drop)]
+#[derive(Clone, Copy)]
 pub enum NumberRead {
     Of(u32),
     Wrong,
 }
 
 // A drift in hundredths of a metre per kilometre.
-#[derive(Drop)]
+#[derive(Clone, Copy)]
 pub enum DriftRead {
     Of(i32),
     Wrong,
 }
 
 // Revolutions per minute, and whether they were entered by hand.
-#[derive(Drop)]
+#[derive(Clone, Copy)]
 pub struct Revs {
     pub number: u32,
     pub byhand: bool,
 }
 
-#[derive(Drop)]
+#[derive(Clone, Copy)]
 pub enum RevsRead {
     Of(Revs),
     Wrong,

@@ -6,7 +6,7 @@ ghost use Rattle.kinds.specs.Shapes.{shape_of};
 use crate::numbers;
 
 // The number of a kind's form, the most bytes of its values, the digits behind the point, and how many words its list has.
-#[derive(Drop)]
+#[derive(Clone, Copy)]
 pub struct Shape {
     pub form: u32,
     pub most: u32,

@@ -10,7 +10,7 @@ ghost use Rattle.lines.specs.Reading.{start, is_line, line_at};
 ghost use Rattle.lines.specs.Writing.{Wrote};
 
 // The reading position: the place of the next byte, and the number of lines before it.
-#[derive(Drop)]
+#[derive(Clone, Copy)]
 pub struct Cursor {
     pub at: usize,
     pub line: usize,
@@ -18,7 +18,7 @@ pub struct Cursor {
 
 // What stands at a reading position. A line that is read comes with the position after it, whose `line` is
 // the line's own number, from 1; a line of bad form comes with its number.
-#[derive(Drop)]
+#[derive(Clone, Copy)]
 pub enum LineRead {
     End,
     Bad {

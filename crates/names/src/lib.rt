@@ -20,26 +20,26 @@ use refusals::{Refusal, RefusalKind};
 const LINE_SIZE: usize = 64;
 
 // What a copied name says: how many bytes it has, and the number of its section.
-#[derive(Drop)]
+#[derive(Clone, Copy)]
 pub struct Named {
     pub length: u32,
     pub section: u32,
 }
 
-#[derive(Drop)]
+#[derive(Clone, Copy)]
 pub enum NameAnswer {
     Named(Named),
     Refused(Refusal),
 }
 
-#[derive(Drop)]
+#[derive(Clone, Copy)]
 pub enum KindAnswer {
     Shaped(Shape),
     Refused(Refusal),
 }
 
 // Where an entry stands: its section, and its number there.
-#[derive(Drop)]
+#[derive(Clone, Copy)]
 struct Standing {
     section: usize,
     entry: usize,

@@ -72,7 +72,7 @@ const LINK: u32 = (pairs::GAS_TIPO_COLLEGAMENTO - pairs::GAS_FIRST) as u32;
 
 // The number of a file with links, and its own entries that conditions look at; the number of its entries for one that it
 // has not.
-#[derive(Drop)]
+#[derive(Clone, Copy)]
 struct OwnEntries {
     file: u32,
     link: u32,

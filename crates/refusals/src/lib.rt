@@ -5,7 +5,7 @@ ghost use Rattle.std.specs.Prelude.{◌≡◌};
 ghost use Rattle.refusals.specs.Refusals.{number_of};
 
 // The rows of the table, in its order.
-#[derive(Drop)]
+#[derive(Clone, Copy)]
 pub enum RefusalKind {
     PlacesTooShort,
     StemForm,
@@ -27,7 +27,7 @@ pub enum RefusalKind {
     OutputTooShort,
 }
 
-#[derive(Drop)]
+#[derive(Clone, Copy)]
 pub struct Refusal {
     pub kind: RefusalKind,
     pub file: u32,

@@ -22,7 +22,7 @@ pub use slices::{good_stem, identification_right, is_read, slice_right, stated_o
 use tables::{AC2, ACC, DRIFT, GAS, OPACITY, SUSPENSION};
 
 // The word that TipoVeicolo must be.
-#[derive(Drop)]
+#[derive(Clone, Copy)]
 pub enum VehicleType {
     Leggero,
     Pesante,
@@ -31,7 +31,7 @@ pub enum VehicleType {
 }
 
 // The words that DescrizioneVeicolo may be.
-#[derive(Drop)]
+#[derive(Clone, Copy)]
 pub enum Descriptions {
     OfM1,
     OfM2M3,
@@ -41,7 +41,7 @@ pub enum Descriptions {
 }
 
 // DirettivaEmissioniGasBenzinaAuto: Catalyst is 91/441/CEE or 98/69/CE.
-#[derive(Drop)]
+#[derive(Clone, Copy)]
 pub enum Directive {
     Nessuna,
     Rt1902,
@@ -50,7 +50,7 @@ pub enum Directive {
 }
 
 // Where a day of first registration stands to 01/10/1986 and 01/07/2002.
-#[derive(Drop)]
+#[derive(Clone, Copy)]
 pub enum Period {
     Before1986,
     Before2002,
@@ -58,7 +58,7 @@ pub enum Period {
 }
 
 // What ACC's Alimentazione_1 must be with BENZINA.
-#[derive(Drop)]
+#[derive(Clone, Copy)]
 pub enum PetrolWord {
     Cat,
     Under86,
@@ -67,19 +67,19 @@ pub enum PetrolWord {
 }
 
 // What the caller states: whether the stem's first digit is 9.
-#[derive(Drop)]
+#[derive(Clone, Copy)]
 pub struct Stated {
     pub nine: bool,
 }
 
 // A rule that does not hold: its entry's place in entry order, and its refusal.
-#[derive(Drop)]
+#[derive(Clone, Copy)]
 pub struct BrokenRule {
     pub entry: usize,
     pub kind: refusals::RefusalKind,
 }
 
-#[derive(Drop)]
+#[derive(Clone, Copy)]
 pub enum RuleCheck {
     Kept,
     Broken(BrokenRule),

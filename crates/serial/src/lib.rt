@@ -10,7 +10,7 @@ ghost use Rattle.serial.specs.Reading.{framed, checksum_ok, field_end, ends_of, 
 // Where each field ends, as a place in the answer: that of the 17 hex behind it, for the last that of the checksum.
 // A field starts one place after the end of the field before it, so Mar is `&answer[id + 1..mar]`.
 // `model` stands for Mod, which is a reserved word.
-#[derive(Drop)]
+#[derive(Clone, Copy)]
 pub struct FieldEnds {
     pub gas: usize,
     pub address: usize,
@@ -24,7 +24,7 @@ pub struct FieldEnds {
     pub vermctcnet: usize,
 }
 
-#[derive(Drop)]
+#[derive(Clone, Copy)]
 pub enum IdentificationRead {
     Malformed,
     Fields(FieldEnds),

@@ -39,7 +39,7 @@ pub const MOST_ROWS: usize = 64;
 
 // Where a section stands: the row of its first entry in its group, how many entries it has, and the rows of its table
 // before it.
-#[derive(Drop)]
+#[derive(Clone, Copy)]
 pub struct SectionPlace {
     pub start: usize,
     pub size: usize,

@@ -16,19 +16,19 @@ use refusals::{Refusal, RefusalKind};
 use tables::{AC2, ACC, DRIFT, GAS, OPACITY, SUSPENSION, row_kinds};
 
 // What an accepted writing says: the length of the written file.
-#[derive(Drop)]
+#[derive(Clone, Copy)]
 pub struct WriteAcceptance {
     pub length: u32,
 }
 
-#[derive(Drop)]
+#[derive(Clone, Copy)]
 pub enum WriteAnswer {
     Written(WriteAcceptance),
     Refused(Refusal),
 }
 
 // What all checks but the output's say: the length of the file, or a refusal.
-#[derive(Drop)]
+#[derive(Clone, Copy)]
 pub enum Quoted {
     Length(u32),
     Refused(Refusal),
