@@ -1,0 +1,28 @@
+-- `columns::write_column` meets its contract: the first `i` numbers are the first `i` entries'. Assumes nothing.
+use borrow.Author.Rules.{rules}
+use mathlib.Core.Path.{◌≡◌}
+use mathlib.Core.List.{◌++◌}
+use Prim.Native.Nat.{◌-◌, ◌≤◌}
+use native.Mathlib.Omega.{arith}
+use lib.ListN.{length, drop, length-set}
+use Rattle.due.specs.Due.{due_in}
+use Rattle.columns.specs.Column.{numbers_from}
+use Rattle.columns.proofs.Numbers.{numbers_more}
+use Rattle.columns.proofs.write_column.Goals as goal
+
+pub loop-i-init : goal.loop-i-init
+unfolding numbers_from
+loop-i-init c = search rules
+
+pub loop-i-preserved : goal.loop-i-preserved
+loop-i-preserved c =
+    let x = c.args in (
+      search rules,
+      simp length-set (search rules),
+      rw (c.loop-i.invariant.2, c.due_number.ensures) (numbers_more (λ j. due_in x.file j x.conditions) c.loop-i.i x.column.now _ c.due_of.ensures (omega arith)),
+    )
+
+pub returns : goal.returns
+returns c =
+    let e : c.loop-i.i ≡ c.args.count = omega arith in
+    rw e at c.loop-i.invariant.2

@@ -1,0 +1,17 @@
+-- The two comparisons are those of the definition, in its order. Assumes nothing.
+use borrow.Author.Rules.{rules}
+use mathlib.Core.Path.{sym, ◌∙◌}
+use Rattle.due.specs.Conditions.{version_in}
+use Rattle.due.proofs.version_of.Goals as goal
+
+pub returns-then-equal : goal.returns-then-equal
+unfolding version_in
+returns-then-equal c = rw (sym c.equal.ensures ∙ c.if-equal.true)
+
+pub returns-then-equal-2 : goal.returns-then-equal-2
+unfolding version_in
+returns-then-equal-2 c = rw (sym c.equal.ensures ∙ c.if-equal.false, sym c.equal-2.ensures ∙ c.if-equal-2.true)
+
+pub returns : goal.returns
+unfolding version_in
+returns c = rw (sym c.equal.ensures ∙ c.if-equal.false, sym c.equal-2.ensures ∙ c.if-equal-2.false)

@@ -1,0 +1,17 @@
+use borrow.Author.Rules.{rules}
+use Prim.Native.Nat.{ℕ, ◌-◌, ◌≤◌}
+use native.Mathlib.Omega.{arith}
+use mathlib.Core.Path.{◌≡◌, ap, sym, ◌∙◌}
+use mathlib.Core.List.{map}
+use lib.ListN.{get_or}
+use borrow.Author.Tests.{eq-eqb, ne_eqb}
+use Rattle.tables.specs.Row.{row_kind}
+use Rattle.reading.specs.Reading.{check_absent, is_absent, owner_row, first_wrong, fails}
+use Rattle.reading.proofs.Checks.{wrong-here, wrong-next, wrong-end}
+use Rattle.files.proofs.check_absent.Given as goal
+
+abbrev pub invariant-loop-r : goal.invariant-loop-r
+invariant-loop-r l = (l.r ≤ l.rows) × (check_absent (map row_kind l.kinds) l.numbers l.rows ≡ first_wrong (is_absent l.numbers) 8 (λ (x : ℕ). get_or l.numbers (owner_row (map row_kind l.kinds) x) 0) (l.rows - l.r) l.r)
+
+abbrev pub decreases-loop-r : goal.decreases-loop-r
+decreases-loop-r l = l.rows - l.r

@@ -1,0 +1,21 @@
+-- `judge::figures_of` meets its contract: each figure is that of the file of the number. Assumes nothing.
+use borrow.Author.Rules.{rules}
+use mathlib.Core.Path.{refl, ◌∙◌}
+use mathlib.Core.Bool.{false}
+use Prim.Native.Nat.{ℕ}
+use mathlib.Core.List.{List}
+use Rattle.tables.specs.File.{File}
+use Rattle.tables.specs.Value.{values_of}
+use Rattle.files.specs.Files.{is_by_hand}
+use Rattle.rules.specs.Marks.{is_marked}
+use Rattle.judge.proofs.Numbers.{by-file}
+use Rattle.judge.proofs.figures_of.Goals as goal
+
+pub returns : goal.returns
+returns c =
+    let vs : File → List (List ℕ) = (λ f. values_of f c.args.axles c.args.text.now c.args.places.now) in
+    rw (
+      c.is_marked-mark.ensures ∙ by-file c.args.file c.requires.0 false (λ f. is_marked f (vs f)),
+      c.is_by_hand-byhand.ensures ∙ by-file c.args.file c.requires.0 false (λ f. is_by_hand f (vs f)),
+    )
+    refl

@@ -1,0 +1,24 @@
+-- `kinds::bare` meets its contract: each branch is one case of the definition. Assumes nothing.
+use mathlib.Core.Path.{sym, ◌∙◌}
+use Prim.Native.Nat.{◌≤◌}
+use native.Mathlib.Omega.{arith}
+use borrow.Author.Rules.{rules}
+use lib.ListN.{length}
+use Rattle.kinds.specs.Value.{bare}
+use Rattle.kinds.proofs.Laws.{tail_all, starts-long}
+use Rattle.kinds.proofs.bare.Goals as goal
+
+-- past the test
+long : (c : goal.Then-starts_with) → 1 ≤ length c.args.value.now
+long c = starts-long _ c.args.value.now (sym c.starts_with.ensures ∙ c.if-starts_with.true)
+
+pub slice_bounds-result-start : goal.slice_bounds-result-start
+slice_bounds-result-start c = omega (arith, long c)
+
+pub returns-then-starts_with : goal.returns-then-starts_with
+unfolding bare
+returns-then-starts_with c = rw (sym c.starts_with.ensures ∙ c.if-starts_with.true) (tail_all 1 c.args.value.now)
+
+pub returns-else-starts_with : goal.returns-else-starts_with
+unfolding bare
+returns-else-starts_with c = rw (sym c.starts_with.ensures ∙ c.if-starts_with.false)

@@ -1,0 +1,23 @@
+-- `kinds::read_number` meets its contract: nine digits or fewer fit, and are read as the number that they spell. Assumes nothing.
+use mathlib.Core.Path.{◌≡◌, ap, sym, ◌∙◌}
+use mathlib.Core.Bool.{true}
+use borrow.Author.Rules.{rules}
+use Rattle.kinds.specs.Value.{is_number}
+use Rattle.kinds.specs.Meaning.{number_read}
+use Rattle.kinds.specs.declared.NumberRead.TheVariants as NumberRead
+use Rattle.kinds.proofs.Laws.{number_short, number-all}
+use Rattle.kinds.proofs.read_number.Goals as goal
+
+good : (c : goal.Then-is_number) → is_number 9 c.args.value.now ≡ true
+good c = sym c.is_number.ensures ∙ c.if-is_number.true
+
+pub number-requires : goal.number-requires
+number-requires c = (number_short 9 _ (good c), number-all 9 _ (good c))
+
+pub returns-then-is_number : goal.returns-then-is_number
+unfolding number_read
+returns-then-is_number c = rw (good c.before) (ap NumberRead.Of c.number.ensures.0)
+
+pub returns : goal.returns
+unfolding number_read
+returns c = rw (sym c.is_number.ensures ∙ c.if-is_number.false)

@@ -1,0 +1,15 @@
+-- `lines::all_printable` meets its contract: the printable bytes end where the part does. Assumes nothing.
+use borrow.Author.Rules.{rules}
+use Prim.Native.Nat.{ℕ}
+use native.Mathlib.Nat.{zero-add}
+use mathlib.Core.Path.{ap, ◌∙◌}
+use lib.Dec.{eqb}
+use lib.ListN.{length}
+use Rattle.lines.specs.Bytes.{printable_run}
+use Rattle.lines.proofs.Bytes.{run-all}
+use Rattle.lines.proofs.all_printable.Goals as goal
+
+pub returns : goal.returns
+returns c =
+    let s = c.args.part.now in
+    ap (λ (k : ℕ). eqb k (length s)) (c.printable_end.ensures ∙ zero-add (printable_run s)) ∙ run-all s

@@ -1,0 +1,34 @@
+-- `lines::equal` meets its contract: what the definition says of the whole, it says from `i` on. Assumes nothing.
+use borrow.Author.Rules.{rules}
+use Prim.Native.Nat.{◌-◌, ◌≤◌}
+use native.Mathlib.Omega.{arith}
+use mathlib.Core.Path.{◌≡◌, sym, ◌∙◌}
+use lib.ListN.{length, drop}
+use Rattle.lines.specs.Bytes.{same_bytes}
+use Rattle.lines.proofs.Bytes.{same_length}
+use Rattle.lines.proofs.Words.{words_same, words-differ}
+use Rattle.lines.proofs.equal.Goals as goal
+
+pub returns-then-a-b : goal.returns-then-a-b
+returns-then-a-b c = sym (same_length _ _ c.if-a-b.true)
+
+pub returns-then-word : goal.returns-then-word
+returns-then-word c =
+    let x = c.args in
+    sym
+    (c.loop-i.invariant.2
+    ∙ words-differ x.a.now x.b.now (λ k. (c.shared_slice_known-1.given k).fits) (λ k. (c.shared_slice_known-2-1.given k).fits) 8 c.loop-i.i (omega arith) (omega arith)
+    (λ e. c.if-word.true (c.word.ensures ∙ e ∙ sym c.word-in-loop-i.ensures)))
+
+pub loop-i-preserved : goal.loop-i-preserved
+loop-i-preserved c =
+    let x = c.args in (
+      omega arith,
+      omega arith,
+      c.loop-i.invariant.2
+          ∙ words_same x.a.now x.b.now (λ k. (c.shared_slice_known-1.given k).fits) (λ k. (c.shared_slice_known-2-1.given k).fits) 8 c.loop-i.i (omega arith) (omega arith)
+          (sym c.word.ensures ∙ c.if-word.false ∙ c.word-in-loop-i.ensures),
+    )
+
+pub returns : goal.returns
+returns c = c.equal_rest.ensures ∙ sym c.loop-i.invariant.2

@@ -1,0 +1,15 @@
+use borrow.Author.Rules.{rules}
+use Prim.Native.Nat.{ℕ, ◌+◌, ◌-◌, ◌/◌, ◌≤◌}
+use native.Mathlib.Omega.{arith}
+use mathlib.Core.Path.{◌≡◌, sym, ap, ◌∙◌}
+use lib.ListN.{length, drop}
+use lib.Count.{count_trailing_zeros, trailing_le}
+use Rattle.lines.specs.Bytes.{printable_run}
+use Rattle.lines.proofs.Words.{printable-passed, printable-found}
+use Rattle.lines.proofs.printable_end.Given as goal
+
+abbrev pub invariant-loop-i : goal.invariant-loop-i
+invariant-loop-i l = (l.i ≤ length l.text) × (l.at + printable_run (drop l.at l.text) ≡ l.i + printable_run (drop l.i l.text))
+
+abbrev pub decreases-loop-i : goal.decreases-loop-i
+decreases-loop-i l = length l.text - l.i

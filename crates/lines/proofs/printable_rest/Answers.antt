@@ -1,0 +1,22 @@
+-- `lines::printable_rest` meets its contract: what the definition says from `at` on, it says from `i` on. Assumes nothing.
+use Prim.Native.Nat.{◌+◌, ◌-◌, ◌≤◌}
+use native.Mathlib.Omega.{arith}
+use borrow.Author.Rules.{rules}
+use mathlib.Core.Path.{◌≡◌, sym, ◌∙◌}
+use lib.ListN.{length, drop}
+use Rattle.lines.specs.Bytes.{printable_run}
+use Rattle.lines.proofs.Loops.{printable-yes, printable-low, printable-high, run_more, run-stop, run_end}
+use Rattle.lines.proofs.printable_rest.Goals as goal
+
+pub returns-then-b-lt32 : goal.returns-then-b-lt32
+returns-then-b-lt32 c = sym (c.loop-i.invariant.1 ∙ run-stop _ _ c.loop-i-test.true (printable-low _ c.if-b-lt32.true))
+
+pub returns-then-b-gt126 : goal.returns-then-b-gt126
+returns-then-b-gt126 c = sym (c.loop-i.invariant.1 ∙ run-stop _ _ c.loop-i-test.true (printable-high _ c.if-b-gt126.true))
+
+pub loop-i-preserved : goal.loop-i-preserved
+loop-i-preserved c =
+    (omega arith, c.loop-i.invariant.1 ∙ run_more _ _ c.loop-i-test.true (printable-yes _ c.if-b-lt32.false c.if-b-gt126.false))
+
+pub returns : goal.returns
+returns c = sym (c.loop-i.invariant.1 ∙ run_end _ _ c.loop-i-test.false)

@@ -1,0 +1,14 @@
+use Prim.Native.Nat.{◌+◌, ◌-◌, ◌≤◌}
+use native.Mathlib.Omega.{arith}
+use borrow.Author.Rules.{rules}
+use mathlib.Core.Path.{◌≡◌, sym, ◌∙◌}
+use lib.ListN.{length, drop}
+use Rattle.lines.specs.Bytes.{printable_run}
+use Rattle.lines.proofs.Loops.{printable-yes, printable-low, printable-high, run_more, run-stop, run_end}
+use Rattle.lines.proofs.printable_rest.Given as goal
+
+abbrev pub invariant-loop-i : goal.invariant-loop-i
+invariant-loop-i l = (l.i ≤ length l.text) × (l.at + printable_run (drop l.at l.text) ≡ l.i + printable_run (drop l.i l.text))
+
+abbrev pub decreases-loop-i : goal.decreases-loop-i
+decreases-loop-i l = length l.text - l.i

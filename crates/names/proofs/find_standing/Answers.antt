@@ -1,0 +1,26 @@
+-- `names::find_standing` meets its contract: section after section, what is left of the number. Assumes nothing.
+use Prim.Native.Nat.{◌-◌, ◌≤◌}
+use native.Mathlib.Omega.{arith}
+use borrow.Author.Rules.{rules}
+use lib.ListN.{length}
+use Rattle.tables.specs.File.{table_of}
+use Rattle.names.proofs.Sections.{Reached, reached-first, reached-here, reached-next, reached-end}
+use Rattle.names.proofs.find_standing.Goals as goal
+
+pub loop-section-init : goal.loop-section-init
+loop-section-init c = (search rules, reached-first c.args.file c.args.entry)
+
+pub returns-then-left-size : goal.returns-then-left-size
+returns-then-left-size c =
+    let x = c.args in
+    reached-here x.file x.entry c.loop-section.section c.loop-section.left (omega arith) (omega arith) c.loop-section.invariant.1
+
+pub loop-section-preserved : goal.loop-section-preserved
+loop-section-preserved c =
+    let x = c.args in
+    (search rules, rw c.entry_count-size.ensures (reached-next x.file x.entry c.loop-section.section c.loop-section.left (omega arith) (omega arith) c.loop-section.invariant.1))
+
+pub returns : goal.returns
+returns c =
+    let x = c.args in
+    reached-end x.file x.entry c.loop-section.section c.loop-section.left (omega arith) c.loop-section.invariant.1

@@ -1,0 +1,11 @@
+use borrow.Author.Rules.{rules}
+use native.Mathlib.Omega.{arith}
+use Prim.Native.Nat.{◌-◌, ◌≤◌}
+use Rattle.tables.proofs.Find.{NoneFrom, none_more}
+use Rattle.tables.proofs.next_row.Given as goal
+
+abbrev pub invariant-loop-row : goal.invariant-loop-row
+invariant-loop-row l = (l.from ≤ l.row) × (l.row ≤ l.end) × NoneFrom l.tags l.tag l.from l.row
+
+abbrev pub decreases-loop-row : goal.decreases-loop-row
+decreases-loop-row l = l.end - l.row

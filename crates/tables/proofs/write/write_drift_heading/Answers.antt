@@ -1,0 +1,28 @@
+-- `tables::write::write_drift_heading` meets its contract: the fixed heading, or that of an axle of one digit. Assumes nothing.
+use borrow.Author.Rules.{rules}
+use Rattle.tables.specs.File.{drift, all_sections, sections, fixed_sections, axle_sections, axles_from}
+use Rattle.kinds.proofs.Laws.{past}
+use Rattle.tables.proofs.Sections.{heading-none, drift-heading}
+use Rattle.tables.proofs.write.write_drift_heading.Goals as goal
+
+pub write_heading-requires : goal.write_heading-requires
+unfolding sections fixed_sections axle_sections axles_from
+write_heading-requires c = rw c.in-0.is at c.requires
+
+pub write_drift_axle_heading-requires : goal.write_drift_axle_heading-requires
+write_drift_axle_heading-requires c = (search rules, rw (drift-heading (past 1 _ c.in_default-1.rest) c.if-section-lt10-own.true) at c.requires)
+
+pub write_heading-requires-in_default : goal.write_heading-requires-in_default
+unfolding sections fixed_sections axle_sections axles_from
+write_heading-requires-in_default c = rw (heading-none (all_sections drift) c.if-section-lt10-own.false) at c.requires
+
+pub returns-in-0 : goal.returns-in-0
+unfolding sections fixed_sections axle_sections axles_from
+returns-in-0 c = rw c.in-0.is c.write_heading.ensures
+
+pub returns-in-1-to-9 : goal.returns-in-1-to-9
+returns-in-1-to-9 c = rw (drift-heading (past 1 _ c.in_default-1.rest) c.if-section-lt10-own.true) c.write_drift_axle_heading.ensures
+
+pub returns-in_default : goal.returns-in_default
+unfolding sections fixed_sections axle_sections axles_from
+returns-in_default c = rw (heading-none (all_sections drift) c.if-section-lt10-own.false) c.write_heading-in_default.ensures

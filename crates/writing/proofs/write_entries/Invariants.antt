@@ -1,0 +1,14 @@
+use Prim.Native.Nat.{◌-◌}
+use native.Mathlib.Omega.{arith}
+use borrow.Author.Rules.{rules}
+use Rattle.tables.specs.File.{table_of}
+use Rattle.tables.specs.Row.{entries_in}
+use Rattle.writing.proofs.Bytes.{Entries, entries-start, entries-room, entries_next, entries-end}
+use Rattle.places.proofs.Values.{within-at}
+use Rattle.writing.proofs.write_entries.Given as goal
+
+abbrev pub invariant-loop-entry : goal.invariant-loop-entry
+invariant-loop-entry l = Entries (entries_in (table_of l.file) l.section) l.text l.places l.first l.initial.output l.at l.entry l.output l.end
+
+abbrev pub decreases-loop-entry : goal.decreases-loop-entry
+decreases-loop-entry l = l.count - l.entry

@@ -1,0 +1,12 @@
+use Prim.Native.Nat.{◌-◌}
+use native.Mathlib.Omega.{arith}
+use borrow.Author.Rules.{rules}
+use Rattle.tables.specs.File.{table_of}
+use Rattle.writing.proofs.Bytes.{Sections, sections-start, section-ready, section-pairs, sections-next, sections-end}
+use Rattle.writing.proofs.write_sections.Given as goal
+
+abbrev pub invariant-loop-section : goal.invariant-loop-section
+invariant-loop-section l = Sections (table_of l.file) l.count l.text l.places l.first l.initial.output l.at l.section l.pair l.output l.end
+
+abbrev pub decreases-loop-section : goal.decreases-loop-section
+decreases-loop-section l = l.count - l.section
