@@ -43,6 +43,16 @@ class Fn:
         p = self.places[i][1]
         return self.index.get(norm(p)) if p is not None else None
 
+    def hops(self, i, j):
+        """How many steps lead back from the place i to the place j."""
+        n = 0
+        while i is not None and i != j:
+            arm = self.e["arms"][i] if i < len(self.e["arms"]) else None
+            for _ in range(arm[1] if arm else 1):
+                i = self.parent(i) if i is not None else None
+            n += 0 if arm else 1
+        return n if i is not None else None
+
     def step(self, i, seg, rest):
         """The new path of the old own step seg at the place i, or None."""
         old, new = self.places[i][2]
@@ -56,8 +66,6 @@ class Fn:
                     best = (newfield, oldpath)
             if best:
                 field, path = best
-                if field.endswith("-own"):
-                    return [field] + rest[len(path):]
                 return [arm[0], field] + rest[len(path):]
         rest = list(rest)
         for a, b in self.places[i][4]:
@@ -129,7 +137,7 @@ def blocks(text):
     return head, res
 
 
-def rewrite(fn, text, env, helpers, report):
+def rewrite(fn, text, env, helpers, report, known, is_answer=True):
     """Old paths of the contexts in env (variable -> (root variable, place)) to new ones."""
 
     def alias(m):
@@ -139,6 +147,7 @@ def rewrite(fn, text, env, helpers, report):
     text = re.sub(r"^( *)(.*)$", lambda m: m.group(1) + m.group(2).replace(" in let ", " in\n" + m.group(1) + "let "), text, flags=re.M)
     lines, kept = text.split("\n"), []
     env = dict(env)
+    roots = {root for root, _, _ in env.values()}
     pending = {}
     for line in lines:
         m = re.match(r"^(\s*)let ([A-Za-z0-9_'₀-₉]+) = ([A-Za-z_][A-Za-z0-9_'₀-₉-]*)((?:\.before)*) in( .*)?$", line)
@@ -166,6 +175,7 @@ def rewrite(fn, text, env, helpers, report):
                 continue
         kept.append(line)
     bare = set()
+    held = []
 
     def path(m):
         var, tail = m.group(1), m.group(2)
@@ -180,8 +190,24 @@ def rewrite(fn, text, env, helpers, report):
         if got[0] is not None:
             if not segs and var != root:
                 bare.add(var)
-            return m.group(0)
+            n = fn.hops(o, got[0]) if var == root else fn.hops(i, got[0])
+            if n is None:
+                report.append("HOPS " + m.group(0))
+                return m.group(0)
+            return var + ".before" * (n + (1 if var == root and is_answer else 0))
         return ".".join([root] + got[1])
+
+    def cited(m):
+        """A helper's context is the place that its type names, however many steps back."""
+        name, var, befores = m.group(1), m.group(2), m.group(3)
+        if name not in known or var not in env:
+            return m.group(0)
+        root, i, o = env[var]
+        n = fn.hops(o, known[name])
+        if n is None:
+            return m.group(0)
+        held.append(root + ".before" * (n + (1 if is_answer else 0)))
+        return f"{name} \x03{len(held) - 1}\x04"
 
     def helper_path(m):
         name, var, befores, tail = m.group(1), m.group(2), m.group(3), m.group(4)
@@ -194,16 +220,25 @@ def rewrite(fn, text, env, helpers, report):
         got = fn.resolve(got[0], helpers[name] + [s for s in tail.split(".") if s], o)
         if got is None or got[0] is not None:
             return m.group(0)
-        return root + "\x01" + ".".join(got[1])
+        held.append(root + "." + ".".join(got[1]))
+        return f"\x03{len(held) - 1}\x04"
 
     def one(line):
         line = re.sub(r"\(([A-Za-z0-9_'₀-₉]+) ([A-Za-z0-9_'₀-₉]+)((?:\.before)*)\)((?:\.[A-Za-z0-9_'₀-₉-]+)+)", helper_path, line)
-        return IDENT.sub(path, line).replace("\x01", ".")
+        line = re.sub(r"(?<![A-Za-z0-9_'.-])([A-Za-z][A-Za-z0-9_'₀-₉-]*) ([A-Za-z][A-Za-z0-9_'₀-₉]*)((?:\.before)*)(?![A-Za-z0-9_'.₀-₉-])", cited, line)
+        line = re.sub("\x03([0-9]+)\x04", lambda m: held[int(m.group(1))], IDENT.sub(path, line))
+        return line.replace(".type-inv", ".type_inv")
 
     done = [one(l) if l is not None else None for l in kept]
     text = "\n".join(l for l in done if l is not None)
     for var in list(bare):
         text_line = pending[var][1]
+        root, i, o = env[var]
+        n = fn.hops(o, i)
+        if n is None:
+            report.append("ALIAS " + text_line.strip())
+        else:
+            text_line = re.sub(r"^(\s*let \S+) = .* in", lambda m: m.group(1) + " = " + root + ".before" * (n + (1 if is_answer else 0)) + " in", text_line)
         done[pending[var][0]] = text_line
     out = [l for l in done if l is not None]
     text = "\n".join(out)
@@ -217,10 +252,79 @@ def types(fn, text, loops):
     def turn(m):
         name = m.group(1)
         i = fn.index.get(norm(name))
-        return "goal." + (fn.new[i] if i is not None else name)
+        return "(lts." + (fn.places[i][0] if i is not None else name) + (" tie.the-claims" if fn.e["params"] or any(p[3] for p in fn.places) else "") + " tie.handed_pre tie.handed_post" + re.sub(r"(invariant|decreases)-([A-Za-z0-9_'-]+)", loop, m.group(2)) + ")"
 
-    text = re.sub(r"tie\.((?:After|Then|Else|At|In|Start|On)[A-Za-z0-9_'-]*)((?: (?:invariant|decreases)-[A-Za-z0-9_'-]+)*)", turn, text)
-    return text
+    def loop(m):
+        return f"goal.the-{m.group(1)}-{loops[norm(m.group(2))][0]}"
+
+    return re.sub(r"tie\.((?:After|Then|Else|At|In|Start|On)[A-Za-z0-9_'-]*)((?: (?:invariant|decreases)-[A-Za-z0-9_'-]+)*)", turn, text)
+
+
+def spec_args(decls):
+    """The arguments of tie.spec in the older file."""
+    for c, n, ls in decls:
+        body = "\n".join(ls)
+        if "tie.spec" not in body:
+            continue
+        text = body.split("tie.spec", 1)[1]
+        args, depth, word = [], 0, ""
+        for ch in text:
+            if ch in "([{":
+                depth += 1
+            if ch in ")]}":
+                depth -= 1
+                if depth < 0:
+                    break
+            if ch.isspace() and depth == 0:
+                if word:
+                    args.append(word)
+                word = ""
+            else:
+                word += ch
+        if word:
+            args.append(word)
+        return [a for a in args if not re.match(r"(invariant|decreases)-", a)]
+    return []
+
+
+def align(fn, decls):
+    """Answer -> (goal, place): by the need's old name, and else by its place among the others."""
+    asked = {n: re.match(r"^(?:abbrev )?(?:pub )?\S+ : tie\.Need-(\S+)", ls[0]) for c, n, ls in decls}
+    asked = {n: m.group(1) for n, m in asked.items() if m}
+    order = list(fn.needs.values())
+    keys = list(fn.needs)
+    args = spec_args(decls) or list(asked)
+    found = {}
+    for k, a in enumerate(args):
+        key = fn.key(asked.get(a, a))
+        if a in asked and key in fn.needs:
+            found[k] = keys.index(key)
+    out = {a: order[found[k]] for k, a in enumerate(args) if k in found}
+    free = [k for k in range(len(order)) if k not in found.values()]
+    k = 0
+    while k < len(args):
+        if k in found:
+            k += 1
+            continue
+        end = k
+        while end < len(args) and end not in found:
+            end += 1
+        low = max([found[x] for x in range(k) if x in found], default=-1)
+        high = min([found[x] for x in range(end, len(args)) if x in found and found[x] > low], default=len(order))
+        between = [x for x in free if low < x < high]
+        if len(between) == end - k:
+            for x, y in zip(range(k, end), between):
+                if args[x] in asked:
+                    out[args[x]] = order[y]
+        else:
+            # those that today's check no longer asks for go first
+            rest = [x for x in range(k, end) if not re.match(r"^(slice-aggregate|enum-told|enum-known|struct-known|struct-told)", fn.key(asked.get(args[x], "")))]
+            if len(rest) == len(between):
+                for x, y in zip(rest, between):
+                    if args[x] in asked:
+                        out[args[x]] = order[y]
+        k = end
+    return out
 
 
 def convert(crate, folder, names, f):
@@ -249,6 +353,12 @@ def convert(crate, folder, names, f):
             if b and b.group(3) in helpers and b.group(2) == b.group(4):
                 helpers[n] = ["before"] * b.group(5).count(".before") + helpers[b.group(3)]
                 continue
+    known = {}
+    for c, n, ls in decls:
+        m = re.match(r"^(?:abbrev )?(?:pub )?(\S+) : (?:\([A-Za-z0-9_'₀-₉]+ : )?tie\.([A-Za-z0-9_'-]+)", ls[0])
+        if m and not m.group(2).startswith("Need-") and n not in helpers and fn.index.get(norm(m.group(2))) is not None:
+            known[n] = fn.index[norm(m.group(2))]
+    needs = align(fn, decls)
     for c, n, ls in decls:
         sig = ls[0]
         body = "\n".join(ls[1:])
@@ -288,10 +398,10 @@ def convert(crate, folder, names, f):
             continue
         m = re.match(r"^(?:abbrev )?(?:pub )?(\S+) : tie\.Need-(\S+)", sig)
         if m:
-            got = fn.needs.get(fn.key(m.group(2))) or fn.needs.get(fn.key(n))
+            got = needs.get(n)
             if got is None:
                 k = fn.key(m.group(2))
-                if re.match(r"^(slice|array|enum|shared|struct|ref|items|own|fits)", k):
+                if "\n".join(ls[1:]).split("=", 1)[-1].strip() in TRIVIAL:
                     continue
                 report.append("NEED " + m.group(2))
                 answers.append(("old", "\n".join(c + ["-- " + l for l in ls])))
@@ -309,7 +419,7 @@ def convert(crate, folder, names, f):
                 continue
             if place is None:
                 report.append("PLACE " + n)
-            text = rewrite(fn, text, {var: (var, place, place)} if place is not None else {}, helpers, report)
+            text = rewrite(fn, text, {var: (var, place, place)} if place is not None else {}, helpers, report, known)
             answers.append(("answer", "\n".join(c + [f"pub {new} : goal.{new}"] + flat + [f"{new} {var}{more} ={text}"])))
             continue
         if n in helpers:
@@ -343,7 +453,7 @@ def convert(crate, folder, names, f):
                         i = fn.index.get(norm(t[4:].split()[0]))
                         if i is not None:
                             env[y] = (y, i, i)
-        text = rewrite(fn, text, env, helpers, report)
+        text = rewrite(fn, text, env, helpers, report, known, is_answer=False)
         text = types(fn, text, fn.loops)
         answers.append(("helper", "\n".join(c + [text])))
     out = f"{folder}/proofs/{f}"
@@ -353,7 +463,7 @@ def convert(crate, folder, names, f):
     inv = "\n\n".join(invariants)
     moved = []
     for k, t in list(answers):
-        if k == "helper" and "goal." not in t:
+        if k == "helper" and "tie." not in t:
             name = re.match(r"^(?:--.*\n)*(?:abbrev |pub |unfoldable )*(\S+) :", t)
             if name and re.search(r"(?<![A-Za-z0-9_'.-])" + re.escape(name.group(1)) + r"(?![A-Za-z0-9_'-])", inv + "\n".join(m for _, m in moved)):
                 moved.append((name.group(1), t))
@@ -367,6 +477,9 @@ def convert(crate, folder, names, f):
         open(f"{out}/Invariants.antt", "w").write("\n".join(comment) + "\n" + text if not answers else text)
     if answers:
         more = [f"use Rattle.{crate}.proofs.{mod}.Invariants.{{{', '.join(n for n, _ in moved)}}}"] if moved else []
+        if any("tie." in t for _, t in answers):
+            more.append(f"use Rattle.{crate}.proofs.{mod}.Lts as lts")
+            more.append(f"use Rattle.{crate}.proofs.{mod}.Tie as tie")
         text = "\n".join(comment + uses + more + [f"use Rattle.{crate}.proofs.{mod}.Goals as goal", ""]) + "\n" + "\n\n".join(t for _, t in answers) + "\n"
         open(f"{out}/Answers.antt", "w").write(text)
     if report:

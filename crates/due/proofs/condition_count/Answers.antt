@@ -32,4 +32,4 @@ unfolding of_number entries entries_of sections fixed_sections axle_sections pro
 returns-in-7 c = rw c.in-7.is
 
 pub returns-in_default : goal.returns-in_default
-returns-in_default c = sym (of_none 0 (λ f. length (entries f 0)) c.args.file c.in_default-own.rest)
+returns-in_default c = sym (of_none 0 (λ f. length (entries f 0)) c.args.file c.in_default.in_default-own.rest)

@@ -30,5 +30,5 @@ returns-in-7 c = rw c.in-7.is
 pub returns-in_default : goal.returns-in_default
 unfolding first_condition
 returns-in_default c =
-    let r = c.in_default-own.rest in
+    let r = c.in_default.in_default-own.rest in
     sym (of_others 0 first_condition c.args.file (λ e. refl) (λ e. absurd (r.0.0.0.0.1 e)) (λ e. absurd (r.0.0.0.1 e)) (λ e. absurd (r.0.0.1 e)) (λ e. absurd (r.0.1 e)) (λ e. absurd (r.1 e)))

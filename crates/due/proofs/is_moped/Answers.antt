@@ -5,7 +5,7 @@ use Rattle.due.proofs.Categories.{moped-number}
 use Rattle.due.proofs.is_moped.Goals as goal
 
 pub returns-in_default : goal.returns-in_default
-returns-in_default c = rw (moped-number, lt-leb 10 _ c.if-category-lt10-own.true, ne_eqb _ 15 c.in_default-1.rest.1)
+returns-in_default c = rw (moped-number, lt-leb 10 _ c.in_default.if-category-lt10-own.true, ne_eqb _ 15 c.in_default-1.rest.1)
 
 pub returns-in_default-2 : goal.returns-in_default-2
 returns-in_default-2 c =

@@ -5,7 +5,7 @@ use Rattle.due.proofs.Categories.{motorcycle-number}
 use Rattle.due.proofs.is_motorcycle.Goals as goal
 
 pub returns-in_default : goal.returns-in_default
-returns-in_default c = rw (motorcycle-number, lt-leb 12 _ c.if-category-lt12-own.true, ne_eqb _ 16 c.in_default-1.rest.1)
+returns-in_default c = rw (motorcycle-number, lt-leb 12 _ c.in_default.if-category-lt12-own.true, ne_eqb _ 16 c.in_default-1.rest.1)
 
 pub returns-in_default-2 : goal.returns-in_default-2
 returns-in_default-2 c =

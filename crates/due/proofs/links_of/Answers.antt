@@ -39,4 +39,4 @@ pub returns-in_default : goal.returns-in_default
 unfolding links_numbered
 returns-in_default c =
     let x = c.args in
-    sym (of_others no_links (λ (f : File). links_of f (values_of f 0 x.text.now x.places.now)) _ (λ e. refl) (λ e. refl) (λ e. refl) (λ e. refl) (λ e. absurd (c.in_default-own.rest.0.1 e)) (λ e. absurd (c.in_default-own.rest.1 e)))
+    sym (of_others no_links (λ (f : File). links_of f (values_of f 0 x.text.now x.places.now)) _ (λ e. refl) (λ e. refl) (λ e. refl) (λ e. refl) (λ e. absurd (c.in_default.in_default-own.rest.0.1 e)) (λ e. absurd (c.in_default.in_default-own.rest.1 e)))

@@ -7,9 +7,11 @@ use Rattle.tables.specs.File.{table_of}
 use Rattle.tables.specs.Row.{row_count, most_rows}
 use Rattle.tables.proofs.Rows.{rows_few}
 use Rattle.files.proofs.Steps.{kinds-within, kinds-taken, kinds-part, text-long, empty-part}
+use Rattle.files.proofs.read_text.Lts as lts
+use Rattle.files.proofs.read_text.Tie as tie
 use Rattle.files.proofs.read_text.Goals as goal
 
-few : (c : goal.After-row_count-n) → c.row_count-n.result ≤ most_rows
+few : (c : (lts.After-row_count tie.the-claims tie.handed_pre tie.handed_post)) → c.row_count-n.result ≤ most_rows
 few c = omega (arith, c.row_count-n.ensures, rows_few c.args.file)
 
 pub returns-then-text-gt-MOST_BYTES : goal.returns-then-text-gt-MOST_BYTES
@@ -27,22 +29,22 @@ pub slice_bounds-read_into-end : goal.slice_bounds-read_into-end
 slice_bounds-read_into-end c = kinds-taken c.args.file c.row_count-n.result _ c.row_count-n.ensures c.write_kinds.ensures
 
 pub slice_bounds-numbers-end : goal.slice_bounds-numbers-end
-slice_bounds-numbers-end c = few c.before
+slice_bounds-numbers-end c = few c.before.before
 
 pub slice_bounds-read_into-end-2 : goal.slice_bounds-read_into-end-2
-slice_bounds-read_into-end-2 c = simp length-take (omega (arith, few c.before.before))
+slice_bounds-read_into-end-2 c = simp length-take (omega (arith, few c.before.before.before))
 
 pub slice_bounds-starts-end : goal.slice_bounds-starts-end
-slice_bounds-starts-end c = few c.before.before
+slice_bounds-starts-end c = few c.before.before.before
 
 pub slice_bounds-read_into-end-3 : goal.slice_bounds-read_into-end-3
-slice_bounds-read_into-end-3 c = simp length-take (omega (arith, few c.before.before.before))
+slice_bounds-read_into-end-3 c = simp length-take (omega (arith, few c.before.before.before.before))
 
 pub slice_bounds-lengths-end : goal.slice_bounds-lengths-end
-slice_bounds-lengths-end c = few c.before.before.before
+slice_bounds-lengths-end c = few c.before.before.before.before
 
 pub slice_bounds-read_into-end-4 : goal.slice_bounds-read_into-end-4
-slice_bounds-read_into-end-4 c = simp length-take (omega (arith, few c.before.before.before.before))
+slice_bounds-read_into-end-4 c = simp length-take (omega (arith, few c.before.before.before.before.before))
 
 pub read_into-requires : goal.read_into-requires
 read_into-requires c =

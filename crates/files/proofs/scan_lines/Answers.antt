@@ -16,47 +16,49 @@ use Rattle.reading.specs.Reading.{Slots, slots}
 use Rattle.reading.specs.Scanning.{Turn}
 use Rattle.reading.proofs.Turns.{turn-first, turn_end, turn-bad, turn-heading-refused, turn-heading, turn-entry-first, turn-entry-refused, turn-entry, took-no, took-yes}
 use Rattle.files.proofs.Numbers.{bad-most, heading-most, entry-most, entry-start}
+use Rattle.files.proofs.scan_lines.Lts as lts
+use Rattle.files.proofs.scan_lines.Tie as tie
 use Rattle.files.proofs.scan_lines.Goals as goal
 
 -- the text, the table, the slots at first and now, seen from the loop's head
-abbrev F : goal.At-loop-line → List ℕ
+abbrev F : (lts.At-loop tie.the-claims tie.handed_pre tie.handed_post goal.the-invariant-loop-line goal.the-decreases-loop-line) → List ℕ
 F c = c.args.text.now
 
-abbrev K : goal.At-loop-line → List Section
+abbrev K : (lts.At-loop tie.the-claims tie.handed_pre tie.handed_post goal.the-invariant-loop-line goal.the-decreases-loop-line) → List Section
 K c = table_of c.args.file
 
-abbrev A₀ : goal.At-loop-line → Slots
+abbrev A₀ : (lts.At-loop tie.the-claims tie.handed_pre tie.handed_post goal.the-invariant-loop-line goal.the-decreases-loop-line) → Slots
 A₀ c = slots c.args.numbers.now c.args.starts.now c.args.lengths.now
 
-abbrev A : goal.At-loop-line → Slots
+abbrev A : (lts.At-loop tie.the-claims tie.handed_pre tie.handed_post goal.the-invariant-loop-line goal.the-decreases-loop-line) → Slots
 A c = slots c.loop-line.numbers c.loop-line.starts c.loop-line.lengths
 
-abbrev is_heading : (c : goal.In-Heading-2) → line_at (F (H c)) c.loop-line.c ≡ Heading c.in-Heading.start c.in-Heading.end c.in-Heading.next
+abbrev is_heading : (c : (lts.After-start tie.the-claims tie.handed_pre tie.handed_post goal.the-invariant-loop-line goal.the-decreases-loop-line)) → line_at (F (H c)) c.loop-line.c ≡ Heading c.in-Heading.start c.in-Heading.end c.in-Heading.next
 is_heading c = sym c.read_line.ensures ∙ c.in-Heading.is
 
-inside_h : (c : goal.In-Heading-2) → Inside (F (H c)) c.in-Heading.start c.in-Heading.start c.in-Heading.end
+inside_h : (c : (lts.After-start tie.the-claims tie.handed_pre tie.handed_post goal.the-invariant-loop-line goal.the-decreases-loop-line)) → Inside (F (H c)) c.in-Heading.start c.in-Heading.start c.in-Heading.end
 inside_h c = heading-inside (F (H c)) c.loop-line.c _ _ _ (is_heading c)
 
-moves_h : (c : goal.In-Heading-2) → Moves (F (H c)) c.loop-line.c c.in-Heading.next
+moves_h : (c : (lts.After-start tie.the-claims tie.handed_pre tie.handed_post goal.the-invariant-loop-line goal.the-decreases-loop-line)) → Moves (F (H c)) c.loop-line.c c.in-Heading.next
 moves_h c = heading-moves (F (H c)) c.loop-line.c _ _ _ (is_heading c)
 
-most_h : (c : goal.In-Heading-2) → c.in-Heading.next.line ≤ most_bytes
+most_h : (c : (lts.After-start tie.the-claims tie.handed_pre tie.handed_post goal.the-invariant-loop-line goal.the-decreases-loop-line)) → c.in-Heading.next.line ≤ most_bytes
 most_h c = let m = heading-most (F (H c)) c.loop-line.c _ _ _ (is_heading c) in omega (arith, c.loop-line.invariant.0.ready.short)
 
-abbrev is_entry : (c : goal.In-Entry-2)
+abbrev is_entry : (c : (lts.After-start2 tie.the-claims tie.handed_pre tie.handed_post goal.the-invariant-loop-line goal.the-decreases-loop-line))
     → line_at (F (E c)) c.loop-line.c ≡ Entry c.in-Entry.start c.in-Entry.equals c.in-Entry.end c.in-Entry.next
 is_entry c = sym c.read_line.ensures ∙ c.in-Entry.is
 
-inside_e : (c : goal.In-Entry-2) → Inside (F (E c)) c.in-Entry.start (c.in-Entry.equals + 1) c.in-Entry.end
+inside_e : (c : (lts.After-start2 tie.the-claims tie.handed_pre tie.handed_post goal.the-invariant-loop-line goal.the-decreases-loop-line)) → Inside (F (E c)) c.in-Entry.start (c.in-Entry.equals + 1) c.in-Entry.end
 inside_e c = entry-inside (F (E c)) c.loop-line.c _ _ _ _ (is_entry c)
 
-start_e : (c : goal.In-Entry-2) → c.in-Entry.start ≤ c.in-Entry.equals
+start_e : (c : (lts.After-start2 tie.the-claims tie.handed_pre tie.handed_post goal.the-invariant-loop-line goal.the-decreases-loop-line)) → c.in-Entry.start ≤ c.in-Entry.equals
 start_e c = entry-start (F (E c)) c.loop-line.c _ _ _ _ (is_entry c)
 
-moves_e : (c : goal.In-Entry-2) → Moves (F (E c)) c.loop-line.c c.in-Entry.next
+moves_e : (c : (lts.After-start2 tie.the-claims tie.handed_pre tie.handed_post goal.the-invariant-loop-line goal.the-decreases-loop-line)) → Moves (F (E c)) c.loop-line.c c.in-Entry.next
 moves_e c = entry-moves (F (E c)) c.loop-line.c _ _ _ _ (is_entry c)
 
-most_e : (c : goal.In-Entry-2) → c.in-Entry.next.line ≤ most_bytes
+most_e : (c : (lts.After-start2 tie.the-claims tie.handed_pre tie.handed_post goal.the-invariant-loop-line goal.the-decreases-loop-line)) → c.in-Entry.next.line ≤ most_bytes
 most_e c = let m = entry-most (F (E c)) c.loop-line.c _ _ _ _ (is_entry c) in omega (arith, c.loop-line.invariant.0.ready.short)
 
 pub loop-line-init : goal.loop-line-init
@@ -65,18 +67,15 @@ loop-line-init c =
 
 pub returns-in-End : goal.returns-in-End
 returns-in-End c =
-    let l = c.before.before.before in
-    turn_end (K l) (F l) (A₀ l) (A l) c.loop-line.c c.loop-line.cur c.loop-line.invariant.0 (sym c.read_line.ensures ∙ c.in-End.is)
+    turn_end (K c.before.before) (F c.before.before) (A₀ c.before.before) (A c.before.before) c.loop-line.c c.loop-line.cur c.loop-line.invariant.0 (sym c.read_line.ensures ∙ c.in-End.is)
 
 pub failed-requires : goal.failed-requires
 failed-requires c =
-    let l = c.before.before.before.before in
-    omega (arith, bad-most (F l) c.loop-line.c _ (sym c.read_line.ensures ∙ c.in-Bad.is), c.loop-line.invariant.0.ready.short)
+    omega (arith, bad-most (F c.before.before) c.loop-line.c _ (sym c.read_line.ensures ∙ c.in-Bad.is), c.loop-line.invariant.0.ready.short)
 
 pub returns-in-Bad : goal.returns-in-Bad
 returns-in-Bad c =
-    let l = c.before.before.before.before.before in
-    rw c.failed.ensures (turn-bad (K l) (F l) (A₀ l) (A l) c.loop-line.c c.loop-line.cur c.loop-line.invariant.0 _ (sym c.read_line.ensures ∙ c.in-Bad.is))
+    rw c.failed.ensures (turn-bad (K c.before.before.before) (F c.before.before.before) (A₀ c.before.before.before) (A c.before.before.before) c.loop-line.c c.loop-line.cur c.loop-line.invariant.0 _ (sym c.read_line.ensures ∙ c.in-Bad.is))
 
 pub slice_bounds-find_section-count : goal.slice_bounds-find_section-count
 slice_bounds-find_section-count c = omega (arith, inside_h c.before)
@@ -97,17 +96,16 @@ failed-requires-then-not-take_row c = most_h c.before.before.before.before.befor
 pub returns-then-not-take_row : goal.returns-then-not-take_row
 returns-then-not-take_row c =
     let n = c.before.before.before.before.before.before.before.before.before.before.before.before.before.before.before.before in
-    let l = H n in
-    rw c.failed-then-not-take_row.ensures (turn-heading-refused (K l) (F l) (A₀ l) (A l) c.loop-line.c c.loop-line.cur c.loop-line.inv.0 _ _ _ (is_heading n) c.find_section-section.result c.section_place-found.result.before c.find_section-section.ensures c.section_place-found.ensures.before-is _ (took-no c.take_row.ensures c.if-not-take_row.true-raw))
+    rw c.failed-then-not-take_row.ensures (turn-heading-refused (K c.before.before.before.before.before.before.before.before.before.before.before.before.before.before.before.before.before) (F c.before.before.before.before.before.before.before.before.before.before.before.before.before.before.before.before.before) (A₀ c.before.before.before.before.before.before.before.before.before.before.before.before.before.before.before.before.before) (A c.before.before.before.before.before.before.before.before.before.before.before.before.before.before.before.before.before) c.loop-line.c c.loop-line.cur c.loop-line.inv.0 _ _ _ (is_heading n) c.find_section-section.result c.section_place-found.result.before c.find_section-section.ensures c.section_place-found.ensures.before-is _ (took-no c.take_row.ensures c.if-not-take_row.true-raw))
 
 pub shape_of-numbers-then-not-take_row : goal.shape_of-numbers-then-not-take_row
-shape_of-numbers-then-not-take_row c = (returns-3 c).still.lines_are ∙ sym c.requires.1.lines_are
+shape_of-numbers-then-not-take_row c = (returns-3 c.before).still.lines_are ∙ sym c.requires.1.lines_are
 
 pub shape_of-starts-then-not-take_row : goal.shape_of-starts-then-not-take_row
-shape_of-starts-then-not-take_row c = (returns-3 c).still.starts-are ∙ sym c.requires.1.starts-are
+shape_of-starts-then-not-take_row c = (returns-3 c.before).still.starts-are ∙ sym c.requires.1.starts-are
 
 pub shape_of-lengths-then-not-take_row : goal.shape_of-lengths-then-not-take_row
-shape_of-lengths-then-not-take_row c = (returns-3 c).still.lengths-are ∙ sym c.requires.1.lengths-are
+shape_of-lengths-then-not-take_row c = (returns-3 c.before).still.lengths-are ∙ sym c.requires.1.lengths-are
 
 pub loop-line-smaller-in-Heading : goal.loop-line-smaller-in-Heading
 loop-line-smaller-in-Heading c =
@@ -117,8 +115,7 @@ loop-line-smaller-in-Heading c =
 pub loop-line-preserved-in-Heading : goal.loop-line-preserved-in-Heading
 loop-line-preserved-in-Heading c =
     let n = c.before.before.before.before.before.before.before.before.before.before.before.before.before.before.before in
-    let l = H n in
-    (turn-heading (K l) (F l) (A₀ l) (A l) c.loop-line.c c.loop-line.cur c.loop-line.inv.0 _ _ _ (is_heading n) c.find_section-section.result c.section_place-found.result.before c.find_section-section.ensures c.section_place-found.ensures.before-is _ (took-yes c.take_row.ensures c.if-not-take_row.false-raw), c.section_place-found.ensures)
+    (turn-heading (K c.before.before.before.before.before.before.before.before.before.before.before.before.before.before.before.before) (F c.before.before.before.before.before.before.before.before.before.before.before.before.before.before.before.before) (A₀ c.before.before.before.before.before.before.before.before.before.before.before.before.before.before.before.before) (A c.before.before.before.before.before.before.before.before.before.before.before.before.before.before.before.before) c.loop-line.c c.loop-line.cur c.loop-line.inv.0 _ _ _ (is_heading n) c.find_section-section.result c.section_place-found.result.before c.find_section-section.ensures c.section_place-found.ensures.before-is _ (took-yes c.take_row.ensures c.if-not-take_row.false-raw), c.section_place-found.ensures)
 
 pub failed-requires-then-none-cur : goal.failed-requires-then-none-cur
 failed-requires-then-none-cur c = most_e c.before.before
@@ -126,8 +123,7 @@ failed-requires-then-none-cur c = most_e c.before.before
 pub returns-then-none-cur : goal.returns-then-none-cur
 returns-then-none-cur c =
     let n = c.before.before.before in
-    let l = E n in
-    rw c.failed-then-none-cur.ensures (turn-entry-first (K l) (F l) (A₀ l) (A l) c.loop-line.c c.loop-line.cur c.loop-line.inv.0 _ _ _ _ (is_entry n) (omega (arith, c.section_count-none.ensures)))
+    rw c.failed-then-none-cur.ensures (turn-entry-first (K c.before.before.before.before) (F c.before.before.before.before) (A₀ c.before.before.before.before) (A c.before.before.before.before) c.loop-line.c c.loop-line.cur c.loop-line.inv.0 _ _ _ _ (is_entry n) (omega (arith, c.section_count-none.ensures)))
 
 pub slice_bounds-find_row-count : goal.slice_bounds-find_row-count
 slice_bounds-find_row-count c = omega (arith, start_e c.before.before)
@@ -158,18 +154,17 @@ failed-requires-then-not-take_row-2 c = most_e c.before.before.before.before.bef
 pub returns-then-not-take_row-2 : goal.returns-then-not-take_row-2
 returns-then-not-take_row-2 c =
     let n = c.before.before.before.before.before.before.before.before.before.before.before.before.before.before.before.before in
-    let l = E n in
-    rw c.failed-then-not-take_row-2.ensures (turn-entry-refused (K l) (F l) (A₀ l) (A l) c.loop-line.c c.loop-line.cur c.loop-line.inv.0 _ _ _ _ (is_entry n) (omega (arith, c.section_count-none.ensures, c.if-none-cur.false)) c.find_row-row.result
+    rw c.failed-then-not-take_row-2.ensures (turn-entry-refused (K c.before.before.before.before.before.before.before.before.before.before.before.before.before.before.before.before.before) (F c.before.before.before.before.before.before.before.before.before.before.before.before.before.before.before.before.before) (A₀ c.before.before.before.before.before.before.before.before.before.before.before.before.before.before.before.before.before) (A c.before.before.before.before.before.before.before.before.before.before.before.before.before.before.before.before.before) c.loop-line.c c.loop-line.cur c.loop-line.inv.0 _ _ _ _ (is_entry n) (omega (arith, c.section_count-none.ensures, c.if-none-cur.false)) c.find_row-row.result
     c.find_row-row.ensures _ (took-no c.take_row-in-Entry.ensures c.if-not-take_row-2.true-raw))
 
 pub shape_of-numbers-then-not-take_row-2 : goal.shape_of-numbers-then-not-take_row-2
-shape_of-numbers-then-not-take_row-2 c = (returns-5 c).still.lines_are ∙ sym c.requires.1.lines_are
+shape_of-numbers-then-not-take_row-2 c = (returns-5 c.before).still.lines_are ∙ sym c.requires.1.lines_are
 
 pub shape_of-starts-then-not-take_row-2 : goal.shape_of-starts-then-not-take_row-2
-shape_of-starts-then-not-take_row-2 c = (returns-5 c).still.starts-are ∙ sym c.requires.1.starts-are
+shape_of-starts-then-not-take_row-2 c = (returns-5 c.before).still.starts-are ∙ sym c.requires.1.starts-are
 
 pub shape_of-lengths-then-not-take_row-2 : goal.shape_of-lengths-then-not-take_row-2
-shape_of-lengths-then-not-take_row-2 c = (returns-5 c).still.lengths-are ∙ sym c.requires.1.lengths-are
+shape_of-lengths-then-not-take_row-2 c = (returns-5 c.before).still.lengths-are ∙ sym c.requires.1.lengths-are
 
 pub loop-line-smaller : goal.loop-line-smaller
 loop-line-smaller c =
@@ -179,9 +174,8 @@ loop-line-smaller c =
 pub loop-line-preserved : goal.loop-line-preserved
 loop-line-preserved c =
     let n = c.before.before.before.before.before.before.before.before.before.before.before.before.before.before.before in
-    let l = E n in
     (
-      turn-entry (K l) (F l) (A₀ l) (A l) c.loop-line.c c.loop-line.cur c.loop-line.inv.0 _ _ _ _ (is_entry n) (omega (arith, c.section_count-none.ensures, c.if-none-cur.false)) c.find_row-row.result
+      turn-entry (K c.before.before.before.before.before.before.before.before.before.before.before.before.before.before.before.before) (F c.before.before.before.before.before.before.before.before.before.before.before.before.before.before.before.before) (A₀ c.before.before.before.before.before.before.before.before.before.before.before.before.before.before.before.before) (A c.before.before.before.before.before.before.before.before.before.before.before.before.before.before.before.before) c.loop-line.c c.loop-line.cur c.loop-line.inv.0 _ _ _ _ (is_entry n) (omega (arith, c.section_count-none.ensures, c.if-none-cur.false)) c.find_row-row.result
           c.find_row-row.ensures _ (took-yes c.take_row-in-Entry.ensures c.if-not-take_row-2.false-raw),
       c.loop-line.inv.1,
     )

@@ -27,4 +27,4 @@ scan_lines-requires-in-7 c =
 
 pub scan_lines-requires-in_default : goal.scan_lines-requires-in_default
 scan_lines-requires-in_default c =
-    (lent-as c.args.file new_booking (other-group c.args.file c.in_default-own.rest) c.new_booking_rows.ensures c.new_booking_lengths.ensures c.new_booking_tags.ensures, c.requires)
+    (lent-as c.args.file new_booking (other-group c.args.file c.in_default.in_default-own.rest) c.new_booking_rows.ensures c.new_booking_lengths.ensures c.new_booking_tags.ensures, c.requires)

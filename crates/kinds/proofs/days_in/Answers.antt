@@ -22,5 +22,5 @@ returns-in-4 c = ⊎_elim (λ e. rw e) (⊎_elim (λ e. rw e) (⊎_elim (λ e. r
 pub returns-in_default : goal.returns-in_default
 unfolding days_in
 returns-in_default c =
-    let n = c.in_default-own.rest.1 in
+    let n = c.in_default.in_default-own.rest.1 in
     search (tests, ne_eqb _ _ (λ e. n (inl e)), ne_eqb _ _ (λ e. n (inr (inl e))), ne_eqb _ _ (λ e. n (inr (inr (inl e)))), ne_eqb _ _ (λ e. n (inr (inr (inr e)))))

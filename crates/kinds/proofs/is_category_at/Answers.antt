@@ -75,4 +75,4 @@ returns-in-16 c = word_at (words categories) 16 _ c.in-16.is c.equal-in-16.ensur
 
 pub returns-in_default : goal.returns-in_default
 unfolding words
-returns-in_default c = sym (no_word (words categories) _ _ (past 17 _ c.in_default-own.rest))
+returns-in_default c = sym (no_word (words categories) _ _ (past 17 _ c.in_default.in_default-own.rest))

@@ -5,9 +5,11 @@ use borrow.Author.Rules.{rules}
 use borrow.Author.Tests.{not-true, not-false}
 use Rattle.lines.proofs.Bools.{tests}
 use Rattle.kinds.specs.Value.{is_first_date, is_year}
+use Rattle.kinds.proofs.is_first_date.Lts as lts
+use Rattle.kinds.proofs.is_first_date.Tie as tie
 use Rattle.kinds.proofs.is_first_date.Goals as goal
 
-in-years : (c : goal.Else-not-is_year) → is_year c.args.year ≡ true
+in-years : (c : (lts.Else2 tie.the-claims tie.handed_pre tie.handed_post)) → is_year c.args.year ≡ true
 in-years c = sym c.is_year.ensures ∙ c.if-not-is_year.false
 
 pub returns-then-not-is_year : goal.returns-then-not-is_year

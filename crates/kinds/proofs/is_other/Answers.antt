@@ -116,4 +116,4 @@ unfolding kind_of numbered kind_ok words_of numbered_lists
 returns-in-33 c = kind_at 33 _ c.in-33.is c.is_word-in-33.ensures
 
 pub returns-in_default : goal.returns-in_default
-returns-in_default c = sym (no_kind _ _ (past_after 7 27 _ c.requires c.in_default-own.rest))
+returns-in_default c = sym (no_kind _ _ (past_after 7 27 _ c.requires c.in_default.in_default-own.rest))

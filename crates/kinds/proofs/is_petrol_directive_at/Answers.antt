@@ -23,4 +23,4 @@ returns-in-3 c = word_at (words petrol_directives) 3 _ c.in-3.is c.equal-in-3.en
 
 pub returns-in_default : goal.returns-in_default
 unfolding words
-returns-in_default c = sym (no_word (words petrol_directives) _ _ (past 4 _ c.in_default-own.rest))
+returns-in_default c = sym (no_word (words petrol_directives) _ _ (past 4 _ c.in_default.in_default-own.rest))

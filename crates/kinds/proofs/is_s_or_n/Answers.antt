@@ -9,5 +9,5 @@ returns-in-83 c = ⊎_elim (λ e. rw e) (λ e. rw e) c.in-83.is
 
 pub returns-in_default : goal.returns-in_default
 returns-in_default c =
-    let n = c.in_default-own.rest.1 in
+    let n = c.in_default.in_default-own.rest.1 in
     search (tests, ne_eqb _ _ (λ e. n (inl e)), ne_eqb _ _ (λ e. n (inr e)))

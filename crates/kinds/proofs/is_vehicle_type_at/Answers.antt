@@ -19,4 +19,4 @@ returns-in-2 c = word_at (words vehicle_types) 2 _ c.in-2.is c.equal-in-2.ensure
 
 pub returns-in_default : goal.returns-in_default
 unfolding words
-returns-in_default c = sym (no_word (words vehicle_types) _ _ (past 3 _ c.in_default-own.rest))
+returns-in_default c = sym (no_word (words vehicle_types) _ _ (past 3 _ c.in_default.in_default-own.rest))

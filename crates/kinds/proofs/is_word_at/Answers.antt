@@ -42,4 +42,4 @@ returns-in-8 c = list_at 8 _ _ c.in-8.is c.is_outcome_at.ensures
 
 pub returns-in_default : goal.returns-in_default
 unfolding is_word_at
-returns-in_default c = rw (no-list _ (past 9 _ c.in_default-own.rest))
+returns-in_default c = rw (no-list _ (past 9 _ c.in_default.in_default-own.rest))

@@ -15,4 +15,4 @@ returns-in-1 c = word_at (words yes_no) 1 _ c.in-1.is c.equal-in-1.ensures
 
 pub returns-in_default : goal.returns-in_default
 unfolding words
-returns-in_default c = sym (no_word (words yes_no) _ _ (past 2 _ c.in_default-own.rest))
+returns-in_default c = sym (no_word (words yes_no) _ _ (past 2 _ c.in_default.in_default-own.rest))

@@ -39,5 +39,5 @@ returns-in-5 c =
 pub returns-in_default : goal.returns-in_default
 unfolding kind_of numbered kind_ok
 returns-in_default c =
-    let six : c.args.kind ≡ 6 = omega (arith, past 6 c.args.kind c.in_default-own.rest, c.requires.0) in
+    let six : c.args.kind ≡ 6 = omega (arith, past 6 c.args.kind c.in_default.in_default-own.rest, c.requires.0) in
     kind_at 6 _ six (exact-length 172 c.args.value.now c.requires.1 c.requires.2)

@@ -7,31 +7,33 @@ use borrow.Author.Rules.{rules}
 use lib.ListN.{length, get_or, drop, drop_of_length-le}
 use Rattle.kinds.specs.Digits.{all_digits, number_from}
 use Rattle.kinds.proofs.Laws.{number_step, digit_at, rest_at, grows, small}
+use Rattle.kinds.proofs.number.Lts as lts
+use Rattle.kinds.proofs.number.Tie as tie
 use Rattle.kinds.proofs.number.Goals as goal
 
 -- the byte that a turn reads is a digit
-here : (c : goal.In-loop-i) → (48 ≤ get_or c.args.part.now c.loop-i.i 0) × (get_or c.args.part.now c.loop-i.i 0 ≤ 57)
+here : (c : (lts.In-loop tie.handed_pre tie.handed_post goal.the-invariant-loop-i goal.the-decreases-loop-i)) → (48 ≤ get_or c.args.part.now c.loop-i.i 0) × (get_or c.args.part.now c.loop-i.i 0 ≤ 57)
 here c = digit_at c.args.part.now c.loop-i.i (search rules) c.loop-i.invariant.2
 
-end : (c : goal.After-loop-i) → c.loop-i.i ≡ length c.args.part.now
+end : (c : (lts.After-loop tie.handed_pre tie.handed_post goal.the-invariant-loop-i goal.the-decreases-loop-i)) → c.loop-i.i ≡ length c.args.part.now
 end c = omega arith
 
 pub overflow_mul-n : goal.overflow_mul-n
 overflow_mul-n c = omega (arith, small c.loop-i.n c.loop-i.i c.loop-i.invariant.1 (omega arith))
 
 pub overflow_sub-n : goal.overflow_sub-n
-overflow_sub-n c = omega (arith, here c.before)
+overflow_sub-n c = omega (arith, here c.before.before)
 
 pub overflow_cast-n : goal.overflow_cast-n
-overflow_cast-n c = omega (arith, here c.before)
+overflow_cast-n c = omega (arith, here c.before.before)
 
 pub overflow_add-n : goal.overflow_add-n
-overflow_add-n c = omega (arith, here c.before, small c.loop-i.n c.loop-i.i c.loop-i.invariant.1 (omega arith))
+overflow_add-n c = omega (arith, here c.before.before, small c.loop-i.n c.loop-i.i c.loop-i.invariant.1 (omega arith))
 
 pub loop-i-preserved : goal.loop-i-preserved
 loop-i-preserved c =
     let s = c.args.part.now in
-    let d = here c.before in (
+    let d = here c.before.before in (
       search rules,
       grows c.loop-i.n c.loop-i.i c.loop-i.invariant.1 _ (omega arith),
       rest_at s c.loop-i.i (search rules) c.loop-i.invariant.2,
@@ -42,4 +44,4 @@ pub returns : goal.returns
 unfolding number_from
 returns c =
     let s = c.args.part.now in
-    (sym (c.loop-i.invariant.3 ∙ rw (drop_of_length-le s {i = c.loop-i.i} (search rules))), rw (end c) at c.loop-i.invariant.1)
+    (sym (c.loop-i.invariant.3 ∙ rw (drop_of_length-le s {i = c.loop-i.i} (search rules))), rw (end c.before) at c.loop-i.invariant.1)

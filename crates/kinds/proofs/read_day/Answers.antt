@@ -7,9 +7,11 @@ use Rattle.lines.proofs.Bools.{and_left}
 use Rattle.kinds.specs.Value.{is_first_day}
 use Rattle.kinds.specs.Meaning.{day_read}
 use Rattle.kinds.specs.declared.NumberRead.TheVariants as NumberRead
+use Rattle.kinds.proofs.read_day.Lts as lts
+use Rattle.kinds.proofs.read_day.Tie as tie
 use Rattle.kinds.proofs.read_day.Goals as goal
 
-good : (c : goal.Else-not-is_first_day) → is_first_day c.args.value.now ≡ true
+good : (c : (lts.Else1 tie.the-claims tie.handed_pre tie.handed_post)) → is_first_day c.args.value.now ≡ true
 good c = sym c.is_first_day.ensures ∙ c.if-not-is_first_day.false
 
 pub returns-then-not-is_first_day : goal.returns-then-not-is_first_day
@@ -18,8 +20,8 @@ returns-then-not-is_first_day c = rw (sym c.is_first_day.ensures ∙ c.if-not-is
 
 pub day_number-requires : goal.day_number-requires
 unfolding is_first_day
-day_number-requires c = and_left _ _ (good c)
+day_number-requires c = and_left _ _ (good c.before)
 
 pub returns : goal.returns
 unfolding day_read
-returns c = rw (good c.before) (ap NumberRead.Of c.day_number.ensures)
+returns c = rw (good c.before.before) (ap NumberRead.Of c.day_number.ensures)

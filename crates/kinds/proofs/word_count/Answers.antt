@@ -41,4 +41,4 @@ unfolding words_of numbered_lists words
 returns-in-8 c = rw c.in-8.is
 
 pub returns-in_default : goal.returns-in_default
-returns-in_default c = rw (no-list _ (past 9 _ c.in_default-own.rest))
+returns-in_default c = rw (no-list _ (past 9 _ c.in_default.in_default-own.rest))

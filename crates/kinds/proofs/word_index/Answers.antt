@@ -7,10 +7,12 @@ use borrow.Author.Rules.{rules}
 use lib.ListN.{length, drop}
 use Rattle.kinds.specs.Value.{word_index, words_of}
 use Rattle.kinds.proofs.Laws.{index-here, index-later, index-end}
+use Rattle.kinds.proofs.word_index.Lts as lts
+use Rattle.kinds.proofs.word_index.Tie as tie
 use Rattle.kinds.proofs.word_index.Goals as goal
 
 -- the index, from the loop's place on
-step : (c : goal.At-loop-k) → word_index (words_of c.args.list) c.args.value.now ≡ c.loop-k.k + word_index (drop c.loop-k.k (words_of c.args.list)) c.args.value.now
+step : (c : (lts.At-loop tie.the-claims tie.handed_pre tie.handed_post goal.the-invariant-loop-k goal.the-decreases-loop-k)) → word_index (words_of c.args.list) c.args.value.now ≡ c.loop-k.k + word_index (drop c.loop-k.k (words_of c.args.list)) c.args.value.now
 step c = c.loop-k.invariant.2
 
 pub loop-k-init : goal.loop-k-init
@@ -18,20 +20,17 @@ loop-k-init c = (zero-le, c.word_count-count.ensures, sym (zero-add _))
 
 pub returns-then-is_word_at : goal.returns-then-is_word_at
 returns-then-is_word_at c =
-    let h = c.before.before.before in
-    sym (step h ∙ index-here (words_of c.args.list) c.loop-k.k c.args.value.now (omega arith) (sym c.is_word_at.ensures ∙ c.if-is_word_at.true))
+    sym (step c.before.before.before.before ∙ index-here (words_of c.args.list) c.loop-k.k c.args.value.now (omega arith) (sym c.is_word_at.ensures ∙ c.if-is_word_at.true))
 
 pub loop-k-preserved : goal.loop-k-preserved
 loop-k-preserved c =
-    let h = c.before.before.before in
     (
       search rules,
       c.loop-k.invariant.1,
-      step h ∙ index-later (words_of c.args.list) c.loop-k.k c.args.value.now (omega arith) (sym c.is_word_at.ensures ∙ c.if-is_word_at.false),
+      step c.before.before.before.before ∙ index-later (words_of c.args.list) c.loop-k.k c.args.value.now (omega arith) (sym c.is_word_at.ensures ∙ c.if-is_word_at.false),
     )
 
 pub returns : goal.returns
 returns c =
-    let h = c.before in
     let e : c.loop-k.k ≡ c.word_count-count.result = omega arith in
-    sym (step h ∙ index-end (words_of c.args.list) c.loop-k.k c.args.value.now (omega arith) ∙ e)
+    sym (step c.before.before ∙ index-end (words_of c.args.list) c.loop-k.k c.args.value.now (omega arith) ∙ e)

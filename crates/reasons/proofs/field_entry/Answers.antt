@@ -15,6 +15,9 @@ use Rattle.reasons.proofs.field_entry.Goals as goal
 pub overflow_sub-result : goal.overflow_sub-result
 overflow_sub-result c = (of-seven _ c.requires).0
 
+pub bounds-field : goal.bounds-field
+bounds-field c = omega (arith, (of-seven c.args.field c.requires).0, (of-seven c.args.field c.requires).1)
+
 pub returns : goal.returns
 unfolding field_entry place_of word_index same_bytes entries entries_of sections fixed_sections axle_sections new_booking protocol measurement analysis analyser counter speed_test all_key_dates all_key_bodies fuel_analysis
 returns c = refl

@@ -33,4 +33,4 @@ unfolding file_asked of_number given_asked
 returns-in-7 c = rw c.in-7.is
 
 pub returns-in_default : goal.returns-in_default
-returns-in_default c = none-asked _ c.in_default-own.rest
+returns-in_default c = none-asked _ c.in_default.in_default-own.rest

@@ -27,4 +27,4 @@ unfolding file_reasons of_number given_reasons place_of word_index same_bytes en
 returns-in-7 c = rw c.in-7.is
 
 pub returns-in_default : goal.returns-in_default
-returns-in_default c = none-reasons _ c.in_default-own.rest
+returns-in_default c = none-reasons _ c.in_default.in_default-own.rest

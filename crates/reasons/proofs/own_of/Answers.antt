@@ -16,4 +16,4 @@ returns-in-7 c = sym (ap own_of (of_number_lem gas own_file opacity _ c.in-7.is)
 
 pub returns-in_default : goal.returns-in_default
 unfolding place_of word_index same_bytes entries entries_of sections fixed_sections axle_sections protocol measurement analysis analyser counter speed_test all_key_dates all_key_bodies fuel_analysis
-returns-in_default c = sym (ap own_of (of_others gas own_file _ (λ e. refl) (λ e. refl) (λ e. refl) (λ e. refl) (λ e. refl) (λ e. absurd (c.in_default-own.rest.1 e))))
+returns-in_default c = sym (ap own_of (of_others gas own_file _ (λ e. refl) (λ e. refl) (λ e. refl) (λ e. refl) (λ e. refl) (λ e. absurd (c.in_default.in_default-own.rest.1 e))))

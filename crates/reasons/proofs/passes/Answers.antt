@@ -66,4 +66,4 @@ unfolding test_of passes
 returns-in-15 c = passes_at 15 _ c.in-15.is c.has_nine.ensures
 
 pub returns-in_default : goal.returns-in_default
-returns-in_default c = none_passes _ _ c.in_default-own.rest
+returns-in_default c = none_passes _ _ c.in_default.in_default-own.rest

@@ -51,4 +51,4 @@ returns-in-7 c =
 pub returns-in_default : goal.returns-in_default
 returns-in_default c =
     let x = c.args in
-    sym (of_none Kept (λ (f : File). first_broken_at f x.axles x.booking.now x.text.now x.places.now) _ c.in_default-own.rest)
+    sym (of_none Kept (λ (f : File). first_broken_at f x.axles x.booking.now x.text.now x.places.now) _ c.in_default.in_default-own.rest)

@@ -12,6 +12,8 @@ use Rattle.tables.specs.File.{table_of}
 use Rattle.tables.specs.Row.{entries_in, entry_in, row_at}
 use Rattle.tables.proofs.NameRows.{group-few}
 use Rattle.tables.proofs.Rows.{row_in, rows_few}
+use Rattle.tables.proofs.find_row.Lts as lts
+use Rattle.tables.proofs.find_row.Tie as tie
 use Rattle.tables.proofs.find_row.Goals as goal
 
 pub overflow_add-end : goal.overflow_add-end
@@ -23,42 +25,38 @@ find_listed-row-requires c =
     let p = c.args.place in
     record { lent = c.requires.1; stands = c.requires.0.stands; end_is = ap (λ (m : ℕ). p.start + m) c.requires.0.size_is }
 
-abbrev T : goal.After-find_listed-row → List Section
+abbrev T : (lts.After-find_listed tie.the-claims tie.handed_pre tie.handed_post) → List Section
 T f = table_of f.args.file
 
-abbrev C : goal.After-find_listed-row → ℕ
+abbrev C : (lts.After-find_listed tie.the-claims tie.handed_pre tie.handed_post) → ℕ
 C f = f.args.section
 
-abbrev I : goal.After-find_listed-row → ℕ
+abbrev I : (lts.After-find_listed tie.the-claims tie.handed_pre tie.handed_post) → ℕ
 I f = entry_in (T f) (C f) f.args.part.now
 
-inside : (f : goal.After-find_listed-row) → f.find_listed-row.result < f.args.place.start + f.args.place.size → I f < length (entries_in (T f) (C f))
+inside : (f : (lts.After-find_listed tie.the-claims tie.handed_pre tie.handed_post)) → f.find_listed-row.result < f.args.place.start + f.args.place.size → I f < length (entries_in (T f) (C f))
 inside f h = omega (arith, f.find_listed-row.ensures, f.requires.0.size_is)
 
-past : (f : goal.After-find_listed-row) → f.args.place.start + f.args.place.size ≤ f.find_listed-row.result → length (entries_in (T f) (C f)) ≤ I f
+past : (f : (lts.After-find_listed tie.the-claims tie.handed_pre tie.handed_post)) → f.args.place.start + f.args.place.size ≤ f.find_listed-row.result → length (entries_in (T f) (C f)) ≤ I f
 past f h = omega (arith, f.find_listed-row.ensures, f.requires.0.size_is)
 
 pub overflow_add-result : goal.overflow_add-result
 overflow_add-result c =
-    let f = c.before.before in
-    omega (arith, row_in (T f) (C f) (I f) (inside f c.if-row-end.true), rows_few c.args.file, c.requires.0.before-is)
+    omega (arith, row_in (T c.before.before.before) (C c.before.before.before) (I c.before.before.before) (inside c.before.before.before c.if-row-end.true), rows_few c.args.file, c.requires.0.before-is)
 
 pub overflow_sub-result : goal.overflow_sub-result
 overflow_sub-result c = omega (arith, c.find_listed-row.ensures)
 
 pub overflow_add-result-then-row-end : goal.overflow_add-result-then-row-end
 overflow_add-result-then-row-end c =
-    let f = c.before.before in
-    omega (arith, c.find_listed-row.ensures, row_in (T f) (C f) (I f) (inside f c.if-row-end.true), rows_few c.args.file, c.requires.0.before-is)
+    omega (arith, c.find_listed-row.ensures, row_in (T c.before.before.before) (C c.before.before.before) (I c.before.before.before) (inside c.before.before.before c.if-row-end.true), rows_few c.args.file, c.requires.0.before-is)
 
 pub returns-then-row-end : goal.returns-then-row-end
 unfolding row_at
 returns-then-row-end c =
-    let f = c.before.before in
-    rw (lt-ltb _ _ (inside f c.if-row-end.true)) (omega (arith, c.find_listed-row.ensures, c.requires.0.before-is))
+    rw (lt-ltb _ _ (inside c.before.before.before c.if-row-end.true)) (omega (arith, c.find_listed-row.ensures, c.requires.0.before-is))
 
 pub returns-else-row-end : goal.returns-else-row-end
 unfolding row_at
 returns-else-row-end c =
-    let f = c.before.before in
-    rw (le-ltb _ _ (past f c.if-row-end.false)) c.row_count.ensures
+    rw (le-ltb _ _ (past c.before.before.before c.if-row-end.false)) c.row_count.ensures

@@ -15,4 +15,4 @@ pub returns-in-5 : goal.returns-in-5
 returns-in-5 c = stands-gas c.args.section c.if-section-eq0.false c.in-5.is
 
 pub returns-in_default : goal.returns-in_default
-returns-in_default c = stands-other c.args.file c.args.section c.if-section-eq0.false c.in_default-own.rest
+returns-in_default c = stands-other c.args.file c.args.section c.if-section-eq0.false c.in_default.in_default-own.rest

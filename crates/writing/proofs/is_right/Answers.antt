@@ -25,4 +25,4 @@ pub returns-in-7 : goal.returns-in-7
 returns-in-7 c = sym (right_of opacity _ c.in-7.is)
 
 pub returns-in_default : goal.returns-in_default
-returns-in_default c = sym (right-none _ _ c.in_default-own.rest)
+returns-in_default c = sym (right-none _ _ c.in_default.in_default-own.rest)

@@ -27,4 +27,4 @@ pub returns-in-7 : goal.returns-in-7
 returns-in-7 c = size_of opacity c.args.axles c.in-7.is
 
 pub returns-in_default : goal.returns-in_default
-returns-in_default c = sym (of_none 0 (λ f. table_length (sections f c.args.axles)) c.args.file c.in_default-own.rest)
+returns-in_default c = sym (of_none 0 (λ f. table_length (sections f c.args.axles)) c.args.file c.in_default.in_default-own.rest)

@@ -13,6 +13,10 @@ pub offset_bounds-place : goal.offset_bounds-place
 unfolding listed words
 offset_bounds-place c = omega (arith, c.word_place-place.ensures.0)
 
+pub bounds-place : goal.bounds-place
+unfolding listed words
+bounds-place c = c.word_place-place.ensures.0
+
 pub returns : goal.returns
 unfolding listed words
 returns c = map_at length listed c.word_place-place.result [] 0 c.word_place-place.ensures.0 ∙ ap length c.word_place-place.ensures.1

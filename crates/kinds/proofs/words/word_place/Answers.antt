@@ -6,6 +6,9 @@ use Rattle.kinds.specs.Shapes.{listed}
 use Rattle.kinds.proofs.ByKind.{of-kind, is-kind, first_word, word-within, word-there}
 use Rattle.kinds.proofs.words.word_place.Goals as goal
 
+pub bounds-k : goal.bounds-k
+bounds-k c = is-kind c.args.kind c.args.word c.requires
+
 pub overflow_add-result : goal.overflow_add-result
 unfolding numbered first_word listed words
 overflow_add-result c =

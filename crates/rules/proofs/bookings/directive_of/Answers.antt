@@ -16,4 +16,4 @@ pub returns-in-3 : goal.returns-in-3
 returns-in-3 c = rw (directive-is, ← c.word_index.ensures, c.in-3.is)
 
 pub returns-in_default : goal.returns-in_default
-returns-in_default c = rw (directive-is, ← c.word_index.ensures, no-directive _ c.in_default-own.rest)
+returns-in_default c = rw (directive-is, ← c.word_index.ensures, no-directive _ c.in_default.in_default-own.rest)

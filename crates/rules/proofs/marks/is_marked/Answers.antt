@@ -46,5 +46,5 @@ returns-in-7 c =
 pub returns-in_default : goal.returns-in_default
 returns-in_default c =
     let x = c.args in
-    let n = c.in_default-own.rest in
+    let n = c.in_default.in_default-own.rest in
     sym (of_others false (λ (f : File). is_marked f (values_of f x.axles x.text.now x.places.now)) _ (λ e. new-marked _ _ _) (λ e. old-marked _ _ _) (λ e. absurd (n.0.0.0.1 e)) (λ e. absurd (n.0.0.1 e)) (λ e. absurd (n.0.1 e)) (λ e. absurd (n.1 e)))

@@ -24,4 +24,4 @@ pub returns-in_default : goal.returns-in_default
 unfolding is_read
 returns-in_default c =
     let x = c.args in
-    sym (of_others x.given (λ (f : File). is_read f x.booking x.given) _ (λ e. refl) (λ e. absurd (c.in_default-own.rest.1 e)) (λ e. refl) (λ e. refl) (λ e. refl) (λ e. refl))
+    sym (of_others x.given (λ (f : File). is_read f x.booking x.given) _ (λ e. refl) (λ e. absurd (c.in_default.in_default-own.rest.1 e)) (λ e. refl) (λ e. refl) (λ e. refl) (λ e. refl))

@@ -35,5 +35,5 @@ pub returns-in_default : goal.returns-in_default
 unfolding slice_right
 returns-in_default c =
     let x = c.args in
-    let n = c.in_default-own.rest in
+    let n = c.in_default.in_default-own.rest in
     sym (of_others true (λ (f : File). slice_right f x.stated x.booking x.given) _ (λ e. absurd (n.0.0.0.1 e)) (λ e. absurd (n.0.0.1 e)) (λ e. refl) (λ e. refl) (λ e. absurd (n.0.1 e)) (λ e. absurd (n.1 e)))

@@ -15,4 +15,4 @@ returns-in-1 c = rw c.in-1.is c.equal-in-1.ensures
 
 pub returns-in_default : goal.returns-in_default
 unfolding sections fixed_sections axle_sections axles_from
-returns-in_default c = rw (heading-none (all_sections gas) (past 2 _ c.in_default-own.rest)) c.equal-in_default.ensures
+returns-in_default c = rw (heading-none (all_sections gas) (past 2 _ c.in_default.in_default-own.rest)) c.equal-in_default.ensures

@@ -25,4 +25,4 @@ pub returns-in-7 : goal.returns-in-7
 returns-in-7 c = rw (at-file opacity c.in-7.is) c.is_opacity_heading.ensures
 
 pub returns-in_default : goal.returns-in_default
-returns-in_default c = rw (table_none _ c.in_default-own.rest) c.equal.ensures
+returns-in_default c = rw (table_none _ c.in_default.in_default-own.rest) c.equal.ensures

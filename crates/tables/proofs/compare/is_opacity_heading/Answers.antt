@@ -11,4 +11,4 @@ returns-in-0 c = rw c.in-0.is c.equal.ensures
 
 pub returns-in_default : goal.returns-in_default
 unfolding sections fixed_sections axle_sections axles_from
-returns-in_default c = rw (heading-none (all_sections opacity) (past 1 _ c.in_default-own.rest)) c.equal-in_default.ensures
+returns-in_default c = rw (heading-none (all_sections opacity) (past 1 _ c.in_default.in_default-own.rest)) c.equal-in_default.ensures

@@ -10,8 +10,8 @@ unfolding sections fixed_sections axle_sections axles_from
 returns-in-0 c = rw c.in-0.is c.equal.ensures
 
 pub returns-in-1-to-9 : goal.returns-in-1-to-9
-returns-in-1-to-9 c = rw (suspension-heading (past 1 _ c.in_default-1.rest) c.if-section-lt10-own.true) c.is_axle_heading.ensures
+returns-in-1-to-9 c = rw (suspension-heading (past 1 _ c.in_default-1.rest) c.in-1-to-9.if-section-lt10-own.true) c.is_axle_heading.ensures
 
 pub returns-in_default : goal.returns-in_default
 unfolding sections fixed_sections axle_sections axles_from
-returns-in_default c = rw (heading-none (all_sections suspension) c.if-section-lt10-own.false) c.equal-in_default.ensures
+returns-in_default c = rw (heading-none (all_sections suspension) c.in_default.if-section-lt10-own.false) c.equal-in_default.ensures

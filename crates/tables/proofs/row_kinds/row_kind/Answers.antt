@@ -27,4 +27,4 @@ returns-in-7 c = kind-of-row opacity c.args.file c.in-7.is c.opacity_kinds.resul
 
 pub returns-in_default : goal.returns-in_default
 unfolding row_kind numbered
-returns-in_default c = rw (table_none c.args.file c.in_default-own.rest)
+returns-in_default c = rw (table_none c.args.file c.in_default.in_default-own.rest)

@@ -45,4 +45,4 @@ returns-in-7 c = numbers-put opacity c.args.file c.in-7.is _ c.opacity_kinds.ens
 
 pub returns-in_default : goal.returns-in_default
 unfolding row_count
-returns-in_default c = rw (table_none c.args.file c.in_default-own.rest)
+returns-in_default c = rw (table_none c.args.file c.in_default.in_default-own.rest)

@@ -25,7 +25,7 @@ pub write_opacity_heading-requires : goal.write_opacity_heading-requires
 write_opacity_heading-requires c = rw (at-file opacity c.in-7.is) at c.requires
 
 pub write_heading-requires : goal.write_heading-requires
-write_heading-requires c = rw (table_none _ c.in_default-own.rest) at c.requires
+write_heading-requires c = rw (table_none _ c.in_default.in_default-own.rest) at c.requires
 
 pub returns-in-1 : goal.returns-in-1
 returns-in-1 c = rw (at-file ac2 c.in-1.is) c.write_booking_heading.ensures
@@ -47,4 +47,4 @@ pub returns-in-7 : goal.returns-in-7
 returns-in-7 c = rw (at-file opacity c.in-7.is) c.write_opacity_heading.ensures
 
 pub returns-in_default : goal.returns-in_default
-returns-in_default c = rw (table_none _ c.in_default-own.rest) c.write_heading.ensures
+returns-in_default c = rw (table_none _ c.in_default.in_default-own.rest) c.write_heading.ensures
