@@ -11,7 +11,7 @@ import os
 import re
 import sys
 
-TRIVIAL = {"search rules", "tt", "refl", "omega arith"}
+TRIVIAL = {"search rules"}
 NAMECH = r"[A-Za-z0-9_'ℓκℕ₀-₉αβγλσπ-]"
 IDENT = re.compile(r"(?<![A-Za-z0-9_'.₀-₉-])([A-Za-z_][A-Za-z0-9_'₀-₉-]*)((?:\.[A-Za-z0-9_'₀-₉-]+)*)")
 STANDARD = {"args", "requires", "ranges", "lifetimes", "well_formed", "type_inv", "told", "fits"}
@@ -53,12 +53,26 @@ class Fn:
             n += 0 if arm else 1
         return n if i is not None else None
 
-    def step(self, i, seg, rest):
+    def arm_of(self, i, origin):
+        """The arm that the place i is part of, on the way back from origin."""
+        k = origin
+        while k is not None:
+            arm = self.e["arms"][k] if k < len(self.e["arms"]) else None
+            if arm:
+                j = k
+                for _ in range(arm[1]):
+                    if j == i:
+                        return arm
+                    j = self.parent(j) if j is not None else None
+            k = self.parent(k)
+        return None
+
+    def step(self, i, seg, rest, origin=None):
         """The new path of the old own step seg at the place i, or None."""
         old, new = self.places[i][2]
         if norm(seg) != norm(old) and not (norm(seg).rstrip("0123456789") == norm(old).rstrip("0123456789") and norm(seg) == norm(old)):
             return None
-        arm = self.e["arms"][i] if i < len(self.e["arms"]) else None
+        arm = self.arm_of(i, i if origin is None else origin)
         if arm:
             best = None
             for newfield, oldstep, oldpath in arm[2]:
@@ -88,12 +102,12 @@ class Fn:
             f = "requires"
         if f in STANDARD:
             return (None, [f] + segs[1:])
-        got = self.step(i, f, segs[1:])
+        got = self.step(i, f, segs[1:], origin)
         if got is None:
             clean = re.sub(r"^is_is_", "is-", re.sub(r"_lem$", "", f))
             for j in (i, origin):
                 while j is not None and got is None:
-                    got = self.step(j, clean, segs[1:])
+                    got = self.step(j, clean, segs[1:], origin)
                     j = self.parent(j)
         if got is None:
             return None
@@ -314,15 +328,15 @@ def align(fn, decls):
         between = [x for x in free if low < x < high]
         if len(between) == end - k:
             for x, y in zip(range(k, end), between):
-                if args[x] in asked:
-                    out[args[x]] = order[y]
+                if args[x] in asked or args[x].startswith("("):
+                    out[args[x] if args[x] in asked else x] = order[y]
         else:
             # those that today's check no longer asks for go first
             rest = [x for x in range(k, end) if not re.match(r"^(slice-aggregate|enum-told|enum-known|struct-known|struct-told)", fn.key(asked.get(args[x], "")))]
             if len(rest) == len(between):
                 for x, y in zip(rest, between):
-                    if args[x] in asked:
-                        out[args[x]] = order[y]
+                    if args[x] in asked or args[x].startswith("("):
+                        out[args[x] if args[x] in asked else x] = order[y]
         k = end
     return out
 
@@ -364,9 +378,17 @@ def convert(crate, folder, names, f):
         body = "\n".join(ls[1:])
         if "tie.close" in body or "-spec : {M" in sig or "_spec : {M" in sig:
             args = body.split("tie.spec", 1)[-1] if "tie.spec" in body else ""
-            for lam in re.findall(r"\(λ c(?: κs)?\. [^\n]*", args):
-                if not re.match(r"\(λ c(?: κs)?\. (search rules|tt|refl|omega arith)\)", lam):
+            flat = [l for l in ls[1:] if l.startswith("unfolding")]
+            for x, lam in enumerate(spec_args(decls)):
+                m = re.match(r"^\(λ (\S+?)(?: κs)?\. (.*)\)$", lam, re.S)
+                if not m or m.group(2).strip() in TRIVIAL:
+                    continue
+                if x not in needs:
                     report.append("INLINE " + lam.strip()[:200])
+                    continue
+                new, place = needs[x]
+                text = rewrite(fn, m.group(2), {m.group(1): (m.group(1), place, place)}, helpers, report, known)
+                answers.append(("answer", "\n".join([f"pub {new} : goal.{new}"] + flat + [f"{new} {m.group(1)} = {text}"])))
             continue
         m = re.match(r"^(?:abbrev )?(?:pub )?(invariant|decreases)-(\S+) : tie\.", sig)
         if m:

@@ -28,7 +28,7 @@ returns-in-0-section-2 c = rw (at-file drift c.in-3.is, c.in-0-section-2.is)
 
 pub returns-in-1-to-9 : goal.returns-in-1-to-9
 unfolding sections fixed_sections axle_sections axles_from new_booking old_booking tester protocol measurement sixteen drift_axle suspension_axle analyser counter speed_test all_key_dates all_key_bodies analysis fuel_analysis
-returns-in-1-to-9 c = rw (at-file drift c.in-3.is, drift-entries (past 1 _ c.in_default-1.rest) c.in-1-to-9.if-section-lt10-own.true)
+returns-in-1-to-9 c = rw (at-file drift c.in-3.is, drift-entries (past 1 _ c.in-1-to-9.in_default-own.rest) c.in-1-to-9.if-section-lt10-own.true)
 
 pub returns-in_default-section-3 : goal.returns-in_default-section-3
 unfolding sections fixed_sections axle_sections axles_from new_booking old_booking tester protocol measurement sixteen drift_axle suspension_axle analyser counter speed_test all_key_dates all_key_bodies analysis fuel_analysis
@@ -40,7 +40,7 @@ returns-in-0-section-3 c = rw (at-file suspension c.in-4.is, c.in-0-section-3.is
 
 pub returns-in-1-to-9-section : goal.returns-in-1-to-9-section
 unfolding sections fixed_sections axle_sections axles_from new_booking old_booking tester protocol measurement sixteen drift_axle suspension_axle analyser counter speed_test all_key_dates all_key_bodies analysis fuel_analysis
-returns-in-1-to-9-section c = rw (at-file suspension c.in-4.is, suspension-entries (past 1 _ c.in_default-1.rest) c.in-1-to-9-section.if-section-lt10-2-own.true)
+returns-in-1-to-9-section c = rw (at-file suspension c.in-4.is, suspension-entries (past 1 _ c.in-1-to-9-section.in_default-own.rest) c.in-1-to-9-section.if-section-lt10-2-own.true)
 
 pub returns-in_default-section-4 : goal.returns-in_default-section-4
 unfolding sections fixed_sections axle_sections axles_from new_booking old_booking tester protocol measurement sixteen drift_axle suspension_axle analyser counter speed_test all_key_dates all_key_bodies analysis fuel_analysis

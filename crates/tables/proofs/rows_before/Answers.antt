@@ -30,7 +30,7 @@ unfolding row_count sections fixed_sections axle_sections axles_from axle_entrie
 returns-in-0-section-2 c = rw (at-file drift c.in-3.is, c.in-0-section-2.is)
 
 pub returns-in-1-to-9 : goal.returns-in-1-to-9
-returns-in-1-to-9 c = rw (at-file drift c.in-3.is, drift-rows (past 1 _ c.in_default-1.rest) c.in-1-to-9.if-section-lt10-own.true)
+returns-in-1-to-9 c = rw (at-file drift c.in-3.is, drift-rows (past 1 _ c.in-1-to-9.in_default-own.rest) c.in-1-to-9.if-section-lt10-own.true)
 
 pub returns-in_default-section-3 : goal.returns-in_default-section-3
 unfolding row_count sections fixed_sections axle_sections axles_from axle_entries tester protocol measurement sixteen drift_axle
@@ -41,7 +41,7 @@ unfolding row_count sections fixed_sections axle_sections axles_from axle_entrie
 returns-in-0-section-3 c = rw (at-file suspension c.in-4.is, c.in-0-section-3.is)
 
 pub returns-in-1-to-9-section : goal.returns-in-1-to-9-section
-returns-in-1-to-9-section c = rw (at-file suspension c.in-4.is, suspension-rows (past 1 _ c.in_default-1.rest) c.in-1-to-9-section.if-section-lt10-2-own.true)
+returns-in-1-to-9-section c = rw (at-file suspension c.in-4.is, suspension-rows (past 1 _ c.in-1-to-9-section.in_default-own.rest) c.in-1-to-9-section.if-section-lt10-2-own.true)
 
 pub returns-in_default-section-4 : goal.returns-in_default-section-4
 unfolding row_count sections fixed_sections axle_sections axles_from axle_entries tester protocol measurement sixteen suspension_axle

@@ -10,7 +10,7 @@ use Rattle.tables.proofs.section_digit.Goals as goal
 pub returns-in-49-to-57 : goal.returns-in-49-to-57
 returns-in-49-to-57 c =
     let b = c.args.byte in
-    rw (c.wide.ensures, le-leb 49 b (omega (arith, c.if-byte-lt49.false)), le-leb b 57 (omega (arith, c.in-49-to-57.if-byte-lt58-own.true))) refl
+    rw (c.wide.ensures, le-leb 49 b (omega (arith, c.in-49-to-57.if-byte-lt49-own.false)), le-leb b 57 (omega (arith, c.in-49-to-57.if-byte-lt58-own.true))) refl
 
 pub returns-in_default : goal.returns-in_default
 returns-in_default c =

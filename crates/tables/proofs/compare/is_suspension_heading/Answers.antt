@@ -10,7 +10,7 @@ unfolding sections fixed_sections axle_sections axles_from
 returns-in-0 c = rw c.in-0.is c.equal.ensures
 
 pub returns-in-1-to-9 : goal.returns-in-1-to-9
-returns-in-1-to-9 c = rw (suspension-heading (past 1 _ c.in_default-1.rest) c.in-1-to-9.if-section-lt10-own.true) c.is_axle_heading.ensures
+returns-in-1-to-9 c = rw (suspension-heading (past 1 _ c.in-1-to-9.in_default-own.rest) c.in-1-to-9.if-section-lt10-own.true) c.is_axle_heading.ensures
 
 pub returns-in_default : goal.returns-in_default
 unfolding sections fixed_sections axle_sections axles_from

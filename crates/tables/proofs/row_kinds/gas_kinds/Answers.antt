@@ -1,0 +1,11 @@
+-- `tables::row_kinds::gas_kinds` meets its contract: the kind of each row, by one computed test. Assumes nothing.
+use mathlib.Core.Path.{refl}
+use Rattle.kinds.specs.Kind.{numbered, kind_of}
+use Rattle.tables.specs.Entries.{analysis, fuel_analysis, analyser, counter, speed_test, protocol, all_key_dates, all_key_bodies, measurement}
+use Rattle.tables.specs.File.{sections, fixed_sections, axle_sections}
+use Rattle.tables.specs.Row.{row_kind}
+use Rattle.tables.proofs.row_kinds.gas_kinds.Goals as goal
+
+pub returns : goal.returns
+unfolding row_kind numbered kind_of analysis fuel_analysis analyser counter speed_test protocol all_key_dates all_key_bodies measurement sections fixed_sections axle_sections
+returns c = refl
