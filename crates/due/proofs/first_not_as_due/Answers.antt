@@ -17,6 +17,7 @@ use Rattle.due.specs.Table.{condition_table}
 use Rattle.due.proofs.Entries.{table-in}
 use Rattle.due.proofs.FirstNotAsDue.{first_step, first-end, by-table, past-table}
 use Rattle.due.proofs.first_not_as_due.Goals as goal
+use Rattle.due.proofs.first_not_as_due.Goals.{then-i-size+else-not-is_as_due, else-i-size+else-not-filled}
 
 pub loop-i-init : goal.loop-i-init
 loop-i-init c = (search rules, rw (add-zero, sub-zero) refl)
@@ -46,10 +47,13 @@ loop-i-preserved c =
     let x = c.args in
     let d = as_due (due_in x.file c.loop-i.i x.c) c.is_filled-filled.result in
     let e : d ≡ true =
-    ⊎_elim
-    (λ w. by-table x.file c.loop-i.i x.c c.is_filled-filled.result _ _ c.first_condition-start.ensures c.condition_count-size.ensures w.0.taken ∙ sym w.2.ensures ∙ not-false _ w.3.left)
-    (λ w. past-table x.file c.loop-i.i x.c c.is_filled-filled.result _ c.condition_count-size.ensures w.0.left ∙ not-false _ w.1.left)
-    c.if-i-size.branch in
+      elim c.if-i-size.branch [
+        | then-i-size+else-not-is_as_due w ↦
+          by-table x.file c.loop-i.i x.c c.is_filled-filled.result _ _ c.first_condition-start.ensures c.condition_count-size.ensures w.if-i-size.true
+          ∙ sym w.is_as_due.ensures ∙ w.if-not-is_as_due.false
+        | else-i-size+else-not-filled w ↦
+          past-table x.file c.loop-i.i x.c c.is_filled-filled.result _ c.condition_count-size.ensures w.if-i-size.false ∙ w.if-not-filled.false
+      ] in
     (search rules, c.loop-i.invariant.1 ∙ first_step (λ j. due_in x.file j x.c) x.places.now x.first c.loop-i.i x.count c.loop-i-test.true ∙ rw (← c.is_filled-filled.ensures, e))
 
 pub returns : goal.returns

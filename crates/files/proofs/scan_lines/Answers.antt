@@ -20,162 +20,131 @@ use Rattle.files.proofs.scan_lines.Lts as lts
 use Rattle.files.proofs.scan_lines.Tie as tie
 use Rattle.files.proofs.scan_lines.Goals as goal
 
--- the text, the table, the slots at first and now, seen from the loop's head
-abbrev F : (lts.At-loop tie.the-claims tie.handed_pre tie.handed_post goal.the-invariant-loop-line goal.the-decreases-loop-line) → List ℕ
-F c = c.args.text.now
-
-abbrev K : (lts.At-loop tie.the-claims tie.handed_pre tie.handed_post goal.the-invariant-loop-line goal.the-decreases-loop-line) → List Section
-K c = table_of c.args.file
-
-abbrev A₀ : (lts.At-loop tie.the-claims tie.handed_pre tie.handed_post goal.the-invariant-loop-line goal.the-decreases-loop-line) → Slots
-A₀ c = slots c.args.numbers.now c.args.starts.now c.args.lengths.now
-
-abbrev A : (lts.At-loop tie.the-claims tie.handed_pre tie.handed_post goal.the-invariant-loop-line goal.the-decreases-loop-line) → Slots
-A c = slots c.loop-line.numbers c.loop-line.starts c.loop-line.lengths
-
-abbrev is_heading : (c : (lts.After-start tie.the-claims tie.handed_pre tie.handed_post goal.the-invariant-loop-line goal.the-decreases-loop-line)) → line_at (F (H c)) c.loop-line.c ≡ Heading c.in-Heading.start c.in-Heading.end c.in-Heading.next
-is_heading c = sym c.read_line.ensures ∙ c.in-Heading.is
-
-inside_h : (c : (lts.After-start tie.the-claims tie.handed_pre tie.handed_post goal.the-invariant-loop-line goal.the-decreases-loop-line)) → Inside (F (H c)) c.in-Heading.start c.in-Heading.start c.in-Heading.end
-inside_h c = heading-inside (F (H c)) c.loop-line.c _ _ _ (is_heading c)
-
-moves_h : (c : (lts.After-start tie.the-claims tie.handed_pre tie.handed_post goal.the-invariant-loop-line goal.the-decreases-loop-line)) → Moves (F (H c)) c.loop-line.c c.in-Heading.next
-moves_h c = heading-moves (F (H c)) c.loop-line.c _ _ _ (is_heading c)
-
-most_h : (c : (lts.After-start tie.the-claims tie.handed_pre tie.handed_post goal.the-invariant-loop-line goal.the-decreases-loop-line)) → c.in-Heading.next.line ≤ most_bytes
-most_h c = let m = heading-most (F (H c)) c.loop-line.c _ _ _ (is_heading c) in omega (arith, c.loop-line.invariant.0.ready.short)
-
-abbrev is_entry : (c : (lts.After-start2 tie.the-claims tie.handed_pre tie.handed_post goal.the-invariant-loop-line goal.the-decreases-loop-line))
-    → line_at (F (E c)) c.loop-line.c ≡ Entry c.in-Entry.start c.in-Entry.equals c.in-Entry.end c.in-Entry.next
-is_entry c = sym c.read_line.ensures ∙ c.in-Entry.is
-
-inside_e : (c : (lts.After-start2 tie.the-claims tie.handed_pre tie.handed_post goal.the-invariant-loop-line goal.the-decreases-loop-line)) → Inside (F (E c)) c.in-Entry.start (c.in-Entry.equals + 1) c.in-Entry.end
-inside_e c = entry-inside (F (E c)) c.loop-line.c _ _ _ _ (is_entry c)
-
-start_e : (c : (lts.After-start2 tie.the-claims tie.handed_pre tie.handed_post goal.the-invariant-loop-line goal.the-decreases-loop-line)) → c.in-Entry.start ≤ c.in-Entry.equals
-start_e c = entry-start (F (E c)) c.loop-line.c _ _ _ _ (is_entry c)
-
-moves_e : (c : (lts.After-start2 tie.the-claims tie.handed_pre tie.handed_post goal.the-invariant-loop-line goal.the-decreases-loop-line)) → Moves (F (E c)) c.loop-line.c c.in-Entry.next
-moves_e c = entry-moves (F (E c)) c.loop-line.c _ _ _ _ (is_entry c)
-
-most_e : (c : (lts.After-start2 tie.the-claims tie.handed_pre tie.handed_post goal.the-invariant-loop-line goal.the-decreases-loop-line)) → c.in-Entry.next.line ≤ most_bytes
-most_e c = let m = entry-most (F (E c)) c.loop-line.c _ _ _ _ (is_entry c) in omega (arith, c.loop-line.invariant.0.ready.short)
-
 pub loop-line-init : goal.loop-line-init
 loop-line-init c =
     (rw (c.new-c.ensures, c.section_count-none.ensures) (turn-first _ _ _ c.requires.1), c.section_place-place.ensures)
 
 pub returns-in-End : goal.returns-in-End
 returns-in-End c =
-    turn_end (K c.before.before) (F c.before.before) (A₀ c.before.before) (A c.before.before) c.loop-line.c c.loop-line.cur c.loop-line.invariant.0 (sym c.read_line.ensures ∙ c.in-End.is)
+    turn_end (table_of c.args.file) c.args.text.now (slots c.args.numbers.now c.args.starts.now c.args.lengths.now) (slots c.loop-line.numbers c.loop-line.starts c.loop-line.lengths) c.loop-line.c c.loop-line.cur c.loop-line.invariant.0 (sym c.read_line.ensures ∙ c.in-End.is)
 
 pub failed-requires : goal.failed-requires
 failed-requires c =
-    omega (arith, bad-most (F c.before.before) c.loop-line.c _ (sym c.read_line.ensures ∙ c.in-Bad.is), c.loop-line.invariant.0.ready.short)
+    omega (arith, bad-most c.args.text.now c.loop-line.c _ (sym c.read_line.ensures ∙ c.in-Bad.is), c.loop-line.invariant.0.ready.short)
 
 pub returns-in-Bad : goal.returns-in-Bad
 returns-in-Bad c =
-    rw c.failed.ensures (turn-bad (K c.before.before.before) (F c.before.before.before) (A₀ c.before.before.before) (A c.before.before.before) c.loop-line.c c.loop-line.cur c.loop-line.invariant.0 _ (sym c.read_line.ensures ∙ c.in-Bad.is))
+    rw c.failed.ensures (turn-bad (table_of c.args.file) c.args.text.now (slots c.args.numbers.now c.args.starts.now c.args.lengths.now) (slots c.loop-line.numbers c.loop-line.starts c.loop-line.lengths) c.loop-line.c c.loop-line.cur c.loop-line.invariant.0 _ (sym c.read_line.ensures ∙ c.in-Bad.is))
 
 pub slice_bounds-find_section-count : goal.slice_bounds-find_section-count
-slice_bounds-find_section-count c = omega (arith, inside_h c.before)
+slice_bounds-find_section-count c = omega (arith, (heading-inside c.args.text.now c.loop-line.c _ _ _ (sym c.read_line.ensures ∙ c.in-Heading.is)))
 
 pub slice_bounds-find_section-start : goal.slice_bounds-find_section-start
-slice_bounds-find_section-start c = omega (arith, inside_h c.before)
+slice_bounds-find_section-start c = omega (arith, (heading-inside c.args.text.now c.loop-line.c _ _ _ (sym c.read_line.ensures ∙ c.in-Heading.is)))
 
 pub slice_bounds-find_section-end : goal.slice_bounds-find_section-end
-slice_bounds-find_section-end c = omega (arith, inside_h c.before)
+slice_bounds-find_section-end c = omega (arith, (heading-inside c.args.text.now c.loop-line.c _ _ _ (sym c.read_line.ensures ∙ c.in-Heading.is)))
 
 pub take_row-requires : goal.take_row-requires
 take_row-requires c =
-    (c.loop-line.invariant.0.ready.starts-are ∙ sym c.loop-line.invariant.0.ready.lines_are, c.loop-line.invariant.0.ready.lengths-are ∙ sym c.loop-line.invariant.0.ready.lines_are, most_h c.before.before.before.before.before.before.before, omega arith)
+    (c.loop-line.invariant.0.ready.starts-are ∙ sym c.loop-line.invariant.0.ready.lines_are, c.loop-line.invariant.0.ready.lengths-are ∙ sym c.loop-line.invariant.0.ready.lines_are, (let m = heading-most c.args.text.now c.loop-line.c _ _ _ (sym c.read_line.ensures ∙ c.in-Heading.is) in omega (arith, c.loop-line.invariant.0.ready.short)), omega arith)
 
 pub failed-requires-then-not-take_row : goal.failed-requires-then-not-take_row
-failed-requires-then-not-take_row c = most_h c.before.before.before.before.before.before.before.before.before.before.before.before.before.before.before
+failed-requires-then-not-take_row c = (let m = heading-most c.args.text.now c.loop-line.c _ _ _ (sym c.read_line.ensures ∙ c.in-Heading.is) in omega (arith, c.loop-line.invariant.0.ready.short))
 
 pub returns-then-not-take_row : goal.returns-then-not-take_row
 returns-then-not-take_row c =
-    let n = c.before.before.before.before.before.before.before.before.before.before.before.before.before.before.before.before in
-    rw c.failed-then-not-take_row.ensures (turn-heading-refused (K c.before.before.before.before.before.before.before.before.before.before.before.before.before.before.before.before.before) (F c.before.before.before.before.before.before.before.before.before.before.before.before.before.before.before.before.before) (A₀ c.before.before.before.before.before.before.before.before.before.before.before.before.before.before.before.before.before) (A c.before.before.before.before.before.before.before.before.before.before.before.before.before.before.before.before.before) c.loop-line.c c.loop-line.cur c.loop-line.inv.0 _ _ _ (is_heading n) c.find_section-section.result c.section_place-found.result.before c.find_section-section.ensures c.section_place-found.ensures.before-is _ (took-no c.take_row.ensures c.if-not-take_row.true-raw))
+    rw c.failed-then-not-take_row.ensures (turn-heading-refused (table_of c.args.file) c.args.text.now (slots c.args.numbers.now c.args.starts.now c.args.lengths.now) (slots c.loop-line.numbers c.loop-line.starts c.loop-line.lengths) c.loop-line.c c.loop-line.cur c.loop-line.invariant.0 _ _ _ (sym c.read_line.ensures ∙ c.in-Heading.is) c.find_section-section.result c.section_place-found.result.before c.find_section-section.ensures c.section_place-found.ensures.before-is _ (took-no c.take_row.ensures c.if-not-take_row.true-raw))
 
 pub shape_of-numbers-then-not-take_row : goal.shape_of-numbers-then-not-take_row
-shape_of-numbers-then-not-take_row c = (returns-3 c.before).still.lines_are ∙ sym c.requires.1.lines_are
+shape_of-numbers-then-not-take_row c =
+    let r = (turn-heading-refused (table_of c.args.file) c.args.text.now (slots c.args.numbers.now c.args.starts.now c.args.lengths.now) (slots c.loop-line.numbers c.loop-line.starts c.loop-line.lengths) c.loop-line.c c.loop-line.cur c.loop-line.invariant.0 _ _ _ (sym c.read_line.ensures ∙ c.in-Heading.is) c.find_section-section.result c.section_place-found.result.before c.find_section-section.ensures c.section_place-found.ensures.before-is _ (took-no c.take_row.ensures c.if-not-take_row.true-raw)) in
+    r.still.lines_are ∙ sym c.requires.1.lines_are
 
 pub shape_of-starts-then-not-take_row : goal.shape_of-starts-then-not-take_row
-shape_of-starts-then-not-take_row c = (returns-3 c.before).still.starts-are ∙ sym c.requires.1.starts-are
+shape_of-starts-then-not-take_row c =
+    let r = (turn-heading-refused (table_of c.args.file) c.args.text.now (slots c.args.numbers.now c.args.starts.now c.args.lengths.now) (slots c.loop-line.numbers c.loop-line.starts c.loop-line.lengths) c.loop-line.c c.loop-line.cur c.loop-line.invariant.0 _ _ _ (sym c.read_line.ensures ∙ c.in-Heading.is) c.find_section-section.result c.section_place-found.result.before c.find_section-section.ensures c.section_place-found.ensures.before-is _ (took-no c.take_row.ensures c.if-not-take_row.true-raw)) in
+    r.still.starts-are ∙ sym c.requires.1.starts-are
 
 pub shape_of-lengths-then-not-take_row : goal.shape_of-lengths-then-not-take_row
-shape_of-lengths-then-not-take_row c = (returns-3 c.before).still.lengths-are ∙ sym c.requires.1.lengths-are
+shape_of-lengths-then-not-take_row c =
+    let r = (turn-heading-refused (table_of c.args.file) c.args.text.now (slots c.args.numbers.now c.args.starts.now c.args.lengths.now) (slots c.loop-line.numbers c.loop-line.starts c.loop-line.lengths) c.loop-line.c c.loop-line.cur c.loop-line.invariant.0 _ _ _ (sym c.read_line.ensures ∙ c.in-Heading.is) c.find_section-section.result c.section_place-found.result.before c.find_section-section.ensures c.section_place-found.ensures.before-is _ (took-no c.take_row.ensures c.if-not-take_row.true-raw)) in
+    r.still.lengths-are ∙ sym c.requires.1.lengths-are
 
 pub loop-line-smaller-in-Heading : goal.loop-line-smaller-in-Heading
 loop-line-smaller-in-Heading c =
-    let m = moves_h c.before.before.before.before.before.before.before.before.before.before.before.before.before.before.before in
+    let m = (heading-moves c.args.text.now c.loop-line.c _ _ _ (sym c.read_line.ensures ∙ c.in-Heading.is)) in
     omega (arith, m.on, m.within)
 
 pub loop-line-preserved-in-Heading : goal.loop-line-preserved-in-Heading
 loop-line-preserved-in-Heading c =
-    let n = c.before.before.before.before.before.before.before.before.before.before.before.before.before.before.before in
-    (turn-heading (K c.before.before.before.before.before.before.before.before.before.before.before.before.before.before.before.before) (F c.before.before.before.before.before.before.before.before.before.before.before.before.before.before.before.before) (A₀ c.before.before.before.before.before.before.before.before.before.before.before.before.before.before.before.before) (A c.before.before.before.before.before.before.before.before.before.before.before.before.before.before.before.before) c.loop-line.c c.loop-line.cur c.loop-line.inv.0 _ _ _ (is_heading n) c.find_section-section.result c.section_place-found.result.before c.find_section-section.ensures c.section_place-found.ensures.before-is _ (took-yes c.take_row.ensures c.if-not-take_row.false-raw), c.section_place-found.ensures)
+    (turn-heading (table_of c.args.file) c.args.text.now (slots c.args.numbers.now c.args.starts.now c.args.lengths.now) (slots c.loop-line.numbers c.loop-line.starts c.loop-line.lengths) c.loop-line.c c.loop-line.cur c.loop-line.invariant.0 _ _ _ (sym c.read_line.ensures ∙ c.in-Heading.is) c.find_section-section.result c.section_place-found.result.before c.find_section-section.ensures c.section_place-found.ensures.before-is _ (took-yes c.take_row.ensures c.if-not-take_row.false-raw), c.section_place-found.ensures)
 
 pub failed-requires-then-none-cur : goal.failed-requires-then-none-cur
-failed-requires-then-none-cur c = most_e c.before.before
+failed-requires-then-none-cur c = (let m = entry-most c.args.text.now c.loop-line.c _ _ _ _ (sym c.read_line.ensures ∙ c.in-Entry.is) in omega (arith, c.loop-line.invariant.0.ready.short))
 
 pub returns-then-none-cur : goal.returns-then-none-cur
 returns-then-none-cur c =
-    let n = c.before.before.before in
-    rw c.failed-then-none-cur.ensures (turn-entry-first (K c.before.before.before.before) (F c.before.before.before.before) (A₀ c.before.before.before.before) (A c.before.before.before.before) c.loop-line.c c.loop-line.cur c.loop-line.inv.0 _ _ _ _ (is_entry n) (omega (arith, c.section_count-none.ensures)))
+    rw c.failed-then-none-cur.ensures (turn-entry-first (table_of c.args.file) c.args.text.now (slots c.args.numbers.now c.args.starts.now c.args.lengths.now) (slots c.loop-line.numbers c.loop-line.starts c.loop-line.lengths) c.loop-line.c c.loop-line.cur c.loop-line.invariant.0 _ _ _ _ (sym c.read_line.ensures ∙ c.in-Entry.is) (omega (arith, c.section_count-none.ensures)))
 
 pub slice_bounds-find_row-count : goal.slice_bounds-find_row-count
-slice_bounds-find_row-count c = omega (arith, start_e c.before.before)
+slice_bounds-find_row-count c = omega (arith, (entry-start c.args.text.now c.loop-line.c _ _ _ _ (sym c.read_line.ensures ∙ c.in-Entry.is)))
 
 pub slice_bounds-find_row-start : goal.slice_bounds-find_row-start
-slice_bounds-find_row-start c = omega (arith, start_e c.before.before, inside_e c.before.before)
+slice_bounds-find_row-start c = omega (arith, (entry-start c.args.text.now c.loop-line.c _ _ _ _ (sym c.read_line.ensures ∙ c.in-Entry.is)), (entry-inside c.args.text.now c.loop-line.c _ _ _ _ (sym c.read_line.ensures ∙ c.in-Entry.is)))
 
 pub slice_bounds-find_row-end : goal.slice_bounds-find_row-end
-slice_bounds-find_row-end c = omega (arith, inside_e c.before.before)
+slice_bounds-find_row-end c = omega (arith, (entry-inside c.args.text.now c.loop-line.c _ _ _ _ (sym c.read_line.ensures ∙ c.in-Entry.is)))
 
 pub find_row-row-requires : goal.find_row-row-requires
 find_row-row-requires c = (c.loop-line.invariant.1, c.requires.0)
 
 pub overflow_add-from : goal.overflow_add-from
-overflow_add-from c = omega (arith, inside_e c.before.before.before.before)
+overflow_add-from c = omega (arith, (entry-inside c.args.text.now c.loop-line.c _ _ _ _ (sym c.read_line.ensures ∙ c.in-Entry.is)))
 
 pub overflow_sub-end : goal.overflow_sub-end
-overflow_sub-end c = omega (arith, inside_e c.before.before.before.before.before.before.before)
+overflow_sub-end c = omega (arith, (entry-inside c.args.text.now c.loop-line.c _ _ _ _ (sym c.read_line.ensures ∙ c.in-Entry.is)))
 
 pub take_row-requires-in-Entry : goal.take_row-requires-in-Entry
 take_row-requires-in-Entry c =
-    let i = inside_e c.before.before.before.before.before.before.before in
-    (c.loop-line.invariant.0.ready.starts-are ∙ sym c.loop-line.invariant.0.ready.lines_are, c.loop-line.invariant.0.ready.lengths-are ∙ sym c.loop-line.invariant.0.ready.lines_are, most_e c.before.before.before.before.before.before.before, omega (arith, i.high, i.top, c.loop-line.invariant.0.ready.short))
+    let i = (entry-inside c.args.text.now c.loop-line.c _ _ _ _ (sym c.read_line.ensures ∙ c.in-Entry.is)) in
+    (c.loop-line.invariant.0.ready.starts-are ∙ sym c.loop-line.invariant.0.ready.lines_are, c.loop-line.invariant.0.ready.lengths-are ∙ sym c.loop-line.invariant.0.ready.lines_are, (let m = entry-most c.args.text.now c.loop-line.c _ _ _ _ (sym c.read_line.ensures ∙ c.in-Entry.is) in omega (arith, c.loop-line.invariant.0.ready.short)), omega (arith, i.high, i.top, c.loop-line.invariant.0.ready.short))
 
 pub failed-requires-then-not-take_row-2 : goal.failed-requires-then-not-take_row-2
-failed-requires-then-not-take_row-2 c = most_e c.before.before.before.before.before.before.before.before.before.before.before.before.before.before.before
+failed-requires-then-not-take_row-2 c = (let m = entry-most c.args.text.now c.loop-line.c _ _ _ _ (sym c.read_line.ensures ∙ c.in-Entry.is) in omega (arith, c.loop-line.invariant.0.ready.short))
 
 pub returns-then-not-take_row-2 : goal.returns-then-not-take_row-2
 returns-then-not-take_row-2 c =
-    let n = c.before.before.before.before.before.before.before.before.before.before.before.before.before.before.before.before in
-    rw c.failed-then-not-take_row-2.ensures (turn-entry-refused (K c.before.before.before.before.before.before.before.before.before.before.before.before.before.before.before.before.before) (F c.before.before.before.before.before.before.before.before.before.before.before.before.before.before.before.before.before) (A₀ c.before.before.before.before.before.before.before.before.before.before.before.before.before.before.before.before.before) (A c.before.before.before.before.before.before.before.before.before.before.before.before.before.before.before.before.before) c.loop-line.c c.loop-line.cur c.loop-line.inv.0 _ _ _ _ (is_entry n) (omega (arith, c.section_count-none.ensures, c.if-none-cur.false)) c.find_row-row.result
+    rw c.failed-then-not-take_row-2.ensures (turn-entry-refused (table_of c.args.file) c.args.text.now (slots c.args.numbers.now c.args.starts.now c.args.lengths.now) (slots c.loop-line.numbers c.loop-line.starts c.loop-line.lengths) c.loop-line.c c.loop-line.cur c.loop-line.invariant.0 _ _ _ _ (sym c.read_line.ensures ∙ c.in-Entry.is) (omega (arith, c.section_count-none.ensures, c.if-none-cur.false)) c.find_row-row.result
     c.find_row-row.ensures _ (took-no c.take_row-in-Entry.ensures c.if-not-take_row-2.true-raw))
 
 pub shape_of-numbers-then-not-take_row-2 : goal.shape_of-numbers-then-not-take_row-2
-shape_of-numbers-then-not-take_row-2 c = (returns-5 c.before).still.lines_are ∙ sym c.requires.1.lines_are
+shape_of-numbers-then-not-take_row-2 c =
+    let r = (turn-entry-refused (table_of c.args.file) c.args.text.now (slots c.args.numbers.now c.args.starts.now c.args.lengths.now) (slots c.loop-line.numbers c.loop-line.starts c.loop-line.lengths) c.loop-line.c c.loop-line.cur c.loop-line.invariant.0 _ _ _ _ (sym c.read_line.ensures ∙ c.in-Entry.is) (omega (arith, c.section_count-none.ensures, c.if-none-cur.false)) c.find_row-row.result
+    c.find_row-row.ensures _ (took-no c.take_row-in-Entry.ensures c.if-not-take_row-2.true-raw)) in
+    r.still.lines_are ∙ sym c.requires.1.lines_are
 
 pub shape_of-starts-then-not-take_row-2 : goal.shape_of-starts-then-not-take_row-2
-shape_of-starts-then-not-take_row-2 c = (returns-5 c.before).still.starts-are ∙ sym c.requires.1.starts-are
+shape_of-starts-then-not-take_row-2 c =
+    let r = (turn-entry-refused (table_of c.args.file) c.args.text.now (slots c.args.numbers.now c.args.starts.now c.args.lengths.now) (slots c.loop-line.numbers c.loop-line.starts c.loop-line.lengths) c.loop-line.c c.loop-line.cur c.loop-line.invariant.0 _ _ _ _ (sym c.read_line.ensures ∙ c.in-Entry.is) (omega (arith, c.section_count-none.ensures, c.if-none-cur.false)) c.find_row-row.result
+    c.find_row-row.ensures _ (took-no c.take_row-in-Entry.ensures c.if-not-take_row-2.true-raw)) in
+    r.still.starts-are ∙ sym c.requires.1.starts-are
 
 pub shape_of-lengths-then-not-take_row-2 : goal.shape_of-lengths-then-not-take_row-2
-shape_of-lengths-then-not-take_row-2 c = (returns-5 c.before).still.lengths-are ∙ sym c.requires.1.lengths-are
+shape_of-lengths-then-not-take_row-2 c =
+    let r = (turn-entry-refused (table_of c.args.file) c.args.text.now (slots c.args.numbers.now c.args.starts.now c.args.lengths.now) (slots c.loop-line.numbers c.loop-line.starts c.loop-line.lengths) c.loop-line.c c.loop-line.cur c.loop-line.invariant.0 _ _ _ _ (sym c.read_line.ensures ∙ c.in-Entry.is) (omega (arith, c.section_count-none.ensures, c.if-none-cur.false)) c.find_row-row.result
+    c.find_row-row.ensures _ (took-no c.take_row-in-Entry.ensures c.if-not-take_row-2.true-raw)) in
+    r.still.lengths-are ∙ sym c.requires.1.lengths-are
 
 pub loop-line-smaller : goal.loop-line-smaller
 loop-line-smaller c =
-    let m = moves_e c.before.before.before.before.before.before.before.before.before.before.before.before.before.before.before in
+    let m = (entry-moves c.args.text.now c.loop-line.c _ _ _ _ (sym c.read_line.ensures ∙ c.in-Entry.is)) in
     omega (arith, m.on, m.within)
 
 pub loop-line-preserved : goal.loop-line-preserved
 loop-line-preserved c =
-    let n = c.before.before.before.before.before.before.before.before.before.before.before.before.before.before.before in
     (
-      turn-entry (K c.before.before.before.before.before.before.before.before.before.before.before.before.before.before.before.before) (F c.before.before.before.before.before.before.before.before.before.before.before.before.before.before.before.before) (A₀ c.before.before.before.before.before.before.before.before.before.before.before.before.before.before.before.before) (A c.before.before.before.before.before.before.before.before.before.before.before.before.before.before.before.before) c.loop-line.c c.loop-line.cur c.loop-line.inv.0 _ _ _ _ (is_entry n) (omega (arith, c.section_count-none.ensures, c.if-none-cur.false)) c.find_row-row.result
+      turn-entry (table_of c.args.file) c.args.text.now (slots c.args.numbers.now c.args.starts.now c.args.lengths.now) (slots c.loop-line.numbers c.loop-line.starts c.loop-line.lengths) c.loop-line.c c.loop-line.cur c.loop-line.invariant.0 _ _ _ _ (sym c.read_line.ensures ∙ c.in-Entry.is) (omega (arith, c.section_count-none.ensures, c.if-none-cur.false)) c.find_row-row.result
           c.find_row-row.ensures _ (took-yes c.take_row-in-Entry.ensures c.if-not-take_row-2.false-raw),
-      c.loop-line.inv.1,
+      c.loop-line.invariant.1,
     )

@@ -35,7 +35,7 @@ copy_name-requires c =
     let x = c.args in
     let p = c.find_standing-standing.result in
     let s = name-short x.file p.section p.entry in
-    let n = size c.before.before.before.before in
+    let n = size c.before.before.before in
     (omega (arith, s, n), omega (arith, s, n), omega (arith, sections-few x.file, c.section_count.ensures, c.if-section_count-section.false))
 
 pub returns : goal.returns

@@ -30,7 +30,7 @@ pub copy_name-requires : goal.copy_name-requires
 copy_name-requires c =
     let x = c.args in
     let s = heading-short x.file x.section in
-    let n = size c.before.before.before.before in
+    let n = size c.before.before.before in
     (omega (arith, s, n), omega (arith, s, n), search rules)
 
 pub returns : goal.returns

@@ -38,7 +38,7 @@ copy_name-requires c =
     let a = c.args in
     let n = c.kind_number-kind in
     let p = c.find_standing-standing in
-    let k = kind-some a.file a.entry n.result n.ensures (is-kind n.result a.word (listed c.before.before.before.before.before)) in
+    let k = kind-some a.file a.entry n.result n.ensures (is-kind n.result a.word (listed c.before.before.before.before)) in
     let i = section-in a.file a.entry p.result.section p.result.entry p.ensures (kind_of n.result) k in
     let l = row-long _ c.word_row-row.result c.word_row-row.ensures in
     (omega (arith, l, c.word_length-size.ensures), omega (arith, l, c.word_length-size.ensures), omega (arith, i, sections-few a.file))
