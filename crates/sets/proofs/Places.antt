@@ -71,6 +71,7 @@ among gas = there (there (there (there here)))
 among opacity = there (there (there (there (there here))))
 
 starts-after : (k : ℕ) (fs : List File) → Chained k fs → (f : File) → Among f fs → k ≤ first_pair f
+starts-after k [] c f m = elim m [ ]
 starts-after k (_ ∷ fs) c f here = omega (arith, c)
 starts-after k (g ∷ fs) c f (there m) = omega (arith, starts-after (k + room g) fs c.1 f m)
 
@@ -98,6 +99,7 @@ module _ (x : SetRead) (fit : (f : File) → length (x.file f).pairs ≤ room f)
 
   files-set : (k : ℕ) (fs : List File) → Chained k fs → (f : File) → Among f fs → (p : List ℕ) → least_places ≤ length p
       → (i : ℕ) → i < length (x.file f).pairs → pair_at (set_files fs x p) (first_pair f + i) ≡ get_or (x.file f).pairs i (0, 0)
+  files-set k [] c f m p l i h = elim m [ ]
   files-set k (_ ∷ fs) c f here p l i h =
       files-before (k + room f) fs c.1 (set_pairs (first_pair f) (x.file f).pairs p) (first_pair f + i) (omega (arith, c.0, fit f))
       ∙ pair_set (first_pair f) (x.file f).pairs p i (omega (arith, room-least f, fit f)) h
@@ -106,6 +108,7 @@ module _ (x : SetRead) (fit : (f : File) → length (x.file f).pairs ≤ room f)
 
   files-unset : (k : ℕ) (fs : List File) → Chained k fs → (f : File) → Among f fs → (p : List ℕ)
       → (i : ℕ) → length (x.file f).pairs ≤ i → i < room f → pair_at (set_files fs x p) (first_pair f + i) ≡ pair_at p (first_pair f + i)
+  files-unset k [] c f m p i h r = elim m [ ]
   files-unset k (_ ∷ fs) c f here p i h r =
       files-before (k + room f) fs c.1 (set_pairs (first_pair f) (x.file f).pairs p) (first_pair f + i) (omega (arith, c.0))
       ∙ pair-after (first_pair f) (x.file f).pairs p (first_pair f + i) (omega arith)

@@ -7,36 +7,23 @@ use Rattle.lines.specs.Writing.{put}
 use Rattle.writing.specs.Writing.{quoted_is, quote_file, quote, bytes_of, written, answer_of}
 use Rattle.writing.proofs.Quotes.{right-file, RightFile}
 use Rattle.writing.proofs.Acceptance.{written-inv, accepted-right, bytes-are, ready-to-write, out-refused, out-short, out_written}
-use Rattle.writing.proofs.write_file.Lts as lts
-use Rattle.writing.proofs.write_file.Tie as tie
 use Rattle.writing.proofs.write_file.Goals as goal
-
-quoted : (c : (lts.After-known_told2 tie.the-claims tie.handed_pre tie.handed_post)) → written c.in-Length.length ≡ answer_of c.args.file (quote_file c.args.file c.args.axles c.args.text.now c.args.places.now)
-quoted c = sym (ap quoted_is c.in-Length.is) ∙ c.quote.ensures
-
-accepted : (c : (lts.After-known_told2 tie.the-claims tie.handed_pre tie.handed_post)) → quote_file c.args.file c.args.axles c.args.text.now c.args.places.now ≡ quote c.in-Length.length
-accepted c = written-inv c.args.file (quote_file c.args.file c.args.axles c.args.text.now c.args.places.now) _ (quoted c)
-
-right : (c : (lts.After-known_told2 tie.the-claims tie.handed_pre tie.handed_post)) → RightFile c.args.file c.args.axles
-right c =
-    let x = c.args in
-    right-file x.file x.axles (accepted-right x.file x.axles x.text.now x.places.now _ (accepted c))
 
 pub returns-then-output-length : goal.returns-then-output-length
 returns-then-output-length c =
     let x = c.args in
-    let o = out-short x.file (quote_file x.file x.axles x.text.now x.places.now) (bytes_of x.file x.axles x.text.now x.places.now) x.output.now _ (quoted c.before.before) c.if-output-length.true in
+    let o = out-short x.file (quote_file x.file x.axles x.text.now x.places.now) (bytes_of x.file x.axles x.text.now x.places.now) x.output.now _ (sym (ap quoted_is c.in-Length.is) ∙ c.quote.ensures) c.if-output-length.true in
     record { answer = o.0; output = o.1 }
 
 pub section_count-count-requires : goal.section_count-count-requires
 section_count-count-requires c =
     let x = c.args in
-    accepted-right x.file x.axles x.text.now x.places.now _ (accepted c.before.before)
+    accepted-right x.file x.axles x.text.now x.places.now _ (written-inv x.file (quote_file x.file x.axles x.text.now x.places.now) _ (sym (ap quoted_is c.in-Length.is) ∙ c.quote.ensures))
 
 pub write_sections-requires : goal.write_sections-requires
 write_sections-requires c =
     let x = c.args in
-    ready-to-write (right c.before.before.before.before.before) c.section_count-count.ensures c.first_pair.ensures x.text.now x.places.now x.output.now _ (accepted c.before.before.before.before.before) c.if-output-length.false
+    ready-to-write (right-file x.file x.axles (accepted-right x.file x.axles x.text.now x.places.now _ (written-inv x.file (quote_file x.file x.axles x.text.now x.places.now) _ (sym (ap quoted_is c.in-Length.is) ∙ c.quote.ensures)))) c.section_count-count.ensures c.first_pair.ensures x.text.now x.places.now x.output.now _ (written-inv x.file (quote_file x.file x.axles x.text.now x.places.now) _ (sym (ap quoted_is c.in-Length.is) ∙ c.quote.ensures)) c.if-output-length.false
 
 pub returns-in-Refused : goal.returns-in-Refused
 returns-in-Refused c =
@@ -48,6 +35,6 @@ returns-in-Refused c =
 pub returns-else-output-length : goal.returns-else-output-length
 returns-else-output-length c =
     let x = c.args in
-    let o = out_written x.file (quote_file x.file x.axles x.text.now x.places.now) (bytes_of x.file x.axles x.text.now x.places.now) x.output.now _ (quoted c.before.before.before.before.before.before.before.before) c.if-output-length.false in
-    let w = bytes-are (right c.before.before.before.before.before.before.before.before) c.section_count-count.ensures c.first_pair.ensures x.text.now x.places.now in
+    let o = out_written x.file (quote_file x.file x.axles x.text.now x.places.now) (bytes_of x.file x.axles x.text.now x.places.now) x.output.now _ (sym (ap quoted_is c.in-Length.is) ∙ c.quote.ensures) c.if-output-length.false in
+    let w = bytes-are (right-file x.file x.axles (accepted-right x.file x.axles x.text.now x.places.now _ (written-inv x.file (quote_file x.file x.axles x.text.now x.places.now) _ (sym (ap quoted_is c.in-Length.is) ∙ c.quote.ensures)))) c.section_count-count.ensures c.first_pair.ensures x.text.now x.places.now in
     record { answer = o.0; output = c.write_sections.ensures.list ∙ ap (put x.output.now 0) w ∙ o.1 }
