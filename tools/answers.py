@@ -82,6 +82,12 @@ class Fn:
                 field, path = best
                 return [arm[0], field] + rest[len(path):]
         rest = list(rest)
+        params = self.e["params"].get(self.places[i][3] or "", [])
+        if rest[:1] == ["new"] and params and len(rest) > 1 and rest[1] in ("0", "1"):
+            k = 1
+            while k < len(rest) and rest[k] == "1" and k < len(params):
+                k += 1
+            rest = ["new", params[k - 1]] + (rest[k + 1:] if k < len(rest) and rest[k] == "0" else rest[k:])
         for a, b in self.places[i][4]:
             if rest and rest[0] == a:
                 rest[0] = b
@@ -239,7 +245,7 @@ def rewrite(fn, text, env, helpers, report, known, is_answer=True):
 
     def one(line):
         line = re.sub(r"\(([A-Za-z0-9_'₀-₉]+) ([A-Za-z0-9_'₀-₉]+)((?:\.before)*)\)((?:\.[A-Za-z0-9_'₀-₉-]+)+)", helper_path, line)
-        line = re.sub(r"(?<![A-Za-z0-9_'.-])([A-Za-z][A-Za-z0-9_'₀-₉-]*) ([A-Za-z][A-Za-z0-9_'₀-₉]*)((?:\.before)*)(?![A-Za-z0-9_'.₀-₉-])", cited, line)
+        line = re.sub(r"(?<![A-Za-z0-9_'.-])(?!(?:in|let|rw|ap) )([A-Za-z][A-Za-z0-9_'₀-₉-]*) ([A-Za-z][A-Za-z0-9_'₀-₉]*)((?:\.before)*)(?![A-Za-z0-9_'.₀-₉-])", cited, line)
         line = re.sub("\x03([0-9]+)\x04", lambda m: held[int(m.group(1))], IDENT.sub(path, line))
         return line.replace(".type-inv", ".type_inv")
 

@@ -14,4 +14,4 @@ returns-then-not-is_read c =
 
 pub returns : goal.returns
 returns c =
-    file-read c.args.file c.args.stated c.args.b c.args.booking.now c.args.text.now c.args.places.now c.requires _ c.slice_right.ensures (c.if-not-slice_right.false) _ c.is_read.ensures (c.if-not-is_read.false) c.judge_text.result c.judge_text.new.1.1.1.1.0 c.judge_text.ensures
+    file-read c.args.file c.args.stated c.args.b c.args.booking.now c.args.text.now c.args.places.now c.requires _ c.slice_right.ensures (c.if-not-slice_right.false) _ c.is_read.ensures (c.if-not-is_read.false) c.judge_text.result c.judge_text.new.places c.judge_text.ensures

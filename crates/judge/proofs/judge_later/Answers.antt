@@ -20,19 +20,35 @@ abbrev lent : (lts.Start tie.the-claims tie.handed_pre tie.handed_post) → List
 lent x = x.args.places.now
 
 abbrev places1 : (lts.After-judge_file tie.the-claims tie.handed_pre tie.handed_post) → List ℕ
-places1 c = c.judge_file-o.new.1.1.1.1.1.0
+places1 c = c.judge_file-o.new.places
 
 abbrev places2 : (lts.After-judge_next tie.the-claims tie.handed_pre tie.handed_post) → List ℕ
-places2 c = c.judge_next-d.new.1.1.1.1.1.1.0
+places2 c = c.judge_next-d.new.places
 
 abbrev places3 : (lts.After-judge_next2 tie.the-claims tie.handed_pre tie.handed_post) → List ℕ
-places3 c = c.judge_next-u.new.1.1.1.1.1.1.0
+places3 c = c.judge_next-u.new.places
 
 abbrev places4 : (lts.After-judge_next3 tie.the-claims tie.handed_pre tie.handed_post) → List ℕ
-places4 c = c.judge_next-g.new.1.1.1.1.1.1.0
+places4 c = c.judge_next-g.new.places
 
 abbrev places5 : (lts.After-judge_next4 tie.the-claims tie.handed_pre tie.handed_post) → List ℕ
-places5 c = c.judge_next-y.new.1.1.1.1.1.1.0
+places5 c = c.judge_next-y.new.places
+
+-- where the function began, from after each slice
+abbrev start1 : (lts.After-judge_file tie.the-claims tie.handed_pre tie.handed_post) → (lts.Start tie.the-claims tie.handed_pre tie.handed_post)
+start1 c = c.before.before.before.before.before.before.before.before.before.before
+
+abbrev start2 : (lts.After-judge_next tie.the-claims tie.handed_pre tie.handed_post) → (lts.Start tie.the-claims tie.handed_pre tie.handed_post)
+start2 c = c.before.before.before.before.before.before.before.before.before.before.before.before.before.before
+
+abbrev start3 : (lts.After-judge_next2 tie.the-claims tie.handed_pre tie.handed_post) → (lts.Start tie.the-claims tie.handed_pre tie.handed_post)
+start3 c = c.before.before.before.before.before.before.before.before.before.before.before.before.before.before.before.before.before.before
+
+abbrev start4 : (lts.After-judge_next3 tie.the-claims tie.handed_pre tie.handed_post) → (lts.Start tie.the-claims tie.handed_pre tie.handed_post)
+start4 c = c.before.before.before.before.before.before.before.before.before.before.before.before.before.before.before.before.before.before.before.before.before.before
+
+abbrev start5 : (lts.After-judge_next4 tie.the-claims tie.handed_pre tie.handed_post) → (lts.Start tie.the-claims tie.handed_pre tie.handed_post)
+start5 c = c.before.before.before.before.before.before.before.before.before.before.before.before.before.before.before.before.before.before.before.before.before.before.before.before.before.before.before
 
 -- what is known of what was kept
 abbrev Kept1 : (lts.After-judge_file tie.the-claims tie.handed_pre tie.handed_post) → Type 0
@@ -48,7 +64,7 @@ abbrev Kept4 : (lts.After-judge_next3 tie.the-claims tie.handed_pre tie.handed_p
 Kept4 c = let x = start4 c in Kept3 c.before.before.before.before × FiguresAs x.args.stated (slices x) (lent x) gas c.judge_next-g.result
 
 abbrev Kept5 : (lts.After-judge_next4 tie.the-claims tie.handed_pre tie.handed_post) → Type 0
-Kept5 c = let x = start5 c in Kept4 c.before.before.before.before.before.before × FiguresAs x.args.stated (slices x) (lent x) opacity c.judge_next-y.result
+Kept5 c = let x = start5 c in Kept4 c.before.before.before.before.before × FiguresAs x.args.stated (slices x) (lent x) opacity c.judge_next-y.result
 
 -- the slices left after each
 abbrev left5 : List Slice
@@ -108,7 +124,7 @@ unfolding of_number
 known4 c =
     identification-known c.args.stated (slices c.before.before.before.before.before.before.before.before.before.before.before.before.before.before.before.before.before.before.before.before.before.before) (lent c.before.before.before.before.before.before.before.before.before.before.before.before.before.before.before.before.before.before.before.before.before.before) (Kept3 c.before.before.before.before) left4 c.judge_next-u.result (pairs3 c.before.before.before.before.before.before.before.before.before.before.before.before.before.before.before.before.before.before.before.before.before.before) (places3 c.before.before.before.before) (after3 c.before.before.before.before) c.judge_next-g.result (places4 c) c.judge_next-g.ensures
 
-after5 : (c : (lts.After-identification_next tie.the-claims tie.handed_pre tie.handed_post)) → After c.args.stated (slices (start4 c.before.before.before.before)) (lent (start4 c.before.before.before.before)) (Kept4 c.before.before.before) left5 c.identification_next-i.result (pairs4 (start4 c.before.before.before.before)) (places4 c.before.before.before)
+after5 : (c : (lts.After-identification_next tie.the-claims tie.handed_pre tie.handed_post)) → After c.args.stated (slices (start4 c.before.before.before)) (lent (start4 c.before.before.before)) (Kept4 c.before.before.before) left5 c.identification_next-i.result (pairs4 (start4 c.before.before.before)) (places4 c.before.before.before)
 after5 c =
     next-identification c.args.stated (slices c.before.before.before.before.before.before.before.before.before.before.before.before.before.before.before.before.before.before.before.before.before.before.before.before.before) (lent c.before.before.before.before.before.before.before.before.before.before.before.before.before.before.before.before.before.before.before.before.before.before.before.before.before) (Kept4 c.before.before.before) left5 c.judge_next-g.result (pairs4 c.before.before.before.before.before.before.before.before.before.before.before.before.before.before.before.before.before.before.before.before.before.before.before.before.before) (places4 c.before.before.before) (after4 c.before.before.before) (known4 c.before.before.before) c.identification_next-i.result c.identification_next-i.ensures
 
@@ -153,13 +169,13 @@ shape_of-places-in-Stop c =
 
 pub returns-in-Stop : goal.returns-in-Stop
 returns-in-Stop c =
-    later-refused c.args.stated (slices c.before.before.before.before.before.before.before.before.before.before.before.before.before.before.before.before.before.before.before.before.before.before.before.before.before.before.before.before.before.before) (lent c.before.before.before.before.before.before.before.before.before.before.before.before.before.before.before.before.before.before.before.before.before.before.before.before.before.before.before.before.before.before) (Kept5 c.before.before.before) c.judge_next-y.result (pairs5 c.before.before.before.before.before.before.before.before.before.before.before.before.before.before.before.before.before.before.before.before.before.before.before.before.before.before.before.before.before.before) (places5 c.before.before.before) (after6 c.before.before.before) _ c.in-Stop.is
+    later-refused c.args.stated (slices c.before.before.before.before.before.before.before.before.before.before.before.before.before.before.before.before.before.before.before.before.before.before.before.before.before.before.before.before.before.before.before) (lent c.before.before.before.before.before.before.before.before.before.before.before.before.before.before.before.before.before.before.before.before.before.before.before.before.before.before.before.before.before.before.before) (Kept5 c.before.before.before.before) c.judge_next-y.result (pairs5 c.before.before.before.before.before.before.before.before.before.before.before.before.before.before.before.before.before.before.before.before.before.before.before.before.before.before.before.before.before.before.before) (places5 c.before.before.before.before) (after6 c.before.before.before.before) _ c.in-Stop.is
 
 pub shape_of-places-in-Go : goal.shape_of-places-in-Go
 shape_of-places-in-Go c =
-    later-size c.args.stated (slices c.before.before.before.before.before.before.before.before.before.before.before.before.before.before.before.before.before.before.before.before.before.before.before.before.before.before.before.before.before.before.before) (lent c.before.before.before.before.before.before.before.before.before.before.before.before.before.before.before.before.before.before.before.before.before.before.before.before.before.before.before.before.before.before.before) (Kept5 c.before.before.before.before) c.judge_next-y.result (pairs5 c.before.before.before.before.before.before.before.before.before.before.before.before.before.before.before.before.before.before.before.before.before.before.before.before.before.before.before.before.before.before.before) (places5 c.before.before.before.before) (after6 c.before.before.before.before) _ c.in-Go.is
+    later-size c.args.stated (slices c.before.before.before.before.before.before.before.before.before.before.before.before.before.before.before.before.before.before.before.before.before.before.before.before.before.before.before.before.before.before.before.before) (lent c.before.before.before.before.before.before.before.before.before.before.before.before.before.before.before.before.before.before.before.before.before.before.before.before.before.before.before.before.before.before.before.before) (Kept5 c.before.before.before.before.before) c.judge_next-y.result (pairs5 c.before.before.before.before.before.before.before.before.before.before.before.before.before.before.before.before.before.before.before.before.before.before.before.before.before.before.before.before.before.before.before.before) (places5 c.before.before.before.before.before) (after6 c.before.before.before.before.before) _ c.in-Go.is
 
 pub returns-in-Go : goal.returns-in-Go
 returns-in-Go c =
     rw c.acceptance_with.ensures
-    (later-accepted c.args.stated (slices c.before.before.before.before.before.before.before.before.before.before.before.before.before.before.before.before.before.before.before.before.before.before.before.before.before.before.before.before.before.before.before) (lent c.before.before.before.before.before.before.before.before.before.before.before.before.before.before.before.before.before.before.before.before.before.before.before.before.before.before.before.before.before.before.before) c.judge_file-o.result c.judge_next-d.result c.judge_next-u.result c.judge_next-g.result c.judge_next-y.result (places5 c.before.before.before.before) (after6 c.before.before.before.before) _ c.in-Go.is)
+    (later-accepted c.args.stated (slices c.before.before.before.before.before.before.before.before.before.before.before.before.before.before.before.before.before.before.before.before.before.before.before.before.before.before.before.before.before.before.before.before) (lent c.before.before.before.before.before.before.before.before.before.before.before.before.before.before.before.before.before.before.before.before.before.before.before.before.before.before.before.before.before.before.before.before) c.judge_file-o.result c.judge_next-d.result c.judge_next-u.result c.judge_next-g.result c.judge_next-y.result (places5 c.before.before.before.before.before) (after6 c.before.before.before.before.before) _ c.in-Go.is)

@@ -20,8 +20,8 @@ judge_slices-answer-requires c =
 
 pub returns-in-Refused : goal.returns-in-Refused
 returns-in-Refused c =
-    set-refused (caller_of c.args.stem.now) (slices_of c.args.ac2.now c.args.acc.now c.args.drift.now c.args.suspension.now c.args.gas.now c.args.identification.now c.args.opacity.now) c.args.places.now _ c.least_places-least.ensures c.if-places-least.false _ c.clear.ensures (sym c.good_stem.ensures ∙ c.if-not-good_stem.false) _ c.stated_of.ensures c.judge_slices-answer.new.1.1.1.1.1.1.1.1.0 c.judge_slices-answer.result c.judge_slices-answer.ensures _ c.in-Refused.is _ c.clear-in-Refused.ensures
+    set-refused (caller_of c.args.stem.now) (slices_of c.args.ac2.now c.args.acc.now c.args.drift.now c.args.suspension.now c.args.gas.now c.args.identification.now c.args.opacity.now) c.args.places.now _ c.least_places-least.ensures c.if-places-least.false _ c.clear.ensures (sym c.good_stem.ensures ∙ c.if-not-good_stem.false) _ c.stated_of.ensures c.judge_slices-answer.new.places c.judge_slices-answer.result c.judge_slices-answer.ensures _ c.in-Refused.is _ c.clear-in-Refused.ensures
 
 pub returns-in_default : goal.returns-in_default
 returns-in_default c =
-    set-accepted (caller_of c.args.stem.now) (slices_of c.args.ac2.now c.args.acc.now c.args.drift.now c.args.suspension.now c.args.gas.now c.args.identification.now c.args.opacity.now) c.args.places.now _ c.least_places-least.ensures c.if-places-least.false _ c.clear.ensures (sym c.good_stem.ensures ∙ c.if-not-good_stem.false) _ c.stated_of.ensures c.judge_slices-answer.new.1.1.1.1.1.1.1.1.0 c.judge_slices-answer.result c.judge_slices-answer.ensures _ c.in_default.is
+    set-accepted (caller_of c.args.stem.now) (slices_of c.args.ac2.now c.args.acc.now c.args.drift.now c.args.suspension.now c.args.gas.now c.args.identification.now c.args.opacity.now) c.args.places.now _ c.least_places-least.ensures c.if-places-least.false _ c.clear.ensures (sym c.good_stem.ensures ∙ c.if-not-good_stem.false) _ c.stated_of.ensures c.judge_slices-answer.new.places c.judge_slices-answer.result c.judge_slices-answer.ensures _ c.in_default.is

@@ -6,12 +6,12 @@ use Rattle.judge.proofs.judge_text.Goals as goal
 
 pub judge_values-requires : goal.judge_values-requires
 judge_values-requires c =
-    later-ready c.args.file c.requires.0.number c.args.text.now c.args.places.now c.read_text.new.1.1.0 c.read_text.new.1.1.1.0 c.read_text.result c.read_text.ensures c.requires.0.held.0 _ c.in-Sections.is c.args.b c.args.booking.now c.requires.0 (search rules)
+    later-ready c.args.file c.requires.0.number c.args.text.now c.args.places.now c.read_text.new.places c.read_text.new.lines c.read_text.result c.read_text.ensures c.requires.0.held.0 _ c.in-Sections.is c.args.b c.args.booking.now c.requires.0 (search rules)
 
 pub returns-in-Faulty : goal.returns-in-Faulty
 returns-in-Faulty c =
-    text-faulty c.args.file c.requires.0.number c.args.text.now c.args.places.now c.read_text.new.1.1.0 c.read_text.new.1.1.1.0 c.read_text.result c.read_text.ensures (λ own. new_values c.args.booking.now c.args.places.now) _ c.in-Faulty.is
+    text-faulty c.args.file c.requires.0.number c.args.text.now c.args.places.now c.read_text.new.places c.read_text.new.lines c.read_text.result c.read_text.ensures (λ own. new_values c.args.booking.now c.args.places.now) _ c.in-Faulty.is
 
 pub returns-in-Sections : goal.returns-in-Sections
 returns-in-Sections c =
-    later-judged c.args.file c.requires.0.number c.args.text.now c.args.places.now c.read_text.new.1.1.0 c.read_text.new.1.1.1.0 c.read_text.result c.read_text.ensures c.requires.0.held.0 _ c.in-Sections.is c.args.b c.args.booking.now c.requires.0 c.judge_values.result c.judge_values.ensures
+    later-judged c.args.file c.requires.0.number c.args.text.now c.args.places.now c.read_text.new.places c.read_text.new.lines c.read_text.result c.read_text.ensures c.requires.0.held.0 _ c.in-Sections.is c.args.b c.args.booking.now c.requires.0 c.judge_values.result c.judge_values.ensures
