@@ -16,12 +16,12 @@ loop-i-preserved c =
     (
       search rules,
       simp length-set (search rules),
-      rw c.loop-i.invariant.2 (put_next c.args.numbers.now c.clear.new.0 c.loop-i.i c.loop-i-test.true c.requires.few),
+      rw c.loop-i.invariant.2 (put_next c.args.numbers.now c.clear.new.places c.loop-i.i c.loop-i-test.true c.requires.few),
     )
 
 pub returns : goal.returns
 returns c =
     record {
       number = refl;
-      answer = c.loop-i.invariant.2 ∙ put_all c.args.numbers.now c.clear.new.0 c.loop-i.i c.loop-i-test.false ∙ rw c.clear.ensures refl;
+      answer = c.loop-i.invariant.2 ∙ put_all c.args.numbers.now c.clear.new.places c.loop-i.i c.loop-i-test.false ∙ rw c.clear.ensures refl;
     }

@@ -12,5 +12,5 @@ returns-then-asked-eq0 c = rw (eq-eqb _ 0 c.if-asked-eq0.true) c.fill_no_such.en
 pub returns : goal.returns
 returns c =
     let x = c.args in
-    let z : length x.t4 ≡ 12 = search rules in
-    rw (ne_eqb _ 0 c.if-asked-eq0.false, twelve x.t4 z) c.fill.ensures
+    let z : length x.why ≡ 12 = search rules in
+    rw (ne_eqb _ 0 c.if-asked-eq0.false, twelve x.why z) c.fill.ensures
