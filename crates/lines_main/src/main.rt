@@ -5,6 +5,8 @@
 ghost use Rattle.std.specs.Prelude.{◌≡◌, ◌+◌, ◌≤◌, min, length};
 
 use lines::{Cursor, LineRead};
+use std::io;
+use std::io::{BufWriter, Read, Write};
 
 // Where the next byte 00 from `at` on is, or the end.
 fn part_end(input: &[u8], at: usize) -> usize
@@ -32,48 +34,51 @@ fn after(input: &[u8], end: usize) -> usize
     }
 }
 
-fn print_number(n: usize) {
-    io::write_all(1, b" ");
-    io::print_decimal(1, n as u64);
+fn print_number(out: &mut impl Write, n: usize) -> io::Result<()> {
+    write!(out, " {n}")
 }
 
-fn print_heading(line: usize, start: usize, end: usize) {
-    io::write_all(1, b"heading");
-    print_number(line);
-    print_number(start);
-    print_number(end);
-    io::write_all(1, b"\n");
+fn print_heading(out: &mut impl Write, line: usize, start: usize, end: usize) -> io::Result<()> {
+    out.write_all(b"heading")?;
+    print_number(out, line)?;
+    print_number(out, start)?;
+    print_number(out, end)?;
+    out.write_all(b"\n")
 }
 
-fn print_entry(line: usize, start: usize, equals: usize, end: usize) {
-    io::write_all(1, b"entry");
-    print_number(line);
-    print_number(start);
-    print_number(equals);
-    print_number(end);
-    io::write_all(1, b"\n");
+fn print_entry(
+    out: &mut impl Write,
+    line: usize,
+    start: usize,
+    equals: usize,
+    end: usize,
+) -> io::Result<()> {
+    out.write_all(b"entry")?;
+    print_number(out, line)?;
+    print_number(out, start)?;
+    print_number(out, equals)?;
+    print_number(out, end)?;
+    out.write_all(b"\n")
 }
 
-fn print_bad(line: usize) {
-    io::write_all(1, b"bad");
-    print_number(line);
-    io::write_all(1, b"\n");
+fn print_bad(out: &mut impl Write, line: usize) -> io::Result<()> {
+    out.write_all(b"bad")?;
+    print_number(out, line)?;
+    out.write_all(b"\n")
 }
 
-fn show_text(text: &[u8]) {
+fn show_text(out: &mut impl Write, text: &[u8]) -> io::Result<()> {
     let mut c = Cursor::new();
     loop {
         match c.read_line(text) {
             LineRead::End => {
-                io::write_all(1, b"end\n");
-                return;
+                return out.write_all(b"end\n");
             }
             LineRead::Bad { line } => {
-                print_bad(line);
-                return;
+                return print_bad(out, line);
             }
             LineRead::Heading { start, end, next } => {
-                print_heading(next.line, start, end);
+                print_heading(out, next.line, start, end)?;
                 c = next;
             }
             LineRead::Entry {
@@ -82,29 +87,32 @@ fn show_text(text: &[u8]) {
                 end,
                 next,
             } => {
-                print_entry(next.line, start, equals, end);
+                print_entry(out, next.line, start, equals, end)?;
                 c = next;
             }
         }
     }
 }
 
-fn show_all(input: &[u8]) {
+fn show_all(out: &mut impl Write, input: &[u8]) -> io::Result<()> {
     let mut at = 0;
     while at < input.len() {
         let title = part_end(input, at);
-        io::write_all(1, b"-- ");
-        io::write_all(1, &input[at..title]);
-        io::write_all(1, b"\n");
+        out.write_all(b"-- ")?;
+        out.write_all(&input[at..title])?;
+        out.write_all(b"\n")?;
         let from = after(input, title);
         let end = part_end(input, from);
-        show_text(&input[from..end]);
+        show_text(out, &input[from..end])?;
         at = after(input, end);
     }
+    Ok(())
 }
 
-fn main() {
-    let mut input = io::large_buffer();
-    let n = io::read_full(0, &mut input);
-    show_all(&input[..n]);
+fn main(rt: HostRuntime) -> io::Result<()> {
+    let mut input = Vec::new(rt.alloc());
+    rt.stdin().read_to_end(&mut input)?;
+    let mut out = BufWriter::new(rt.alloc(), rt.stdout())?;
+    show_all(&mut out, input.as_slice())?;
+    out.flush()
 }
