@@ -2,77 +2,77 @@
 // written back with the verdict and, where the value has a meaning of its kind, what it reads as.
 #![tactic(auto)]
 
-ghost use Rattle.std.specs.Prelude.{◌≤◌, nat_abs, length};
+ghost use Rattle.std.specs.Prelude.{◌≡◌, ◌≤◌, nat_abs, length};
 
 use kinds::numbers::OUTCOMES;
 use kinds::{DriftRead, NumberRead, RevsRead};
+use std::io;
+use std::io::{BufWriter, Read, Write};
 
-fn show_number(read: NumberRead) {
+fn show_number(out: &mut impl Write, read: NumberRead) -> io::Result<()> {
     match read {
-        NumberRead::Of(n) => show_decimal(n),
-        NumberRead::Wrong => (),
+        NumberRead::Of(n) => show_decimal(out, n),
+        NumberRead::Wrong => Ok(()),
     }
 }
 
-fn show_decimal(n: u32) {
-    io::write_all(1, b" ");
-    io::print_decimal(1, n as u64);
+fn show_decimal(out: &mut impl Write, n: u32) -> io::Result<()> {
+    write!(out, " {n}")
 }
 
 fn magnitude(z: i32) -> u32
     requires { nat_abs z ≤ 9999 }
+    ensures { result ≡ nat_abs z }
 {
-    if z < 0 { (0 - z) as u32 } else { z as u32 }
+    z.unsigned_abs()
 }
 
-fn show_drift(value: &[u8]) {
+fn show_drift(out: &mut impl Write, value: &[u8]) -> io::Result<()> {
     match kinds::read_drift(value) {
         DriftRead::Of(z) => {
-            if z < 0 {
-                io::write_all(1, b" -");
-            } else {
-                io::write_all(1, b" ");
-            }
-            io::print_decimal(1, magnitude(z) as u64);
+            let sign = if z < 0 { "-" } else { "" };
+            let size = magnitude(z);
+            write!(out, " {sign}{size}")
         }
-        DriftRead::Wrong => (),
+        DriftRead::Wrong => Ok(()),
     }
 }
 
-fn show_revs(value: &[u8]) {
+fn show_revs(out: &mut impl Write, value: &[u8]) -> io::Result<()> {
     match kinds::read_revs(value) {
         RevsRead::Of(revs) => {
-            show_decimal(revs.number);
+            show_decimal(out, revs.number)?;
             if revs.byhand {
-                io::write_all(1, b" by hand");
+                out.write_all(b" by hand")?;
             }
+            Ok(())
         }
-        RevsRead::Wrong => (),
+        RevsRead::Wrong => Ok(()),
     }
 }
 
-fn show_word(list: u8, value: &[u8]) {
-    io::write_all(1, b" ");
-    io::print_decimal(1, kinds::word_index(list, value) as u64);
+fn show_word(out: &mut impl Write, list: u8, value: &[u8]) -> io::Result<()> {
+    let index = kinds::word_index(list, value);
+    write!(out, " {index}")
 }
 
-fn show_reading(kind: u8, value: &[u8]) {
+fn show_reading(out: &mut impl Write, kind: u8, value: &[u8]) -> io::Result<()> {
     match kind {
-        7..=10 => show_number(kinds::read_number(value)),
-        13 | 17 => show_number(kinds::read_day(value)),
-        15 => show_drift(value),
-        16 => show_revs(value),
-        20..=27 => show_word(kind - 20, value),
-        33 => show_word(OUTCOMES, value),
-        _ => (),
+        7..=10 => show_number(out, kinds::read_number(value)),
+        13 | 17 => show_number(out, kinds::read_day(value)),
+        15 => show_drift(out, value),
+        16 => show_revs(out, value),
+        20..=27 => show_word(out, kind - 20, value),
+        33 => show_word(out, OUTCOMES, value),
+        _ => Ok(()),
     }
 }
 
-fn show_verdict(kind: u8, value: &[u8]) {
+fn show_verdict(out: &mut impl Write, kind: u8, value: &[u8]) -> io::Result<()> {
     if kinds::kind_ok(kind, value) {
-        io::write_all(1, b": yes");
+        out.write_all(b": yes")
     } else {
-        io::write_all(1, b": no");
+        out.write_all(b": no")
     }
 }
 
@@ -91,38 +91,41 @@ fn place_of(text: &[u8], at: usize, b: u8) -> usize
     i
 }
 
-fn show_judged(kind: u32, value: &[u8]) {
+fn show_judged(out: &mut impl Write, kind: u32, value: &[u8]) -> io::Result<()> {
     if kind < 256 {
-        show_verdict(kind as u8, value);
-        show_reading(kind as u8, value);
+        show_verdict(out, kind as u8, value)?;
+        show_reading(out, kind as u8, value)
     } else {
-        io::write_all(1, b": no kind number");
+        out.write_all(b": no kind number")
     }
 }
 
-fn show_case(line: &[u8]) {
-    io::write_all(1, line);
+fn show_case(out: &mut impl Write, line: &[u8]) -> io::Result<()> {
+    out.write_all(line)?;
     let space = place_of(line, 0, b' ');
     if space < line.len() {
         match kinds::read_number(&line[..space]) {
-            NumberRead::Of(kind) => show_judged(kind, &line[space + 1..]),
+            NumberRead::Of(kind) => show_judged(out, kind, &line[space + 1..])?,
             NumberRead::Wrong => (),
         }
     }
-    io::write_all(1, b"\n");
+    out.write_all(b"\n")
 }
 
-fn show_cases(text: &[u8]) {
+fn show_cases(out: &mut impl Write, text: &[u8]) -> io::Result<()> {
     let mut at = 0;
     while at < text.len() {
         let end = place_of(text, at, b'\n');
-        show_case(&text[at..end]);
+        show_case(out, &text[at..end])?;
         at = end + 1;
     }
+    Ok(())
 }
 
-fn main() {
-    let mut buffer = io::large_buffer();
-    let n = io::read_full(0, &mut buffer);
-    show_cases(&buffer[..n]);
+fn main(rt: HostRuntime) -> io::Result<()> {
+    let mut input = Vec::new(rt.alloc());
+    rt.stdin().read_to_end(&mut input)?;
+    let mut out = BufWriter::new(rt.alloc(), rt.stdout())?;
+    show_cases(&mut out, input.as_slice())?;
+    out.flush()
 }
