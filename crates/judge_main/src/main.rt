@@ -3,9 +3,11 @@
 // and how many places are lent, and then the bytes of these nine. Each place holds 7 before.
 #![tactic(auto)]
 
-ghost use Rattle.std.specs.Prelude.{◌+◌, ◌*◌, ◌≤◌, ◌<◌, length};
+ghost use Rattle.std.specs.Prelude.{◌+◌, ◌*◌, ◌≤◌, ◌<◌, IfOk, length};
 
 use sets::{Acceptance, SetAnswer};
+use std::io;
+use std::io::{BufWriter, Read, Write};
 
 fn wide(x: u8) -> usize
     ensures { result < 256 }
@@ -25,57 +27,55 @@ fn number(input: &[u8], at: usize) -> usize
     a + b * 256 + c * 65536 + d * 16777216
 }
 
-fn print_number(n: u32) {
-    io::write_all(1, b" ");
-    io::print_decimal(1, n as u64);
+fn print_number(out: &mut impl Write, n: u32) -> io::Result<()> {
+    write!(out, " {n}")
 }
 
-fn print_mark(mark: bool) {
+fn print_mark(out: &mut impl Write, mark: bool) -> io::Result<()> {
     if mark {
-        io::write_all(1, b" 1");
+        out.write_all(b" 1")
     } else {
-        io::write_all(1, b" 0");
+        out.write_all(b" 0")
     }
 }
 
-fn print_accepted(a: Acceptance) {
-    io::write_all(1, b"A");
-    print_number(a.driftaxles);
-    print_number(a.suspensionaxles);
-    print_mark(a.driftmark);
-    print_mark(a.suspensionmark);
-    print_mark(a.gasmark);
-    print_mark(a.opacitymark);
-    print_mark(a.gasbyhand);
+fn print_accepted(out: &mut impl Write, a: Acceptance) -> io::Result<()> {
+    out.write_all(b"A")?;
+    print_number(out, a.driftaxles)?;
+    print_number(out, a.suspensionaxles)?;
+    print_mark(out, a.driftmark)?;
+    print_mark(out, a.suspensionmark)?;
+    print_mark(out, a.gasmark)?;
+    print_mark(out, a.opacitymark)?;
+    print_mark(out, a.gasbyhand)
 }
 
-fn print_refused(x: refusals::Refusal) {
+fn print_refused(out: &mut impl Write, x: refusals::Refusal) -> io::Result<()> {
     let kind = x.kind;
-    io::write_all(1, b"R");
-    print_number(refusals::refusal_number(kind));
-    print_number(x.file);
-    print_number(x.line);
+    out.write_all(b"R")?;
+    print_number(out, refusals::refusal_number(kind))?;
+    print_number(out, x.file)?;
+    print_number(out, x.line)
 }
 
-fn print_places(places: &[u32]) {
-    io::write_all(1, b" |");
-    let mut i = 0;
-    while i < places.len() {
-        print_number(places[i]);
-        i += 1;
+fn print_places(out: &mut impl Write, places: &[u32]) -> io::Result<()> {
+    out.write_all(b" |")?;
+    for place in places {
+        print_number(out, *place)?;
     }
-    io::write_all(1, b"\n");
+    out.write_all(b"\n")
 }
 
-fn print_answer(answer: SetAnswer) {
+fn print_answer(out: &mut impl Write, answer: SetAnswer) -> io::Result<()> {
     match answer {
-        SetAnswer::Accepted(a) => print_accepted(a),
-        SetAnswer::Refused(x) => print_refused(x),
+        SetAnswer::Accepted(a) => print_accepted(out, a),
+        SetAnswer::Refused(x) => print_refused(out, x),
     }
 }
 
 // The set whose stem is the first `stem` bytes, its first slice the next ones up to `ac2`, and so on.
 fn judge_lent(
+    out: &mut impl Write,
     parts: &[u8],
     stem: usize,
     ac2: usize,
@@ -85,7 +85,7 @@ fn judge_lent(
     gas: usize,
     identification: usize,
     places: &mut [u32],
-)
+) -> io::Result<()>
     requires { (stem ≤ ac2) × (ac2 ≤ acc) × (acc ≤ drift) × (drift ≤ suspension) × (suspension ≤ gas)
         × (gas ≤ identification) × (identification ≤ length parts.now) }
 {
@@ -100,8 +100,8 @@ fn judge_lent(
         &parts[identification..],
         places,
     );
-    print_answer(answer);
-    print_places(places);
+    print_answer(out, answer)?;
+    print_places(out, places)
 }
 
 // How many places are lent: n, and at most 400.
@@ -112,6 +112,7 @@ fn lent(n: usize) -> usize
 }
 
 fn judge_parts(
+    out: &mut impl Write,
     parts: &[u8],
     stem: usize,
     ac2: usize,
@@ -121,13 +122,14 @@ fn judge_parts(
     gas: usize,
     identification: usize,
     places: usize,
-)
+) -> io::Result<()>
     requires { (stem ≤ ac2) × (ac2 ≤ acc) × (acc ≤ drift) × (drift ≤ suspension) × (suspension ≤ gas)
         × (gas ≤ identification) × (identification ≤ length parts.now) }
 {
     let mut numbers = [7u32; 400];
     let n = lent(places);
     judge_lent(
+        out,
         parts,
         stem,
         ac2,
@@ -137,21 +139,21 @@ fn judge_parts(
         gas,
         identification,
         &mut numbers[..n],
-    );
+    )
 }
 
-fn print_title(title: &[u8]) {
-    io::write_all(1, title);
-    io::write_all(1, b": ");
+fn print_title(out: &mut impl Write, title: &[u8]) -> io::Result<()> {
+    out.write_all(title)?;
+    out.write_all(b": ")
 }
 
 // One set from `at` on; the place after it, or the end where the input is broken off.
-fn judge_case(input: &[u8], at: usize) -> usize
+fn judge_case(out: &mut impl Write, input: &[u8], at: usize) -> io::Result<usize>
     requires { at < length input.now }
-    ensures { (at < result) × (result ≤ length input.now) }
+    ensures { IfOk result (λ next. (at < next) × (next ≤ length input.now)) }
 {
     if input.len() - at < 40 {
-        return input.len();
+        return Ok(input.len());
     }
     let title = at + 40;
     let from = title + number(input, at);
@@ -164,10 +166,11 @@ fn judge_case(input: &[u8], at: usize) -> usize
     let identification = gas + number(input, at + 28);
     let end = from + identification + number(input, at + 32);
     if input.len() < end {
-        return input.len();
+        return Ok(input.len());
     }
-    print_title(&input[title..from]);
+    print_title(out, &input[title..from])?;
     judge_parts(
+        out,
         &input[from..end],
         stem,
         ac2,
@@ -177,19 +180,22 @@ fn judge_case(input: &[u8], at: usize) -> usize
         gas,
         identification,
         number(input, at + 36),
-    );
-    end
+    )?;
+    Ok(end)
 }
 
-fn judge_all(input: &[u8]) {
+fn judge_all(out: &mut impl Write, input: &[u8]) -> io::Result<()> {
     let mut at = 0;
     while at < input.len() {
-        at = judge_case(input, at);
+        at = judge_case(out, input, at)?;
     }
+    Ok(())
 }
 
-fn main() {
-    let mut input = [0u8; 524288];
-    let n = io::read_full(0, &mut input);
-    judge_all(&input[..n]);
+fn main(rt: HostRuntime) -> io::Result<()> {
+    let mut input = Vec::new(rt.alloc());
+    rt.stdin().read_to_end(&mut input)?;
+    let mut out = BufWriter::new(rt.alloc(), rt.stdout())?;
+    judge_all(&mut out, input.as_slice())?;
+    out.flush()
 }
