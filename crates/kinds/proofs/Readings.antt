@@ -18,7 +18,6 @@ use Rattle.kinds.specs.Value.{is_number, is_fixed, point_place, is_year, is_greg
 use Rattle.kinds.specs.Meaning.{number_read, hundredths, signed, drift, drift_read, revs, revs_read, day_number, day_read}
 use Rattle.kinds.specs.declared.NumberRead.TheVariants as NumberRead
 use Rattle.kinds.specs.declared.DriftRead.{DriftRead}
-use Rattle.kinds.specs.declared.DriftRead.TheVariants as DriftRead
 use Rattle.kinds.specs.declared.RevsRead.TheVariants as RevsRead
 use Rattle.kinds.proofs.Laws.{digit, digit_at, part-digits, digits-length, digits-all, digits-drop, same_number, FixedPoint, fixed-point, number-long, number_short, number-all, by-test}
 

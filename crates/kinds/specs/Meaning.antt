@@ -3,12 +3,9 @@ use Rattle.std.specs.Prelude.{ℕ, ◌+◌, ◌*◌, Bool, true, false, cond, Li
 use Rattle.kinds.specs.Digits.{number}
 use Rattle.kinds.specs.Value.{is_number, is_fixed, is_drift, bare, is_first_day, point_place, starts_with, day_of, month_of, year_of}
 use Rattle.kinds.specs.declared.NumberRead.{NumberRead}
-use Rattle.kinds.specs.declared.NumberRead.TheVariants as NumberRead
 use Rattle.kinds.specs.declared.DriftRead.{DriftRead}
-use Rattle.kinds.specs.declared.DriftRead.TheVariants as DriftRead
 use Rattle.kinds.specs.declared.Revs.{Revs}
 use Rattle.kinds.specs.declared.RevsRead.{RevsRead}
-use Rattle.kinds.specs.declared.RevsRead.TheVariants as RevsRead
 
 -- a number of at most nine digits: no kind has more
 unfoldable pub number_read : List ℕ → NumberRead

@@ -1,5 +1,4 @@
 -- Lines that are a table's values in any order fill its rows with these values. Assumes nothing.
-use Prim.Native.Nat.{◌+◌}
 use mathlib.Core.Path.{◌≡◌, refl, ap, ap₂, sym, ◌∙◌}
 use mathlib.Core.Option.{Option, none, some}
 use mathlib.Core.List.Permᴰ

@@ -1,9 +1,7 @@
 -- `kinds::all_digits` meets its contract: what the definition says of the whole, it says from `i` on. Assumes nothing.
-use mathlib.Core.Path.{◌≡◌, sym, ◌∙◌}
-use Prim.Native.Nat.{◌-◌, ◌≤◌}
+use mathlib.Core.Path.{sym, ◌∙◌}
 use borrow.Author.Rules.{rules}
-use borrow.Author.Tests.{not-true, not-false}
-use lib.ListN.{length, drop, drop_of_length-le}
+use lib.ListN.{drop_of_length-le}
 use Rattle.kinds.specs.Digits.{all_digits}
 use Rattle.kinds.proofs.Laws.{all-step}
 use Rattle.kinds.proofs.all_digits.Goals as goal

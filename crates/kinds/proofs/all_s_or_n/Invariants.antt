@@ -1,10 +1,7 @@
-use mathlib.Core.Path.{◌≡◌, sym, ◌∙◌}
+use mathlib.Core.Path.{◌≡◌}
 use Prim.Native.Nat.{◌-◌, ◌≤◌}
-use borrow.Author.Rules.{rules}
-use borrow.Author.Tests.{not-true, not-false}
-use lib.ListN.{length, drop, drop_of_length-le}
+use lib.ListN.{length, drop}
 use Rattle.kinds.specs.Value.{all_s_or_n}
-use Rattle.kinds.proofs.Laws.{letters-step}
 use Rattle.kinds.proofs.all_s_or_n.Given as goal
 
 abbrev pub invariant-loop-i : goal.invariant-loop-i

@@ -1,5 +1,4 @@
 -- `kinds::are_digits` meets its contract: the tests of the definition, in its order. Assumes nothing.
-use borrow.Author.Rules.{rules}
 use borrow.Author.Tests.{eq-eqb, ne_eqb}
 use Rattle.kinds.specs.Value.{are_digits}
 use Rattle.kinds.proofs.are_digits.Goals as goal

@@ -1,5 +1,4 @@
 -- `kinds::day_number` meets its contract: the three numbers are bounded, so the sum fits. Assumes nothing.
-use borrow.Author.Rules.{rules}
 use lib.Dec.{lit≤}
 use Rattle.kinds.specs.Meaning.{day_number}
 use Rattle.kinds.proofs.Laws.{part-inside}

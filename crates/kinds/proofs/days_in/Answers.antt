@@ -1,6 +1,5 @@
 -- `kinds::days_in` meets its contract: each arm is one case of the definition. Assumes nothing.
 use mathlib.Core.Path.{sym, ◌∙◌}
-use borrow.Author.Rules.{rules}
 use borrow.Author.Tests.{ne_eqb}
 use Rattle.lines.proofs.Bools.{tests}
 use mathlib.Core.Logic.{inl, inr, ⊎_elim}

@@ -2,7 +2,6 @@
 use mathlib.Core.List.{List}
 use Prim.Native.Nat.{ℕ, ◌+◌, ◌<◌}
 use native.Mathlib.Omega.{arith}
-use borrow.Author.Rules.{rules}
 use lib.ListN.{take, drop, length-take, length-drop}
 use Rattle.kinds.specs.Value.{point_place}
 use Rattle.kinds.specs.Meaning.{hundredths}

@@ -1,5 +1,5 @@
 -- `kinds::is_brake_control_at` meets its contract: each arm is the word at that place, and past the last there is none. Assumes nothing.
-use mathlib.Core.Path.{refl, sym}
+use mathlib.Core.Path.{sym}
 use Rattle.kinds.specs.Kind.{words, brake_controls}
 use Rattle.kinds.specs.Value.{is_word_at}
 use Rattle.kinds.proofs.Laws.{word_at, no_word, past}

@@ -1,5 +1,4 @@
 -- `kinds::is_by_hand` meets its contract. Assumes nothing.
-use borrow.Author.Rules.{rules}
 use Rattle.kinds.specs.Meaning.{revs}
 use Rattle.kinds.proofs.is_by_hand.Goals as goal
 

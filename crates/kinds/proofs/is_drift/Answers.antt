@@ -2,7 +2,6 @@
 use mathlib.Core.Path.{ap, sym, ◌∙◌}
 use Prim.Native.Nat.{◌≤◌}
 use native.Mathlib.Omega.{arith}
-use borrow.Author.Rules.{rules}
 use lib.ListN.{length}
 use Rattle.kinds.specs.Value.{is_drift, is_fixed}
 use Rattle.kinds.proofs.Laws.{tail_all, starts-long}

@@ -1,8 +1,6 @@
 -- `kinds::is_first_date` meets its contract: each branch is one case of the definition. Assumes nothing.
 use mathlib.Core.Path.{◌≡◌, sym, ◌∙◌}
 use mathlib.Core.Bool.{true}
-use borrow.Author.Rules.{rules}
-use borrow.Author.Tests.{not-true, not-false}
 use Rattle.lines.proofs.Bools.{tests}
 use Rattle.kinds.specs.Value.{is_first_date, is_year}
 use Rattle.kinds.proofs.is_first_date.Lts as lts

@@ -1,8 +1,6 @@
 -- `kinds::is_first_day` meets its contract: eight digits, and the definition on their three numbers. Assumes nothing.
 use mathlib.Core.Path.{◌≡◌, sym, ◌∙◌}
 use mathlib.Core.Bool.{true}
-use borrow.Author.Rules.{rules}
-use borrow.Author.Tests.{not-true, not-false}
 use lib.Dec.{lit≤}
 use Rattle.kinds.specs.Value.{is_first_day, are_digits}
 use Rattle.kinds.proofs.Laws.{part-inside}

@@ -2,8 +2,6 @@
 use mathlib.Core.Path.{ap, sym, ◌∙◌}
 use Prim.Native.Nat.{◌+◌}
 use native.Mathlib.Omega.{arith}
-use borrow.Author.Rules.{rules}
-use borrow.Author.Tests.{not-true, not-false}
 use lib.ListN.{length-take}
 use Rattle.lines.proofs.Bools.{tests}
 use Rattle.kinds.specs.Value.{is_fixed, point_place}

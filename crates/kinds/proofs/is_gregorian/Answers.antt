@@ -1,8 +1,6 @@
 -- `kinds::is_gregorian` meets its contract: the range pattern and the comparisons are the tests of the definition. Assumes nothing.
 use mathlib.Core.Path.{◌≡◌, sym, ◌∙◌}
 use mathlib.Core.Bool.{true}
-use borrow.Author.Rules.{rules}
-use borrow.Author.Tests.{not-true, not-false}
 use Rattle.lines.proofs.Bools.{tests}
 use Rattle.kinds.specs.Value.{is_gregorian, is_year}
 use Rattle.kinds.proofs.is_gregorian.Lts as lts

@@ -1,5 +1,4 @@
 -- `kinds::is_number` meets its contract: the tests of the definition, in its order. Assumes nothing.
-use borrow.Author.Rules.{rules}
 use Rattle.lines.proofs.Bools.{tests}
 use Rattle.kinds.specs.Value.{is_number}
 use Rattle.kinds.proofs.is_number.Goals as goal

@@ -1,7 +1,6 @@
 -- `kinds::is_other` meets its contract: each arm is the definition of the kind at that place, and past the last there is none.
 -- Assumes nothing.
 use mathlib.Core.Path.{ap, sym, ◌∙◌}
-use borrow.Author.Rules.{rules}
 use Rattle.kinds.specs.Kind.{kind_of, numbered}
 use Rattle.kinds.specs.Value.{is_number, is_fixed, is_temperature, kind_ok, words_of, numbered_lists}
 use Rattle.kinds.proofs.Laws.{kind_at, no_kind, past_after}

@@ -1,5 +1,4 @@
 -- `kinds::is_plate` meets its contract: the tests of the definition, in its order. Assumes nothing.
-use borrow.Author.Rules.{rules}
 use borrow.Author.Tests.{le-leb, lt-leb}
 use Rattle.kinds.specs.Kind.{kind_of, numbered}
 use Rattle.kinds.specs.Value.{is_plate, kind_ok}

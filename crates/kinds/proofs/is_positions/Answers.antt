@@ -1,5 +1,4 @@
 -- `kinds::is_positions` meets its contract: the tests of the definition, in its order. Assumes nothing.
-use borrow.Author.Rules.{rules}
 use borrow.Author.Tests.{eq-eqb, ne_eqb}
 use Rattle.kinds.specs.Value.{is_positions}
 use Rattle.kinds.proofs.is_positions.Goals as goal

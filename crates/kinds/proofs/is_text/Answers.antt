@@ -1,6 +1,4 @@
 -- `kinds::is_text` meets its contract: empty, not printable, or only the length is left. Assumes nothing.
-use borrow.Author.Rules.{rules}
-use borrow.Author.Tests.{not-true, not-false}
 use mathlib.Core.Path.{sym, ◌∙◌}
 use Rattle.kinds.proofs.Laws.{text-empty, text-unprintable}
 use Rattle.kinds.proofs.is_text.Goals as goal

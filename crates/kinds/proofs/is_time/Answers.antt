@@ -1,8 +1,6 @@
 -- `kinds::is_time` meets its contract: six digits, and the definition on their three numbers. Assumes nothing.
 use mathlib.Core.Path.{◌≡◌, sym, ◌∙◌}
 use mathlib.Core.Bool.{true}
-use borrow.Author.Rules.{rules}
-use borrow.Author.Tests.{not-true, not-false}
 use Rattle.lines.proofs.Bools.{tests}
 use lib.Dec.{lit≤}
 use Rattle.kinds.specs.Value.{is_time, are_digits}

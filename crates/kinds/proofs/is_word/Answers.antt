@@ -1,5 +1,4 @@
 -- `kinds::is_word` meets its contract: the definition, from the contracts of its two calls. Assumes nothing.
-use borrow.Author.Rules.{rules}
 use Rattle.kinds.specs.Value.{is_word}
 use Rattle.kinds.proofs.is_word.Goals as goal
 

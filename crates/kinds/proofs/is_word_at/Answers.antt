@@ -1,5 +1,4 @@
 -- `kinds::is_word_at` meets its contract: each arm is the list at that place, and past the last there is no word. Assumes nothing.
-use borrow.Author.Rules.{rules}
 use Rattle.kinds.specs.Value.{words_of, numbered_lists, is_word_at}
 use Rattle.kinds.proofs.Laws.{list_at, no-list, past}
 use Rattle.kinds.proofs.is_word_at.Goals as goal

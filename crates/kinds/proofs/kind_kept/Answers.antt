@@ -1,5 +1,4 @@
 -- `kinds::kind_kept` meets its contract: the tests of the definition, in its order. Assumes nothing.
-use borrow.Author.Rules.{rules}
 use borrow.Author.Tests.{eq-eqb, ne_eqb}
 use Rattle.kinds.specs.Value.{kind_kept}
 use Rattle.kinds.proofs.kind_kept.Goals as goal

@@ -1,11 +1,10 @@
 -- `kinds::number` meets its contract: the number of the whole is that of the rest after the digits read, which stays below ten to their count. Assumes nothing.
 use mathlib.Core.Path.{◌≡◌, sym, ◌∙◌}
-use mathlib.Core.Bool.{true}
-use Prim.Native.Nat.{◌-◌, ◌^◌, ◌<◌, ◌≤◌}
+use Prim.Native.Nat.{◌≤◌}
 use native.Mathlib.Omega.{arith}
 use borrow.Author.Rules.{rules}
-use lib.ListN.{length, get_or, drop, drop_of_length-le}
-use Rattle.kinds.specs.Digits.{all_digits, number_from}
+use lib.ListN.{length, get_or, drop_of_length-le}
+use Rattle.kinds.specs.Digits.{number_from}
 use Rattle.kinds.proofs.Laws.{number_step, digit_at, rest_at, grows, small}
 use Rattle.kinds.proofs.number.Lts as lts
 use Rattle.kinds.proofs.number.Tie as tie

@@ -1,11 +1,8 @@
-use mathlib.Core.Path.{◌≡◌, sym, ◌∙◌}
+use mathlib.Core.Path.{◌≡◌}
 use mathlib.Core.Bool.{true}
 use Prim.Native.Nat.{◌-◌, ◌^◌, ◌<◌, ◌≤◌}
-use native.Mathlib.Omega.{arith}
-use borrow.Author.Rules.{rules}
-use lib.ListN.{length, get_or, drop, drop_of_length-le}
+use lib.ListN.{length, drop}
 use Rattle.kinds.specs.Digits.{all_digits, number_from}
-use Rattle.kinds.proofs.Laws.{number_step, digit_at, rest_at, grows, small}
 use Rattle.kinds.proofs.number.Given as goal
 
 abbrev pub invariant-loop-i : goal.invariant-loop-i

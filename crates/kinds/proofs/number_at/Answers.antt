@@ -1,6 +1,5 @@
 -- `kinds::number_at` meets its contract: a part of digits is digits, and its count bounds the number. Assumes nothing.
 use native.Mathlib.Omega.{arith}
-use borrow.Author.Rules.{rules}
 use lib.ListN.{take, drop, length-take}
 use native.Mathlib.Nat.{add-sub_cancel_left}
 use Rattle.kinds.proofs.Laws.{part-digits, below}

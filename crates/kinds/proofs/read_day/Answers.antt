@@ -1,8 +1,6 @@
 -- `kinds::read_day` meets its contract: a day that passes is eight digits, which `day_number` reads. Assumes nothing.
 use mathlib.Core.Path.{◌≡◌, ap, sym, ◌∙◌}
 use mathlib.Core.Bool.{true}
-use borrow.Author.Rules.{rules}
-use borrow.Author.Tests.{not-true, not-false}
 use Rattle.lines.proofs.Bools.{and_left}
 use Rattle.kinds.specs.Value.{is_first_day}
 use Rattle.kinds.specs.Meaning.{day_read}

@@ -1,7 +1,6 @@
 -- `kinds::read_number` meets its contract: nine digits or fewer fit, and are read as the number that they spell. Assumes nothing.
 use mathlib.Core.Path.{◌≡◌, ap, sym, ◌∙◌}
 use mathlib.Core.Bool.{true}
-use borrow.Author.Rules.{rules}
 use Rattle.kinds.specs.Value.{is_number}
 use Rattle.kinds.specs.Meaning.{number_read}
 use Rattle.kinds.specs.declared.NumberRead.TheVariants as NumberRead

@@ -1,7 +1,7 @@
 -- `kinds::read_signed` meets its contract: what passes the test is read by `hundredths` and `signed`. Assumes nothing.
 use mathlib.Core.Path.{◌≡◌, ap, sym, ◌∙◌}
 use mathlib.Core.Bool.{true}
-use borrow.Author.Rules.{rules, sfits_of}
+use borrow.Author.Rules.{sfits_of}
 use mir.Syntax.{w32}
 use mir.Facts.{to_z-of_z}
 use Rattle.kinds.specs.Value.{is_fixed}

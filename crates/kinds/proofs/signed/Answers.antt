@@ -6,7 +6,6 @@ use mir.Syntax.{w32}
 use mir.Val.{SFits}
 use mir.Facts.{to_z_pos, to_z-of_z}
 use Rattle.kinds.specs.Meaning.{signed}
-use borrow.Author.Rules.{rules}
 use Rattle.kinds.proofs.signed.Goals as goal
 
 small-neg : (n : ℕ) → n < 10000 → SFits w32 (neg_ℤ (pos n))

@@ -1,5 +1,4 @@
 -- `kinds::starts_with` meets its contract: the tests of the definition, in its order. Assumes nothing.
-use borrow.Author.Rules.{rules}
 use Rattle.lines.proofs.Bools.{tests}
 use Rattle.kinds.specs.Value.{starts_with}
 use Rattle.kinds.proofs.starts_with.Goals as goal

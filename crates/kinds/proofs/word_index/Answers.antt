@@ -1,10 +1,10 @@
 -- `kinds::word_index` meets its contract: the index in the whole list is `k` plus that in the words from `k` on. Assumes nothing.
 use mathlib.Core.Path.{◌≡◌, sym, ◌∙◌}
-use Prim.Native.Nat.{◌+◌, ◌-◌, ◌≤◌, zero-le}
+use Prim.Native.Nat.{◌+◌, zero-le}
 use native.Mathlib.Omega.{arith}
 use native.Mathlib.Nat.{zero-add}
 use borrow.Author.Rules.{rules}
-use lib.ListN.{length, drop}
+use lib.ListN.{drop}
 use Rattle.kinds.specs.Value.{word_index, words_of}
 use Rattle.kinds.proofs.Laws.{index-here, index-later, index-end}
 use Rattle.kinds.proofs.word_index.Lts as lts
@@ -23,12 +23,11 @@ returns-then-is_word_at c =
     sym (step c.before.before.before.before ∙ index-here (words_of c.args.list) c.loop-k.k c.args.value.now (omega arith) (sym c.is_word_at.ensures ∙ c.if-is_word_at.true))
 
 pub loop-k-preserved : goal.loop-k-preserved
-loop-k-preserved c =
-    (
-      search rules,
-      c.loop-k.invariant.1,
-      step c.before.before.before.before ∙ index-later (words_of c.args.list) c.loop-k.k c.args.value.now (omega arith) (sym c.is_word_at.ensures ∙ c.if-is_word_at.false),
-    )
+loop-k-preserved c = (
+  search rules,
+  c.loop-k.invariant.1,
+  step c.before.before.before.before ∙ index-later (words_of c.args.list) c.loop-k.k c.args.value.now (omega arith) (sym c.is_word_at.ensures ∙ c.if-is_word_at.false),
+)
 
 pub returns : goal.returns
 returns c =

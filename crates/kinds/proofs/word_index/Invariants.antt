@@ -1,11 +1,7 @@
-use mathlib.Core.Path.{◌≡◌, sym, ◌∙◌}
-use Prim.Native.Nat.{◌+◌, ◌-◌, ◌≤◌, zero-le}
-use native.Mathlib.Omega.{arith}
-use native.Mathlib.Nat.{zero-add}
-use borrow.Author.Rules.{rules}
+use mathlib.Core.Path.{◌≡◌}
+use Prim.Native.Nat.{◌+◌, ◌-◌, ◌≤◌}
 use lib.ListN.{length, drop}
 use Rattle.kinds.specs.Value.{word_index, words_of}
-use Rattle.kinds.proofs.Laws.{index-here, index-later, index-end}
 use Rattle.kinds.proofs.word_index.Given as goal
 
 abbrev pub invariant-loop-k : goal.invariant-loop-k

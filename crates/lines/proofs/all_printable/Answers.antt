@@ -1,5 +1,4 @@
 -- `lines::all_printable` meets its contract: the printable bytes end where the part does. Assumes nothing.
-use borrow.Author.Rules.{rules}
 use Prim.Native.Nat.{ℕ}
 use native.Mathlib.Nat.{zero-add}
 use mathlib.Core.Path.{ap, ◌∙◌}

@@ -1,10 +1,6 @@
 -- `lines::equal` meets its contract: what the definition says of the whole, it says from `i` on. Assumes nothing.
-use borrow.Author.Rules.{rules}
-use Prim.Native.Nat.{◌-◌, ◌≤◌}
 use native.Mathlib.Omega.{arith}
-use mathlib.Core.Path.{◌≡◌, sym, ◌∙◌}
-use lib.ListN.{length, drop}
-use Rattle.lines.specs.Bytes.{same_bytes}
+use mathlib.Core.Path.{sym, ◌∙◌}
 use Rattle.lines.proofs.Bytes.{same_length}
 use Rattle.lines.proofs.Words.{words_same, words-differ}
 use Rattle.lines.proofs.equal.Goals as goal

@@ -1,11 +1,7 @@
-use borrow.Author.Rules.{rules}
 use Prim.Native.Nat.{◌-◌, ◌≤◌}
-use native.Mathlib.Omega.{arith}
-use mathlib.Core.Path.{◌≡◌, sym, ◌∙◌}
+use mathlib.Core.Path.{◌≡◌}
 use lib.ListN.{length, drop}
 use Rattle.lines.specs.Bytes.{same_bytes}
-use Rattle.lines.proofs.Bytes.{same_length}
-use Rattle.lines.proofs.Words.{words_same, words-differ}
 use Rattle.lines.proofs.equal.Given as goal
 
 abbrev pub invariant-loop-i : goal.invariant-loop-i

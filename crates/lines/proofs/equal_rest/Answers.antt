@@ -1,10 +1,6 @@
 -- `lines::equal_rest` meets its contract: what the definition says from `at` on, it says from `i` on. Assumes nothing.
-use Prim.Native.Nat.{◌-◌, ◌≤◌}
 use native.Mathlib.Omega.{arith}
-use borrow.Author.Rules.{rules}
-use mathlib.Core.Path.{◌≡◌, sym, ◌∙◌}
-use lib.ListN.{length, drop}
-use Rattle.lines.specs.Bytes.{same_bytes}
+use mathlib.Core.Path.{sym, ◌∙◌}
 use Rattle.lines.proofs.Loops.{same_more, same_stop, same_end}
 use Rattle.lines.proofs.equal_rest.Goals as goal
 

@@ -1,10 +1,7 @@
 use Prim.Native.Nat.{◌-◌, ◌≤◌}
-use native.Mathlib.Omega.{arith}
-use borrow.Author.Rules.{rules}
-use mathlib.Core.Path.{◌≡◌, sym, ◌∙◌}
+use mathlib.Core.Path.{◌≡◌}
 use lib.ListN.{length, drop}
 use Rattle.lines.specs.Bytes.{same_bytes}
-use Rattle.lines.proofs.Loops.{same_more, same_stop, same_end}
 use Rattle.lines.proofs.equal_rest.Given as goal
 
 abbrev pub invariant-loop-i : goal.invariant-loop-i

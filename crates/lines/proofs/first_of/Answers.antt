@@ -1,5 +1,4 @@
 -- `lines::first_of` meets its contract: what it does with the number, it does with each byte. Assumes nothing.
-use borrow.Author.Rules.{rules}
 use native.Mathlib.Omega.{arith}
 use Prim.Native.Nat.{ℕ, ◌*◌, ◌/◌}
 use mathlib.Core.Path.{ap, sym, ◌∙◌}

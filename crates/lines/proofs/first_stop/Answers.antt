@@ -1,5 +1,4 @@
 -- `lines::first_stop` meets its contract: a number of 64 bits has at most 64 zeros. Assumes nothing.
-use borrow.Author.Rules.{rules}
 use native.Mathlib.Omega.{arith}
 use lib.Count.{trailing_le}
 use Rattle.lines.proofs.first_stop.Goals as goal

@@ -1,5 +1,4 @@
 -- `lines::is_line` meets its contract: the definition's tests are the code's, in its order. Assumes nothing.
-use borrow.Author.Rules.{rules}
 use Rattle.lines.specs.Reading.{is_line}
 use Rattle.lines.proofs.Bools.{tests}
 use Rattle.lines.proofs.Reading.{line-short, line-no-cr, line_second}

@@ -1,5 +1,4 @@
 -- `lines::lacks` meets its contract: what it does with the number, it does with each byte. Assumes nothing.
-use borrow.Author.Rules.{rules}
 use native.Mathlib.Omega.{arith}
 use Prim.Native.Nat.{ℕ, ◌*◌}
 use lib.ListN.{get_or}

@@ -1,10 +1,6 @@
 -- `lines::name_rest` meets its contract: what the definition says from `at` on, it says from `i` on. Assumes nothing.
-use borrow.Author.Rules.{rules}
-use Prim.Native.Nat.{◌+◌, ◌-◌, ◌≤◌}
 use native.Mathlib.Omega.{arith}
-use mathlib.Core.Path.{◌≡◌, sym, ◌∙◌}
-use lib.ListN.{length, drop}
-use Rattle.lines.specs.Bytes.{name_run}
+use mathlib.Core.Path.{sym, ◌∙◌}
 use Rattle.lines.proofs.Loops.{printable-yes, printable-low, printable-high, name-equals, name-stop, name-more, name-stops}
 use Rattle.lines.proofs.name_rest.Goals as goal
 

@@ -1,10 +1,7 @@
-use borrow.Author.Rules.{rules}
 use Prim.Native.Nat.{◌+◌, ◌-◌, ◌≤◌}
-use native.Mathlib.Omega.{arith}
-use mathlib.Core.Path.{◌≡◌, sym, ◌∙◌}
+use mathlib.Core.Path.{◌≡◌}
 use lib.ListN.{length, drop}
 use Rattle.lines.specs.Bytes.{name_run}
-use Rattle.lines.proofs.Loops.{printable-yes, printable-low, printable-high, name-equals, name-stop, name-more, name-stops}
 use Rattle.lines.proofs.name_rest.Given as goal
 
 abbrev pub invariant-loop-i : goal.invariant-loop-i

@@ -1,11 +1,8 @@
 -- `lines::printable_end` meets its contract: what the definition says from `at` on, it says from `i` on. Assumes nothing.
-use borrow.Author.Rules.{rules}
-use Prim.Native.Nat.{ℕ, ◌+◌, ◌-◌, ◌/◌, ◌≤◌}
+use Prim.Native.Nat.{ℕ, ◌+◌, ◌/◌}
 use native.Mathlib.Omega.{arith}
-use mathlib.Core.Path.{◌≡◌, sym, ap, ◌∙◌}
-use lib.ListN.{length, drop}
+use mathlib.Core.Path.{sym, ap, ◌∙◌}
 use lib.Count.{count_trailing_zeros, trailing_le}
-use Rattle.lines.specs.Bytes.{printable_run}
 use Rattle.lines.proofs.Words.{printable-passed, printable-found}
 use Rattle.lines.proofs.printable_end.Goals as goal
 

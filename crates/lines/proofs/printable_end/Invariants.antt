@@ -1,11 +1,7 @@
-use borrow.Author.Rules.{rules}
-use Prim.Native.Nat.{ℕ, ◌+◌, ◌-◌, ◌/◌, ◌≤◌}
-use native.Mathlib.Omega.{arith}
-use mathlib.Core.Path.{◌≡◌, sym, ap, ◌∙◌}
+use Prim.Native.Nat.{◌+◌, ◌-◌, ◌≤◌}
+use mathlib.Core.Path.{◌≡◌}
 use lib.ListN.{length, drop}
-use lib.Count.{count_trailing_zeros, trailing_le}
 use Rattle.lines.specs.Bytes.{printable_run}
-use Rattle.lines.proofs.Words.{printable-passed, printable-found}
 use Rattle.lines.proofs.printable_end.Given as goal
 
 abbrev pub invariant-loop-i : goal.invariant-loop-i

@@ -1,10 +1,6 @@
 -- `lines::printable_rest` meets its contract: what the definition says from `at` on, it says from `i` on. Assumes nothing.
-use Prim.Native.Nat.{◌+◌, ◌-◌, ◌≤◌}
 use native.Mathlib.Omega.{arith}
-use borrow.Author.Rules.{rules}
-use mathlib.Core.Path.{◌≡◌, sym, ◌∙◌}
-use lib.ListN.{length, drop}
-use Rattle.lines.specs.Bytes.{printable_run}
+use mathlib.Core.Path.{sym, ◌∙◌}
 use Rattle.lines.proofs.Loops.{printable-yes, printable-low, printable-high, run_more, run-stop, run_end}
 use Rattle.lines.proofs.printable_rest.Goals as goal
 

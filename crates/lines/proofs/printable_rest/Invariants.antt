@@ -1,10 +1,7 @@
 use Prim.Native.Nat.{◌+◌, ◌-◌, ◌≤◌}
-use native.Mathlib.Omega.{arith}
-use borrow.Author.Rules.{rules}
-use mathlib.Core.Path.{◌≡◌, sym, ◌∙◌}
+use mathlib.Core.Path.{◌≡◌}
 use lib.ListN.{length, drop}
 use Rattle.lines.specs.Bytes.{printable_run}
-use Rattle.lines.proofs.Loops.{printable-yes, printable-low, printable-high, run_more, run-stop, run_end}
 use Rattle.lines.proofs.printable_rest.Given as goal
 
 abbrev pub invariant-loop-i : goal.invariant-loop-i

@@ -1,5 +1,4 @@
 -- `lines::printable_stops` meets its contract: what it does with the number, it does with each byte. Assumes nothing.
-use borrow.Author.Rules.{rules}
 use Prim.Native.Nat.{ℕ}
 use native.Mathlib.Omega.{arith}
 use lib.ListN.{get_or}

@@ -1,5 +1,4 @@
 -- `lines::word` meets its contract: each byte is below 256, so no sum wraps. Assumes nothing.
-use borrow.Author.Rules.{rules}
 use native.Mathlib.Omega.{arith}
 use Rattle.lines.proofs.Words.{word-is}
 use Rattle.lines.proofs.word.Goals as goal

@@ -1,11 +1,10 @@
 -- `lines::write` meets its contract: the first `i` bytes are written. Assumes nothing.
 use borrow.Author.Rules.{rules}
-use Prim.Native.Nat.{◌-◌, ◌≤◌}
 use native.Mathlib.Omega.{arith}
 use native.Mathlib.Numerals.{add-one}
-use mathlib.Core.Path.{◌≡◌, refl, ◌∙◌}
-use lib.ListN.{length, length-set}
-use lib.Seq.{paste, paste-zero, paste-suc}
+use mathlib.Core.Path.{refl, ◌∙◌}
+use lib.ListN.{length-set}
+use lib.Seq.{paste-zero, paste-suc}
 use Rattle.lines.proofs.Writing.{put-paste}
 use Rattle.lines.proofs.write.Goals as goal
 

@@ -1,5 +1,4 @@
 -- `lines::write_entry` meets its contract: four writes, one after the other, are one. Assumes nothing.
-use borrow.Author.Rules.{rules}
 use native.Mathlib.Omega.{arith}
 use Rattle.lines.proofs.Writing.{wrote-both, entry-line}
 use Rattle.lines.proofs.write_entry.Goals as goal

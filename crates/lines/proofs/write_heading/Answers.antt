@@ -1,5 +1,4 @@
 -- `lines::write_heading` meets its contract: two writes, one after the other, are one. Assumes nothing.
-use borrow.Author.Rules.{rules}
 use native.Mathlib.Omega.{arith}
 use Rattle.lines.proofs.Writing.{wrote-both}
 use Rattle.lines.proofs.write_heading.Goals as goal

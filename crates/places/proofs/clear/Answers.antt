@@ -1,20 +1,17 @@
 -- `places::clear` meets its contract: the first `i` numbers are 0. Assumes nothing.
 use borrow.Author.Rules.{rules}
 use mathlib.Core.Path.{◌≡◌}
-use mathlib.Core.List.{◌++◌}
-use Prim.Native.Nat.{◌-◌, ◌≤◌}
 use native.Mathlib.Omega.{arith}
 use borrow.Author.Fill.{fill_more}
-use lib.ListN.{length, drop, replicate, length-set}
+use lib.ListN.{length-set}
 use Rattle.places.proofs.clear.Goals as goal
 
 pub loop-i-preserved : goal.loop-i-preserved
-loop-i-preserved c =
-    (
-      search rules,
-      simp length-set (search rules),
-      rw c.loop-i.invariant.2 (fill_more c.loop-i.i 0 c.args.places.now (omega arith)),
-    )
+loop-i-preserved c = (
+  search rules,
+  simp length-set (search rules),
+  rw c.loop-i.invariant.2 (fill_more c.loop-i.i 0 c.args.places.now (omega arith)),
+)
 
 pub returns : goal.returns
 returns c =

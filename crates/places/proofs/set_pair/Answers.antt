@@ -1,5 +1,4 @@
 -- `places::set_pair` meets its contract: the second write lies within too. Assumes nothing.
-use borrow.Author.Rules.{rules}
 use native.Mathlib.Omega.{arith}
 use lib.ListN.{length-set}
 use Rattle.places.proofs.set_pair.Goals as goal

@@ -1,5 +1,4 @@
 -- The part of the text from the pair's start, as long as its length says. Assumes nothing.
-use borrow.Author.Rules.{rules}
 use Rattle.places.proofs.Values.{part-value}
 use Rattle.places.proofs.value_of.Goals as goal
 

@@ -1,5 +1,4 @@
 -- `refusals::refusal_number` meets its contract: each arm is a clause of the definition. Assumes nothing.
-use borrow.Author.Rules.{rules}
 use Rattle.refusals.proofs.refusal_number.Goals as goal
 
 pub returns-in-PlacesTooShort : goal.returns-in-PlacesTooShort

@@ -1,5 +1,4 @@
 -- `serial::address_ok` meets its contract: the two tests of the length and `kinds::all_digits` are the three tests of the definition. Assumes nothing.
-use borrow.Author.Rules.{rules}
 use Rattle.lines.proofs.Bools.{tests}
 use Rattle.serial.specs.Identification.{address_ok}
 use Rattle.serial.proofs.address_ok.Goals as goal

@@ -1,5 +1,4 @@
 -- `serial::checksum_ok` meets its contract: the two digits of the sum are those of the definition, and are compared in its order. Assumes nothing.
-use borrow.Author.Rules.{rules}
 use borrow.Author.Tests.{eq-eqb, ne_eqb}
 use Rattle.serial.specs.Reading.{checksum_ok}
 use Rattle.serial.proofs.checksum_ok.Goals as goal

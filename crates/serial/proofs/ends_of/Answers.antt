@@ -1,7 +1,6 @@
 -- `serial::ends_of` meets its contract: each end is that of the field behind the end before it, as in `end_of`. Assumes nothing.
 use mathlib.Core.Path.{◌≡◌, ap, ◌∙◌}
 use Prim.Native.Nat.{◌+◌}
-use borrow.Author.Rules.{rules}
 use Rattle.serial.specs.Reading.{field_end, end_of, ends_of}
 use Rattle.serial.proofs.ends_of.Goals as goal
 

@@ -1,10 +1,7 @@
 -- `serial::field_end` meets its contract: what the definition says from the start of the field, it says from `i` on. Assumes nothing.
-use mathlib.Core.Path.{◌≡◌, refl, sym, ◌∙◌}
-use Prim.Native.Nat.{◌+◌, ◌-◌, ◌≤◌}
+use mathlib.Core.Path.{refl, sym, ◌∙◌}
 use native.Mathlib.Omega.{arith}
 use borrow.Author.Rules.{rules}
-use lib.ListN.{length, drop}
-use Rattle.lines.specs.Bytes.{before}
 use Rattle.serial.specs.Reading.{field_end}
 use Rattle.serial.proofs.Loops.{before_more, before-stop, before-end}
 use Rattle.serial.proofs.field_end.Goals as goal

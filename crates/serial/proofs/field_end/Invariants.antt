@@ -1,11 +1,7 @@
-use mathlib.Core.Path.{◌≡◌, refl, sym, ◌∙◌}
+use mathlib.Core.Path.{◌≡◌}
 use Prim.Native.Nat.{◌+◌, ◌-◌, ◌≤◌}
-use native.Mathlib.Omega.{arith}
-use borrow.Author.Rules.{rules}
 use lib.ListN.{length, drop}
 use Rattle.lines.specs.Bytes.{before}
-use Rattle.serial.specs.Reading.{field_end}
-use Rattle.serial.proofs.Loops.{before_more, before-stop, before-end}
 use Rattle.serial.proofs.field_end.Given as goal
 
 abbrev pub invariant-loop-i : goal.invariant-loop-i

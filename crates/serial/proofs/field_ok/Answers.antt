@@ -1,5 +1,4 @@
 -- `serial::field_ok` meets its contract: the two tests of the length and `lines::all_printable` are the three tests of the definition. Assumes nothing.
-use borrow.Author.Rules.{rules}
 use Rattle.lines.proofs.Bools.{tests}
 use Rattle.serial.specs.Identification.{field_ok}
 use Rattle.serial.proofs.field_ok.Goals as goal

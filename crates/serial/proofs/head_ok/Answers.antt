@@ -1,5 +1,4 @@
 -- `serial::head_ok` meets its contract: the three tests are those of the definition, on the same parts. Assumes nothing.
-use borrow.Author.Rules.{rules}
 use Rattle.serial.specs.Reading.{head_ok}
 use Rattle.serial.proofs.Tests.{passed, failed}
 use Rattle.serial.proofs.head_ok.Goals as goal

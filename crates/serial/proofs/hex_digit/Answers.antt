@@ -1,5 +1,4 @@
 -- `serial::hex_digit` meets its contract: both branches are those of the definition. Assumes nothing.
-use borrow.Author.Rules.{rules}
 use Rattle.lines.proofs.Bools.{tests}
 use Rattle.serial.specs.Identification.{hex_digit}
 use Rattle.serial.proofs.hex_digit.Goals as goal

@@ -1,5 +1,4 @@
 -- `serial::is_framed` meets its contract: the four tests are those of the definition. Assumes nothing.
-use borrow.Author.Rules.{rules}
 use Rattle.lines.proofs.Bools.{tests}
 use Rattle.serial.specs.Reading.{framed}
 use Rattle.serial.proofs.is_framed.Goals as goal

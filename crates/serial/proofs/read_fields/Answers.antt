@@ -1,5 +1,4 @@
 -- `serial::read_fields` meets its contract: the tests are those of the definition; where the tenth field ends with the bytes, all ends are in order. Assumes nothing.
-use borrow.Author.Rules.{rules}
 use borrow.Author.Tests.{eq-eqb, ne_eqb}
 use lib.ListN.{length}
 use Rattle.serial.specs.Reading.{read_fields, Ordered}

@@ -3,7 +3,6 @@ use mathlib.Core.Path.{◌≡◌}
 use mathlib.Core.Bool.{true}
 use Prim.Native.Nat.{◌≤◌}
 use native.Mathlib.Omega.{arith}
-use borrow.Author.Rules.{rules}
 use lib.ListN.{length, length-take}
 use Rattle.serial.specs.Reading.{framed, read_identification}
 use Rattle.serial.proofs.Tests.{passed, failed}

@@ -1,5 +1,4 @@
 -- `serial::seven_ok` meets its contract: the seven tests are those of the definition, on the same parts. Assumes nothing.
-use borrow.Author.Rules.{rules}
 use Rattle.serial.specs.Identification.{all_fields_ok}
 use Rattle.serial.proofs.Tests.{passed, failed, and-true}
 use Rattle.serial.proofs.seven_ok.Goals as goal

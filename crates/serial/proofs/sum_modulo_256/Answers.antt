@@ -1,10 +1,7 @@
 -- `serial::sum_modulo_256` meets its contract: the sum of all bytes is that of the bytes so far and of those from `i` on, modulo 256. Assumes nothing.
-use mathlib.Core.Path.{◌≡◌, refl, sym, ◌∙◌}
-use Prim.Native.Nat.{◌+◌, ◌-◌, ◌≤◌, ◌<◌, ◌%◌}
+use mathlib.Core.Path.{refl, sym, ◌∙◌}
 use native.Mathlib.Omega.{arith}
 use borrow.Author.Rules.{rules}
-use lib.ListN.{length, drop}
-use Rattle.serial.specs.Identification.{sum}
 use Rattle.serial.proofs.Loops.{sum_more, sum-end}
 use native.Mathlib.Nat.{zero-add}
 use Rattle.serial.proofs.sum_modulo_256.Goals as goal

@@ -1,11 +1,7 @@
-use mathlib.Core.Path.{◌≡◌, refl, sym, ◌∙◌}
+use mathlib.Core.Path.{◌≡◌}
 use Prim.Native.Nat.{◌+◌, ◌-◌, ◌≤◌, ◌<◌, ◌%◌}
-use native.Mathlib.Omega.{arith}
-use borrow.Author.Rules.{rules}
 use lib.ListN.{length, drop}
 use Rattle.serial.specs.Identification.{sum}
-use Rattle.serial.proofs.Loops.{sum_more, sum-end}
-use native.Mathlib.Nat.{zero-add}
 use Rattle.serial.proofs.sum_modulo_256.Given as goal
 
 abbrev pub invariant-loop-i : goal.invariant-loop-i

@@ -1,5 +1,4 @@
 -- `tables::entries_before` meets its contract: each section before has one row that is no entry's. Assumes nothing.
-use borrow.Author.Rules.{rules}
 use native.Mathlib.Omega.{arith}
 use Rattle.tables.specs.File.{table_of}
 use Rattle.tables.proofs.Rows.{rows-entries}

@@ -1,15 +1,9 @@
 -- `tables::find_listed` meets its contract: what the look-up is from the section's first row on, it is from `row` on.
 -- Assumes nothing.
-use borrow.Author.Rules.{rules}
 use native.Mathlib.Omega.{arith}
-use Prim.Native.Nat.{ℕ, ◌+◌, ◌≤◌, ◌-◌}
-use mathlib.Core.Path.{◌≡◌, sym, ◌∙◌}
-use mathlib.Core.List.{List}
-use lib.ListN.{drop}
-use Rattle.tables.specs.File.{table_of}
-use Rattle.tables.specs.Row.{names, entries_in, index_of}
+use Prim.Native.Nat.{◌+◌}
+use mathlib.Core.Path.{sym, ◌∙◌}
 use Rattle.tables.proofs.Listed.{tags-end, row-lent, look-start, look-here, look-next, look-end, look-pass}
-use Rattle.tables.proofs.find_listed.Invariants.{N}
 use Rattle.tables.proofs.find_listed.Goals as goal
 
 pub pass_over-row-requires : goal.pass_over-row-requires

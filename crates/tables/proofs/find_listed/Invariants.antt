@@ -1,12 +1,9 @@
-use borrow.Author.Rules.{rules}
-use native.Mathlib.Omega.{arith}
 use Prim.Native.Nat.{ℕ, ◌+◌, ◌≤◌, ◌-◌}
-use mathlib.Core.Path.{◌≡◌, sym, ◌∙◌}
+use mathlib.Core.Path.{◌≡◌}
 use mathlib.Core.List.{List}
 use lib.ListN.{drop}
 use Rattle.tables.specs.File.{table_of}
 use Rattle.tables.specs.Row.{names, entries_in, index_of}
-use Rattle.tables.proofs.Listed.{tags-end, row-lent, look-start, look-here, look-next, look-end, look-pass}
 use Rattle.tables.proofs.find_listed.Given as goal
 
 -- the section's names

@@ -1,5 +1,4 @@
 -- `tables::find_section` meets its contract: only the likely section can have the heading. Assumes nothing.
-use borrow.Author.Rules.{rules}
 use native.Mathlib.Omega.{arith}
 use mathlib.Core.Path.{sym, ◌∙◌}
 use Rattle.tables.proofs.Distinct.{heading-found, heading-none}

@@ -1,5 +1,4 @@
 -- `tables::fixed_section_count` meets its contract: the numbers are those of the sections. Assumes nothing.
-use borrow.Author.Rules.{rules}
 use Rattle.tables.specs.File.{of_number, sections, fixed_sections, axle_sections, axles_from, axle_entries}
 use Rattle.tables.proofs.fixed_section_count.Goals as goal
 

@@ -1,5 +1,4 @@
 -- `tables::is_file` meets its contract: a file has a section. Assumes nothing.
-use borrow.Author.Rules.{rules}
 use mathlib.Core.List.{List, []}
 use lib.Dec.{ltb}
 use lib.ListN.{length}

@@ -1,5 +1,4 @@
 -- `tables::is_row` meets its contract: the first bytes of the row are compared. Assumes nothing.
-use borrow.Author.Rules.{rules}
 use mathlib.Core.Path.{sym}
 use lib.Seq.{length-take-le}
 use Rattle.tables.proofs.is_row.Goals as goal

@@ -1,5 +1,4 @@
 -- `tables::least_sections` meets its contract: the numbers are those of the sections. Assumes nothing.
-use borrow.Author.Rules.{rules}
 use Rattle.tables.specs.File.{of_number, sections, fixed_sections, axle_sections, axles_from, axle_entries, least_sections}
 use Rattle.tables.proofs.least_sections.Goals as goal
 

@@ -1,8 +1,6 @@
 -- `tables::next_row` meets its contract: no row before `row` has the tag. Assumes nothing.
-use borrow.Author.Rules.{rules}
 use native.Mathlib.Omega.{arith}
-use Prim.Native.Nat.{◌-◌, ◌≤◌}
-use Rattle.tables.proofs.Find.{NoneFrom, none_more}
+use Rattle.tables.proofs.Find.{none_more}
 use Rattle.tables.proofs.next_row.Goals as goal
 
 pub loop-row-init : goal.loop-row-init

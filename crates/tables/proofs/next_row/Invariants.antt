@@ -1,7 +1,5 @@
-use borrow.Author.Rules.{rules}
-use native.Mathlib.Omega.{arith}
 use Prim.Native.Nat.{◌-◌, ◌≤◌}
-use Rattle.tables.proofs.Find.{NoneFrom, none_more}
+use Rattle.tables.proofs.Find.{NoneFrom}
 use Rattle.tables.proofs.next_row.Given as goal
 
 abbrev pub invariant-loop-row : goal.invariant-loop-row

@@ -1,5 +1,4 @@
 -- `tables::of_file` meets its contract: the default is 0 too. Assumes nothing.
-use borrow.Author.Rules.{rules}
 use native.Mathlib.Omega.{arith}
 use mathlib.Core.Path.{sym}
 use lib.ListN.{get_or-eq_default}

@@ -1,6 +1,4 @@
 -- `tables::pass_over` meets its contract: no row before `row` has the tag. Assumes nothing.
-use borrow.Author.Rules.{rules}
-use borrow.Author.Tests.{not-true, not-false}
 use native.Mathlib.Omega.{arith}
 use Prim.Native.Nat.{◌+◌, ◌-◌, ◌≤◌}
 use mathlib.Core.Path.{◌≡◌, sym, ◌∙◌}
@@ -8,7 +6,7 @@ use mathlib.Core.Bool.{false}
 use lib.ListN.{take, drop}
 use Rattle.lines.specs.Bytes.{without}
 use Rattle.tables.specs.Groups.{PassesTo}
-use Rattle.tables.proofs.Find.{NoneFrom, none-block, passes-block, passes-from}
+use Rattle.tables.proofs.Find.{none-block, passes-block, passes-from}
 use Rattle.tables.proofs.pass_over.Lts as lts
 use Rattle.tables.proofs.pass_over.Tie as tie
 use Rattle.tables.proofs.pass_over.Goals as goal

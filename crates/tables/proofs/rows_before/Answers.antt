@@ -1,5 +1,4 @@
 -- `tables::rows_before` meets its contract: the rows of the sections before are counted in each file. Assumes nothing.
-use borrow.Author.Rules.{rules}
 use lib.Seq.{take-nil}
 use Rattle.tables.specs.Entries.{new_booking, old_booking, tester, protocol, measurement, sixteen, drift_axle, suspension_axle, analyser, counter, speed_test, all_key_dates, all_key_bodies, analysis, fuel_analysis, opacimeter, opacity_test, opacity_keys, opacity_analysis}
 use Rattle.tables.specs.File.{ac2, acc, drift, suspension, gas, opacity, all_sections, sections, fixed_sections, axle_sections, axles_from, axle_entries}

@@ -1,5 +1,4 @@
 -- `tables::section_count` meets its contract: the numbers are those of the sections. Assumes nothing.
-use borrow.Author.Rules.{rules}
 use mathlib.Core.Path.{◌∙◌, sym}
 use mathlib.Core.List.{[]}
 use Rattle.tables.proofs.Files.{of_map}

@@ -1,5 +1,4 @@
 -- `tables::tag_of` meets its contract: the tag is computed as in the definition. Assumes nothing.
-use borrow.Author.Rules.{rules}
 use native.Mathlib.Omega.{arith}
 use Prim.Native.Nat.{◌-◌}
 use mathlib.Core.Path.{refl}

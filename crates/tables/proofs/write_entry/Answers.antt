@@ -1,6 +1,5 @@
 -- `tables::write_entry` meets its contract: the entry stands in its group behind the first of its section, or there is none.
 -- Assumes nothing.
-use borrow.Author.Rules.{rules}
 use native.Mathlib.Omega.{arith}
 use Prim.Native.Nat.{◌<◌}
 use lib.ListN.{length}
@@ -19,11 +18,10 @@ pub overflow_add-section_start : goal.overflow_add-section_start
 overflow_add-section_start c = omega (arith, inside c.before, c.section_start.ensures.within, group-few c.args.file)
 
 pub write_listed-requires : goal.write_listed-requires
-write_listed-requires c =
-    (
-      omega (arith, inside c.before.before, c.section_start.ensures.within),
-      rw (listed_at c.section_start.ensures c.args.entry (inside c.before.before)) c.requires,
-    )
+write_listed-requires c = (
+  omega (arith, inside c.before.before, c.section_start.ensures.within),
+  rw (listed_at c.section_start.ensures c.args.entry (inside c.before.before)) c.requires,
+)
 
 pub returns-then-entry-entry_count : goal.returns-then-entry-entry_count
 returns-then-entry-entry_count c =

@@ -1,5 +1,4 @@
 -- `tables::write_listed` meets its contract: in each arm the group is the file's. Assumes nothing.
-use borrow.Author.Rules.{rules}
 use Rattle.tables.specs.Entries.{new_booking, old_booking, opacity_analysis}
 use Rattle.tables.specs.Groups.{testers, gas_entries}
 use Rattle.tables.proofs.NameRows.{Listed, listed, acc-group, drift-group, suspension-group, gas-group, opacity-group, other-group}

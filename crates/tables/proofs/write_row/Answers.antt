@@ -1,5 +1,4 @@
 -- `tables::write_row` meets its contract: the first bytes of the row are the name that is written. Assumes nothing.
-use borrow.Author.Rules.{rules}
 use mathlib.Core.Path.{sym}
 use lib.Seq.{length-take-le}
 use Rattle.tables.proofs.write_row.Goals as goal

@@ -1,5 +1,4 @@
 -- `kinds::shapes::shape_of` meets its contract: one computed test over all kinds, and past them zeros. Assumes nothing.
-use borrow.Author.Rules.{rules}
 use Rattle.kinds.specs.Kind.{numbered, words}
 use Rattle.kinds.specs.Value.{width, longest}
 use Rattle.kinds.specs.Shapes.{form_number, decimals_of, words_in}

@@ -1,6 +1,5 @@
 -- `kinds::words::word_length` meets its contract: each word's length, by one computed test. Assumes nothing.
 use native.Mathlib.Omega.{arith}
-use borrow.Author.Rules.{rules}
 use mathlib.Core.Path.{ap, ◌∙◌}
 use mathlib.Core.List.{[]}
 use lib.ListN.{length}

@@ -1,6 +1,5 @@
 -- `kinds::words::word_place` meets its contract: one computed test over all kinds. Assumes nothing.
 use native.Mathlib.Omega.{arith}
-use borrow.Author.Rules.{rules}
 use Rattle.kinds.specs.Kind.{numbered, words}
 use Rattle.kinds.specs.Shapes.{listed}
 use Rattle.kinds.proofs.ByKind.{of-kind, is-kind, first_word, word-within, word-there}

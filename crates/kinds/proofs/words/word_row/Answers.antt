@@ -1,6 +1,5 @@
 -- `kinds::words::word_row` meets its contract: each word in its row, by one computed test. Assumes nothing.
 use native.Mathlib.Omega.{arith}
-use borrow.Author.Rules.{rules}
 use mathlib.Core.Path.{ap, ◌∙◌}
 use mathlib.Core.List.{[]}
 use Rattle.kinds.specs.Kind.{words}

@@ -1,9 +1,7 @@
 -- `lines::Cursor::read_line` meets its contract: a law of `Reading` for each way out. Assumes nothing.
-use borrow.Author.Rules.{rules}
 use native.Mathlib.Omega.{arith}
 use mathlib.Core.Path.{sym, ◌∙◌}
 use lib.ListN.{drop}
-use borrow.Author.Tests.{not-true, not-false}
 use Rattle.lines.proofs.Bytes.{name-le}
 use Rattle.lines.proofs.Reading.{at-end, line-from, end-le, line-bad, line-good, entry-run, equals-is, heading-form, open-form, no-equals-form, entry-form}
 use Rattle.lines.proofs.Reading.{line-is}

@@ -1,5 +1,4 @@
 -- `tables::compare::is_axle_heading` meets its contract: the part is as long as stem, digit and `]`, and ends in them. Assumes nothing.
-use borrow.Author.Rules.{rules}
 use Prim.Native.Nat.{◌+◌}
 use native.Mathlib.Omega.{arith}
 use mathlib.Core.Path.{sym, ◌∙◌}

@@ -1,5 +1,4 @@
 -- `tables::compare::is_drift_heading` meets its contract: the fixed heading, or that of an axle of one digit. Assumes nothing.
-use borrow.Author.Rules.{rules}
 use Rattle.tables.specs.File.{drift, all_sections, sections, fixed_sections, axle_sections, axles_from}
 use Rattle.kinds.proofs.Laws.{past}
 use Rattle.tables.proofs.Sections.{heading-none, drift-heading}

@@ -1,5 +1,4 @@
 -- `tables::compare::is_heading` meets its contract: each file has its headings. Assumes nothing.
-use borrow.Author.Rules.{rules}
 use Rattle.tables.specs.File.{ac2, acc, drift, suspension, gas, opacity, sections, fixed_sections, axle_sections}
 use Rattle.tables.proofs.Files.{table_none}
 use Rattle.tables.proofs.Sections.{at-file}

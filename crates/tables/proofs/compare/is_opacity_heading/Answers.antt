@@ -1,5 +1,4 @@
 -- `tables::compare::is_opacity_heading` meets its contract: at each number the heading of the section. Assumes nothing.
-use borrow.Author.Rules.{rules}
 use Rattle.tables.specs.File.{opacity, all_sections, sections, fixed_sections, axle_sections, axles_from}
 use Rattle.kinds.proofs.Laws.{past}
 use Rattle.tables.proofs.Sections.{heading-none}

@@ -1,5 +1,4 @@
 -- `tables::compare::is_suspension_heading` meets its contract: the fixed heading, or that of an axle of one digit. Assumes nothing.
-use borrow.Author.Rules.{rules}
 use Rattle.tables.specs.File.{suspension, all_sections, sections, fixed_sections, axle_sections, axles_from}
 use Rattle.kinds.proofs.Laws.{past}
 use Rattle.tables.proofs.Sections.{heading-none, suspension-heading}

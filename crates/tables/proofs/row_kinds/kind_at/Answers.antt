@@ -1,5 +1,4 @@
 -- `tables::row_kinds::kind_at` meets its contract: a row's number, or a heading's. Assumes nothing.
-use borrow.Author.Rules.{rules}
 use Rattle.tables.proofs.Rows.{number_at, past-rows}
 use Rattle.tables.proofs.row_kinds.kind_at.Goals as goal
 

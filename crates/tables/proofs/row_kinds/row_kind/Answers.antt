@@ -1,5 +1,4 @@
 -- `tables::row_kinds::row_kind` meets its contract: an arm for each file, and none for other numbers. Assumes nothing.
-use borrow.Author.Rules.{rules}
 use Rattle.kinds.specs.Kind.{numbered}
 use Rattle.tables.specs.File.{ac2, acc, drift, suspension, gas, opacity}
 use Rattle.tables.specs.Row.{row_kind}
