@@ -43,8 +43,7 @@ fn fill_asked(answer: &mut [u32], file: u32, asked: u32, why: [u32; 12]) -> u32
 }
 
 // What is asked of an entry, by its number in the order of the file's pairs, and why (01, Due entries).
-#[unsafe(no_mangle)]
-pub extern "C" fn mctc_condition(file: u32, entry: u32, answer: &mut [u32]) -> u32
+pub fn mctc_condition(file: u32, entry: u32, answer: &mut [u32]) -> u32
     ensures { AskCall (condition_numbers file entry) answer.old answer.new result }
 {
     if answer.len() < crate::ANSWER_SIZE {
@@ -55,8 +54,7 @@ pub extern "C" fn mctc_condition(file: u32, entry: u32, answer: &mut [u32]) -> u
 }
 
 // What is asked of a file, and why (01, row 11).
-#[unsafe(no_mangle)]
-pub extern "C" fn mctc_file_condition(file: u32, answer: &mut [u32]) -> u32
+pub fn mctc_file_condition(file: u32, answer: &mut [u32]) -> u32
     ensures { AskCall (file_numbers file) answer.old answer.new result }
 {
     if answer.len() < crate::ANSWER_SIZE {
@@ -67,8 +65,7 @@ pub extern "C" fn mctc_file_condition(file: u32, answer: &mut [u32]) -> u32
 }
 
 // Whether a value passes a test.
-#[unsafe(no_mangle)]
-pub extern "C" fn mctc_test(test: u32, value: &[u8], answer: &mut [u32]) -> u32
+pub fn mctc_test(test: u32, value: &[u8], answer: &mut [u32]) -> u32
     ensures { AskCall (test_numbers test value.now) answer.old answer.new result }
 {
     if answer.len() < crate::ANSWER_SIZE {
@@ -123,8 +120,7 @@ fn fill_fields(answer: &mut [u32], read: IdentificationRead) -> u32
 }
 
 // Where the fields of the identification answer end (01, Identification answer).
-#[unsafe(no_mangle)]
-pub extern "C" fn mctc_identification(text: &[u8], answer: &mut [u32]) -> u32
+pub fn mctc_identification(text: &[u8], answer: &mut [u32]) -> u32
     ensures { AskCall (identification_numbers text.now) answer.old answer.new result }
 {
     if answer.len() < crate::ANSWER_SIZE {
@@ -134,8 +130,7 @@ pub extern "C" fn mctc_identification(text: &[u8], answer: &mut [u32]) -> u32
 }
 
 // The entry of gas whose value a field of the identification answer is.
-#[unsafe(no_mangle)]
-pub extern "C" fn mctc_field(field: u32, answer: &mut [u32]) -> u32
+pub fn mctc_field(field: u32, answer: &mut [u32]) -> u32
     ensures { AskCall (entry_numbers field) answer.old answer.new result }
 {
     if answer.len() < crate::ANSWER_SIZE {

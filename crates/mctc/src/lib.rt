@@ -1,9 +1,9 @@
-// The interface for C (include/mctc.h): a whole set judged, one file read alone, one file written, names of entries
-// and headings copied, the kinds of entries and their words, the due column of one file. Each call fills an array of
-// numbers that the caller lends with its answer, and returns the first of them.
+// The interface for C (include/mctc.h), which mctc_c exports: a whole set judged, one file read alone, one file written,
+// names of entries and headings copied, the kinds of entries and their words, the due column of one file. Each call fills
+// an array of numbers that the caller lends with its answer, and returns the first of them.
 #![tactic(auto)]
 
-mod asked; // asked.rt: what the judge goes by, for whoever explains a refusal
+pub mod asked; // asked.rt: what the judge goes by, for whoever explains a refusal
 
 ghost use Rattle.std.specs.Prelude.{◌≡◌, ◌≤◌, length};
 ghost use Rattle.files.specs.Alone as F;
@@ -126,8 +126,7 @@ fn fill_judged(answer: &mut [u32], judged: SetAnswer) -> u32
 
 // A whole set judged (01, Judging; slice 7: 02, 2/14). With an answer array that is too short nothing is touched, here and in
 // the others.
-#[unsafe(no_mangle)]
-pub extern "C" fn mctc_judge(
+pub fn mctc_judge(
     stem: &[u8],
     ac2: &[u8],
     acc: &[u8],
@@ -161,8 +160,7 @@ pub extern "C" fn mctc_judge(
 }
 
 // One file read alone (01, Writing).
-#[unsafe(no_mangle)]
-pub extern "C" fn mctc_read(file: u32, text: &[u8], places: &mut [u32], answer: &mut [u32]) -> u32
+pub fn mctc_read(file: u32, text: &[u8], places: &mut [u32], answer: &mut [u32]) -> u32
     ensures { ReadCall file text.now places.old places.new answer.old answer.new result }
 {
     if answer.len() < ANSWER_SIZE {
@@ -173,8 +171,7 @@ pub extern "C" fn mctc_read(file: u32, text: &[u8], places: &mut [u32], answer: 
 }
 
 // One file written from a text and its pairs (01, Writing).
-#[unsafe(no_mangle)]
-pub extern "C" fn mctc_write(
+pub fn mctc_write(
     text: &[u8],
     places: &[u32],
     file: u32,
@@ -207,13 +204,7 @@ fn fill_name(answer: &mut [u32], copied: NameAnswer) -> u32
 }
 
 // The name of an entry, by its number in the order of the file's pairs (01, Judging).
-#[unsafe(no_mangle)]
-pub extern "C" fn mctc_entry_name(
-    file: u32,
-    entry: u32,
-    output: &mut [u8],
-    answer: &mut [u32],
-) -> u32
+pub fn mctc_entry_name(file: u32, entry: u32, output: &mut [u8], answer: &mut [u32]) -> u32
     ensures { NameCall file (N.entry_name file entry) output.old output.new answer.old answer.new result }
 {
     if answer.len() < ANSWER_SIZE {
@@ -224,13 +215,7 @@ pub extern "C" fn mctc_entry_name(
 }
 
 // The heading of a section, brackets included, by its number in the order of the file's table (01, Bookings, Results).
-#[unsafe(no_mangle)]
-pub extern "C" fn mctc_heading_name(
-    file: u32,
-    section: u32,
-    output: &mut [u8],
-    answer: &mut [u32],
-) -> u32
+pub fn mctc_heading_name(file: u32, section: u32, output: &mut [u8], answer: &mut [u32]) -> u32
     ensures { NameCall file (N.heading_name file section) output.old output.new answer.old answer.new result }
 {
     if answer.len() < ANSWER_SIZE {
@@ -258,8 +243,7 @@ fn fill_kind(answer: &mut [u32], found: KindAnswer) -> u32
 }
 
 // What a filled value of an entry must look like, by its number in the order of the file's pairs (01, Kinds of value).
-#[unsafe(no_mangle)]
-pub extern "C" fn mctc_kind(file: u32, entry: u32, answer: &mut [u32]) -> u32
+pub fn mctc_kind(file: u32, entry: u32, answer: &mut [u32]) -> u32
     ensures { KindCall file (N.entry_kind file entry) answer.old answer.new result }
 {
     if answer.len() < ANSWER_SIZE {
@@ -270,14 +254,7 @@ pub extern "C" fn mctc_kind(file: u32, entry: u32, answer: &mut [u32]) -> u32
 }
 
 // A word that an entry's value may be, by its number in the order of its list (01, Kinds of value).
-#[unsafe(no_mangle)]
-pub extern "C" fn mctc_word(
-    file: u32,
-    entry: u32,
-    word: u32,
-    output: &mut [u8],
-    answer: &mut [u32],
-) -> u32
+pub fn mctc_word(file: u32, entry: u32, word: u32, output: &mut [u8], answer: &mut [u32]) -> u32
     ensures { NameCall file (N.entry_word file entry word) output.old output.new answer.old answer.new result }
 {
     if answer.len() < ANSWER_SIZE {
@@ -303,8 +280,7 @@ fn fill_column(answer: &mut [u32], given: ColumnAnswer) -> u32
 }
 
 // The due column of one file (01, Due entries).
-#[unsafe(no_mangle)]
-pub extern "C" fn mctc_due(
+pub fn mctc_due(
     file: u32,
     ac2: &[u8],
     text: &[u8],
