@@ -1,5 +1,5 @@
 //! Links libmctc.a. DICEPEACH_LIBRARY names its folder, absolute or from the repository's root; without it the folder
-//! is the one that `rt staticlib mctc` writes to.
+//! is the one that `tools/library` writes to.
 
 use std::env;
 use std::path::{Path, PathBuf};
@@ -15,7 +15,7 @@ fn main() {
     println!("cargo:rerun-if-changed={}", library.display());
     if !library.is_file() {
         eprintln!("there is no {}", library.display());
-        eprintln!("make it with `rt staticlib mctc` in the repository, or name its folder with {VARIABLE}");
+        eprintln!("make it with `bash tools/library` in the repository, or name its folder with {VARIABLE}");
         exit(1);
     }
     println!("cargo:rustc-link-search=native={}", folder.display());
