@@ -123,7 +123,7 @@ fn reasons_give_the_due_column() {
         }
     }
     assert_eq!(2 * entries.len(), PLACES, "every entry was met");
-    // notL and nineStem are of files
+    // NotL and NineStem are of files
     let own = |test: &u32| ![number(Test::NotL), number(Test::NineStem)].contains(test);
     for test in (0..TESTS.len() as u32).filter(own) {
         assert!(met.contains(&(test, true)) && met.contains(&(test, false)));
