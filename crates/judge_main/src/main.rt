@@ -1,6 +1,6 @@
 // Judges stored sets and prints the answer and the places of each.
-// Standard input: for each set ten numbers of four bytes, low byte first, the lengths of a title, a stem and seven slices
-// and how many places are lent, and then the bytes of these nine. Each place holds 7 before.
+// Standard input: for each set ten numbers of four bytes, low byte first, the lengths of a title, a stem and seven
+// slices and how many places are lent, and then the bytes of these nine. Each place holds 7 before.
 #![tactic(auto)]
 
 ghost use Rattle.std.specs.Prelude.{◌+◌, ◌*◌, ◌≤◌, ◌<◌, IfOk, length};
