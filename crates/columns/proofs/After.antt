@@ -15,7 +15,6 @@ use Rattle.tables.specs.File.{File, ac2, first_pair, least_places, of_number}
 use Rattle.files.specs.declared.FileAcceptance.{FileAcceptance}
 use Rattle.files.specs.Alone.{ReadsAlone}
 use Rattle.files.specs.declared.FileAnswer.{FileAnswer}
-use Rattle.files.specs.declared.FileAnswer.TheVariants as FileAnswer
 use Rattle.files.proofs.Pairs.{same-file, AloneRead, refused-inv, short-inv, alone-length, alone-pairs, alone-cleared}
 use Rattle.due.specs.Booking.{booking_in}
 use Rattle.due.specs.declared.Booking.{Booking}

@@ -20,7 +20,6 @@ use Rattle.tables.proofs.Axles.{entries-most}
 use Rattle.files.specs.Files.{axles_of}
 use Rattle.files.specs.Alone.{ReadsAlone}
 use Rattle.files.specs.declared.FileAnswer.{FileAnswer}
-use Rattle.files.specs.declared.FileAnswer.TheVariants as FileAnswer
 use Rattle.files.proofs.Texts.{rooms-fit}
 use Rattle.files.proofs.Pairs.{AloneRead, refused-inv, by-alone, alone-few, alone-sections, alone-length, alone-pairs, alone-cleared}
 use Rattle.due.specs.Booking.{booking_in}

@@ -11,25 +11,19 @@ use Rattle.refusals.specs.declared.Refusal.{Refusal}
 use Rattle.files.specs.Alone as F
 use Rattle.files.specs.declared.FileAcceptance.{FileAcceptance}
 use Rattle.files.specs.declared.FileAnswer.{FileAnswer}
-use Rattle.files.specs.declared.FileAnswer.TheVariants as FileAnswer
 use Rattle.writing.specs.Writing as W
 use Rattle.writing.specs.declared.WriteAcceptance.{WriteAcceptance}
 use Rattle.writing.specs.declared.WriteAnswer.{WriteAnswer}
-use Rattle.writing.specs.declared.WriteAnswer.TheVariants as WriteAnswer
 use Rattle.names.specs.Names as N
 use Rattle.names.specs.declared.Named.{Named}
 use Rattle.names.specs.declared.NameAnswer.{NameAnswer}
-use Rattle.names.specs.declared.NameAnswer.TheVariants as NameAnswer
 use Rattle.names.specs.declared.KindAnswer.{KindAnswer}
-use Rattle.names.specs.declared.KindAnswer.TheVariants as KindAnswer
 use Rattle.sets.specs.Judge as J
 use Rattle.sets.specs.declared.Acceptance.{Acceptance}
 use Rattle.sets.specs.declared.SetAnswer.{SetAnswer}
-use Rattle.sets.specs.declared.SetAnswer.TheVariants as SetAnswer
 use Rattle.columns.specs.Column as C
 use Rattle.columns.specs.declared.ColumnAcceptance.{ColumnAcceptance}
 use Rattle.columns.specs.declared.ColumnAnswer.{ColumnAnswer}
-use Rattle.columns.specs.declared.ColumnAnswer.TheVariants as ColumnAnswer
 use Rattle.mctc.specs.Answers.{answer_size, answered, refusal_numbers, read_numbers, write_numbers, name_numbers, kind_numbers, mark_number, set_numbers, due_numbers, Filled}
 
 -- ---- numbers put one after another

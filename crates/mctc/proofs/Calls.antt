@@ -17,7 +17,6 @@ use Rattle.files.specs.declared.FileAnswer.{FileAnswer}
 use Rattle.writing.specs.Writing as W
 use Rattle.writing.specs.ReadBack.{IsReadBack}
 use Rattle.writing.specs.declared.WriteAnswer.{WriteAnswer}
-use Rattle.writing.specs.declared.WriteAnswer.TheVariants as WriteAnswer
 use Rattle.writing.proofs.Theorem.{reads-back}
 use Rattle.names.specs.Names as N
 use Rattle.names.specs.declared.NameAnswer.{NameAnswer}

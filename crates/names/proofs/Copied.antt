@@ -22,7 +22,6 @@ use Rattle.names.specs.Names.{Name, name_with, section_of_entry, entry_name, hea
 use Rattle.names.specs.Steps.{standing}
 use Rattle.names.proofs.EntryKinds.{word-missing, word_some}
 use Rattle.names.specs.declared.NameAnswer.{NameAnswer}
-use Rattle.names.specs.declared.NameAnswer.TheVariants as NameAnswer
 
 -- ---- bytes
 

@@ -15,7 +15,6 @@ use Rattle.names.specs.declared.Named as D
 use Rattle.names.specs.declared.NameAnswer.{NameAnswer}
 use Rattle.names.specs.declared.NameAnswer.TheVariants.{Named, Refused}
 use Rattle.names.specs.declared.KindAnswer.{KindAnswer}
-use Rattle.names.specs.declared.KindAnswer.TheVariants as KindAnswer
 
 -- the bytes of a name or of a heading, and the number of its section
 pub record Name : Type 0 where

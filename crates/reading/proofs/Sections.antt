@@ -1,5 +1,5 @@
 -- The rows of the first sections of a table. Assumes nothing.
-use Prim.Native.Nat.{ℕ, ◌-◌}
+use Prim.Native.Nat.{ℕ}
 use mathlib.Core.Path.{◌≡◌, ap, sym, ◌∙◌}
 use mathlib.Core.Option.{Option}
 use mathlib.Core.List.{List}

@@ -11,7 +11,6 @@ use Rattle.tables.specs.Entries.{new_booking, old_booking, sixteen, tester, prot
 use Rattle.tables.specs.File.{File, ac2, acc, drift, suspension, gas, opacity, of_number, entries, sections, fixed_sections, axle_sections, axles_from}
 use Rattle.due.specs.Due.{exceptions, condition_of, fixed_conditions, condition_at, condition_in}
 use Rattle.due.specs.declared.Condition.{Condition}
-use Rattle.due.specs.declared.Condition.TheVariants as Condition
 use Rattle.kinds.proofs.Laws.{NoneAfter}
 use Rattle.reasons.specs.Reasons.{Reason, reasons_of, given_reasons, reason_numbers, own_file, own_numbered}
 use Rattle.reasons.specs.Asked.{entry_reasons, file_asked, file_reasons}

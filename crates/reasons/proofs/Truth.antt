@@ -16,7 +16,6 @@ use Rattle.due.specs.Booking.{is_l, is_petrol, is_diesel, booking_in}
 use Rattle.due.specs.Conditions.{is_serial, has_links, links_in, conditions_of}
 use Rattle.due.specs.Due.{exceptions, condition_of, fixed_conditions, condition_at, is_m_or_n, condition_p, when, holds_in, due_of}
 use Rattle.due.specs.declared.Condition.{Condition}
-use Rattle.due.specs.declared.Condition.TheVariants as Condition
 use Rattle.rules.specs.Slices.{stated_of, exactly, old_booking_right, opacity_due, slice_right, identification_right}
 use Rattle.rules.specs.Identification.{seven_of}
 use Rattle.reasons.specs.Tests.{ValueTest, moped, motorcycle, m_or_n, not_o, not_l, six_bytes, petrol, diesel, late_directive, no_directive, serial_link, external_counter, version200, version210, nine_stem, passes, test_number, test_of, passes_some}

@@ -6,7 +6,6 @@ use Rattle.due.specs.Due.{condition_at, condition_in, when}
 use Rattle.due.specs.declared.Due.{Due}
 use Rattle.due.specs.declared.Due.TheVariants.{IsDue, NotDue, IsFree}
 use Rattle.due.specs.declared.Condition.{Condition}
-use Rattle.due.specs.declared.Condition.TheVariants as Condition
 use Rattle.rules.specs.Slices.{exactly}
 use Rattle.rules.specs.Identification.{seven_names}
 use Rattle.reasons.specs.Reasons.{reasons_of, given_reasons, identification_reasons, reason_numbers}

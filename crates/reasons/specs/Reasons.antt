@@ -5,7 +5,6 @@ use Rattle.tables.specs.File.{File, ac2, acc, drift, suspension, gas, opacity, f
 use Rattle.tables.specs.Value.{place_of, of}
 use Rattle.due.specs.Conditions.{has_links}
 use Rattle.due.specs.declared.Condition.{Condition}
-use Rattle.due.specs.declared.Condition.TheVariants as Condition
 use Rattle.reasons.specs.Tests.{
   ValueTest,
   moped,

@@ -15,7 +15,6 @@ use Rattle.kinds.specs.Value.{is_number, is_first_day, word_index, is_word, word
 use Rattle.kinds.specs.Meaning.{number_read, day_read, day_number}
 use Rattle.kinds.proofs.Laws.{by-test}
 use Rattle.kinds.specs.declared.NumberRead.{NumberRead}
-use Rattle.kinds.specs.declared.NumberRead.TheVariants as NumberRead
 use Rattle.rules.specs.Bookings.{directive_of, count_of, period_of}
 use Rattle.rules.specs.declared.Directive.TheVariants.{Nessuna, Rt1902, Catalyst, NoDirective}
 use Rattle.rules.specs.declared.Period.TheVariants.{Later}

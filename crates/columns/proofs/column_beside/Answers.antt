@@ -1,7 +1,5 @@
 -- `columns::column_beside` meets its contract: not read, refused, 18, or the column. Assumes nothing.
-use borrow.Author.Rules.{rules}
 use native.Mathlib.Omega.{arith}
-use borrow.Author.Tests.{not-true, not-false}
 use Rattle.files.proofs.Pairs.{accepted-inv}
 use Rattle.columns.proofs.Beside.{sections-few, sections-in, count-is, count-few, conditions-ready, column-is, too_short, given, beside-unread, beside-read, beside-refused}
 use Rattle.columns.proofs.column_beside.Goals as goal

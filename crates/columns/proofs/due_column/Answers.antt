@@ -1,5 +1,4 @@
 -- `columns::due_column` meets its contract: AC2 is refused, or the file is beside it. Assumes nothing.
-use borrow.Author.Rules.{rules}
 use Rattle.files.proofs.Pairs.{accepted-inv}
 use Rattle.columns.proofs.After.{booking-ready, still-enough, booking-is, after_read, after-refused}
 use Rattle.columns.proofs.due_column.Goals as goal

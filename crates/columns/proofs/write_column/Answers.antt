@@ -1,10 +1,8 @@
 -- `columns::write_column` meets its contract: the first `i` numbers are the first `i` entries'. Assumes nothing.
 use borrow.Author.Rules.{rules}
 use mathlib.Core.Path.{◌≡◌}
-use mathlib.Core.List.{◌++◌}
-use Prim.Native.Nat.{◌-◌, ◌≤◌}
 use native.Mathlib.Omega.{arith}
-use lib.ListN.{length, drop, length-set}
+use lib.ListN.{length-set}
 use Rattle.due.specs.Due.{due_in}
 use Rattle.columns.specs.Column.{numbers_from}
 use Rattle.columns.proofs.Numbers.{numbers_more}

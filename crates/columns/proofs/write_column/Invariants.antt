@@ -1,12 +1,9 @@
-use borrow.Author.Rules.{rules}
 use mathlib.Core.Path.{◌≡◌}
 use mathlib.Core.List.{◌++◌}
 use Prim.Native.Nat.{◌-◌, ◌≤◌}
-use native.Mathlib.Omega.{arith}
-use lib.ListN.{length, drop, length-set}
+use lib.ListN.{length, drop}
 use Rattle.due.specs.Due.{due_in}
 use Rattle.columns.specs.Column.{numbers_from}
-use Rattle.columns.proofs.Numbers.{numbers_more}
 use Rattle.columns.proofs.write_column.Given as goal
 
 abbrev pub invariant-loop-i : goal.invariant-loop-i

@@ -1,5 +1,4 @@
 -- Each of the four values is the one that the definition names, by the place of its entry in the table. Assumes nothing.
-use borrow.Author.Rules.{rules}
 use mathlib.Core.Path.{◌≡◌, sym, ◌∙◌}
 use lib.Dec.{lit<}
 use lib.ListN.{length}

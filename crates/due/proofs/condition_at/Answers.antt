@@ -1,5 +1,4 @@
 -- The array is the table of conditions, computed from the names; past a file's part of it each entry is always due. Assumes nothing.
-use borrow.Author.Rules.{rules}
 use native.Mathlib.Omega.{arith}
 use Rattle.lines.specs.Bytes.{same_bytes}
 use Rattle.tables.specs.Section.{entries_of}

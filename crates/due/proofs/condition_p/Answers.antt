@@ -1,5 +1,4 @@
 -- L1e, L2e, L6e decide, and NESSUNA where it is none of them. Assumes nothing.
-use borrow.Author.Rules.{rules}
 use mathlib.Core.Path.{sym, ◌∙◌}
 use Rattle.due.specs.Due.{condition_p}
 use Rattle.due.proofs.condition_p.Goals as goal

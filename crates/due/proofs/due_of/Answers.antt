@@ -1,5 +1,4 @@
 -- What the entry's condition asks. Assumes nothing.
-use borrow.Author.Rules.{rules}
 use Rattle.due.specs.Due.{due_in}
 use Rattle.due.proofs.due_of.Goals as goal
 

@@ -1,18 +1,14 @@
 -- The first entry from the start is the first from here on, until one is found that is not as due. Assumes nothing.
 use borrow.Author.Rules.{rules}
-use Prim.Native.Nat.{◌+◌, ◌-◌, ◌≤◌}
 use native.Mathlib.Nat.{add-zero, sub-zero}
 use native.Mathlib.Omega.{arith}
 use mathlib.Core.Path.{◌≡◌, refl, sym, ◌∙◌}
 use mathlib.Core.Bool.{true}
-use mathlib.Core.Logic.{⊎_elim}
-use borrow.Author.Tests.{not-true, not-false}
 use Rattle.lines.specs.Bytes.{same_bytes}
-use Rattle.places.specs.Places.{pairs_at}
 use Rattle.tables.specs.Section.{entries_of}
 use Rattle.tables.specs.Entries.{new_booking, old_booking, sixteen, tester, protocol, measurement, analysis, analyser, counter, speed_test, all_key_dates, all_key_bodies, fuel_analysis, opacimeter, opacity_test, opacity_keys, opacity_analysis}
 use Rattle.tables.specs.File.{entries, sections, fixed_sections, axle_sections, axles_from}
-use Rattle.due.specs.Due.{exceptions, condition_of, due_in, filled_pairs, as_due, first_not_as_due_from}
+use Rattle.due.specs.Due.{exceptions, condition_of, due_in, as_due}
 use Rattle.due.specs.Table.{condition_table}
 use Rattle.due.proofs.Entries.{table-in}
 use Rattle.due.proofs.FirstNotAsDue.{first_step, first-end, by-table, past-table}
@@ -47,13 +43,13 @@ loop-i-preserved c =
     let x = c.args in
     let d = as_due (due_in x.file c.loop-i.i x.c) c.is_filled-filled.result in
     let e : d ≡ true =
-      elim c.if-i-size.branch [
-        | then-i-size+else-not-is_as_due w ↦
+    elim c.if-i-size.branch [
+      | then-i-size+else-not-is_as_due w ↦
           by-table x.file c.loop-i.i x.c c.is_filled-filled.result _ _ c.first_condition-start.ensures c.condition_count-size.ensures w.if-i-size.true
           ∙ sym w.is_as_due.ensures ∙ w.if-not-is_as_due.false
-        | else-i-size+else-not-filled w ↦
+      | else-i-size+else-not-filled w ↦
           past-table x.file c.loop-i.i x.c c.is_filled-filled.result _ c.condition_count-size.ensures w.if-i-size.false ∙ w.if-not-filled.false
-      ] in
+    ] in
     (search rules, c.loop-i.invariant.1 ∙ first_step (λ j. due_in x.file j x.c) x.places.now x.first c.loop-i.i x.count c.loop-i-test.true ∙ rw (← c.is_filled-filled.ensures, e))
 
 pub returns : goal.returns

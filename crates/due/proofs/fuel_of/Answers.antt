@@ -1,5 +1,4 @@
 -- The two comparisons are those of the definition, in its order. Assumes nothing.
-use borrow.Author.Rules.{rules}
 use mathlib.Core.Path.{sym, ◌∙◌}
 use Rattle.due.specs.Booking.{fuel_in}
 use Rattle.due.proofs.fuel_of.Goals as goal

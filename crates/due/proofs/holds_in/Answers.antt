@@ -1,5 +1,4 @@
 -- Each arm tests what the definition's clause for its condition names. Assumes nothing.
-use borrow.Author.Rules.{rules}
 use Rattle.due.specs.Due.{holds_in}
 use Rattle.due.proofs.holds_in.Goals as goal
 

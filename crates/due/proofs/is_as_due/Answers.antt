@@ -1,5 +1,4 @@
 -- An entry that is always due is as due where it is filled. Assumes nothing.
-use borrow.Author.Rules.{rules}
 use Rattle.due.specs.Due.{holds_in}
 use Rattle.due.proofs.is_as_due.Goals as goal
 

@@ -1,5 +1,4 @@
 -- A value is filled where its length is not 0. Assumes nothing.
-use borrow.Author.Rules.{rules}
 use Rattle.due.proofs.is_filled.Goals as goal
 
 pub returns : goal.returns

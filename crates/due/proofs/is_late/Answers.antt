@@ -1,5 +1,4 @@
 -- The four directives stand in order of time: the places 2 and 3 are 91/441/CEE and later. Assumes nothing.
-use borrow.Author.Rules.{rules}
 use native.Mathlib.Omega.{arith}
 use borrow.Author.Tests.{le-leb, lt-leb, le-ltb, lt-ltb}
 use Rattle.due.proofs.Values.{late_is}

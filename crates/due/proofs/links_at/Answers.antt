@@ -1,5 +1,4 @@
 -- Each of the four values stands at its pair. Assumes nothing.
-use borrow.Author.Rules.{rules}
 use Rattle.due.proofs.links_at.Goals as goal
 
 pub returns : goal.returns

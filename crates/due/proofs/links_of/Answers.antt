@@ -1,5 +1,4 @@
 -- Gas and opacity have links, and their values stand at their pairs. Assumes nothing.
-use borrow.Author.Rules.{rules}
 use mathlib.Core.Path.{refl, sym}
 use lib.Dec.{lit<}
 use Rattle.tables.specs.File.{File, gas, opacity}

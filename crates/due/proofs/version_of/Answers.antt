@@ -1,5 +1,4 @@
 -- The two comparisons are those of the definition, in its order. Assumes nothing.
-use borrow.Author.Rules.{rules}
 use mathlib.Core.Path.{sym, ◌∙◌}
 use Rattle.due.specs.Conditions.{version_in}
 use Rattle.due.proofs.version_of.Goals as goal

@@ -1,13 +1,9 @@
-use borrow.Author.Rules.{rules}
 use Prim.Native.Nat.{ℕ, ◌-◌, ◌≤◌}
-use native.Mathlib.Omega.{arith}
-use mathlib.Core.Path.{◌≡◌, ap, sym, ◌∙◌}
+use mathlib.Core.Path.{◌≡◌}
 use mathlib.Core.List.{map}
 use lib.ListN.{get_or}
-use borrow.Author.Tests.{eq-eqb, ne_eqb}
 use Rattle.tables.specs.Row.{row_kind}
-use Rattle.reading.specs.Reading.{check_absent, is_absent, owner_row, first_wrong, fails}
-use Rattle.reading.proofs.Checks.{wrong-here, wrong-next, wrong-end}
+use Rattle.reading.specs.Reading.{check_absent, is_absent, owner_row, first_wrong}
 use Rattle.files.proofs.check_absent.Given as goal
 
 abbrev pub invariant-loop-r : goal.invariant-loop-r

@@ -1,11 +1,10 @@
 -- `files::check_gap` meets its contract: what is left to check from here is the check from the start. Assumes nothing.
-use borrow.Author.Rules.{rules}
-use Prim.Native.Nat.{ℕ, ◌-◌, ◌≤◌}
+use Prim.Native.Nat.{ℕ}
 use native.Mathlib.Omega.{arith}
-use mathlib.Core.Path.{◌≡◌, refl, sym, ◌∙◌}
+use mathlib.Core.Path.{refl, sym, ◌∙◌}
 use lib.ListN.{length, get_or}
 use borrow.Author.Tests.{lt-ltb, le-ltb}
-use Rattle.reading.specs.Reading.{check_gap, is_found, first_wrong}
+use Rattle.reading.specs.Reading.{is_found}
 use Rattle.reading.proofs.Checks.{wrong-here, wrong-next, wrong-end}
 use Rattle.files.proofs.check_gap.Goals as goal
 

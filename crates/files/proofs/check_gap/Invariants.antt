@@ -1,11 +1,7 @@
-use borrow.Author.Rules.{rules}
 use Prim.Native.Nat.{ℕ, ◌-◌, ◌≤◌}
-use native.Mathlib.Omega.{arith}
-use mathlib.Core.Path.{◌≡◌, refl, sym, ◌∙◌}
-use lib.ListN.{length, get_or}
-use borrow.Author.Tests.{lt-ltb, le-ltb}
+use mathlib.Core.Path.{◌≡◌}
+use lib.ListN.{length}
 use Rattle.reading.specs.Reading.{check_gap, is_found, first_wrong}
-use Rattle.reading.proofs.Checks.{wrong-here, wrong-next, wrong-end}
 use Rattle.files.proofs.check_gap.Given as goal
 
 abbrev pub invariant-loop-r : goal.invariant-loop-r

@@ -1,12 +1,11 @@
 -- `files::check_kinds` meets its contract: what is left to check from here is the check from the start. Assumes nothing.
-use borrow.Author.Rules.{rules}
-use Prim.Native.Nat.{ℕ, ◌-◌, ◌≤◌}
+use Prim.Native.Nat.{ℕ, ◌-◌}
 use native.Mathlib.Omega.{arith}
 use mathlib.Core.Path.{◌≡◌, sym, ◌∙◌}
 use mathlib.Core.List.{map}
 use lib.ListN.{get_or}
 use Rattle.tables.specs.Row.{row_kind}
-use Rattle.reading.specs.Reading.{slots, check_kinds, is_wrong, first_wrong}
+use Rattle.reading.specs.Reading.{slots, is_wrong}
 use Rattle.reading.proofs.Checks.{wrong-here, wrong-next, wrong-end}
 use Rattle.files.proofs.Rows.{wrong_row}
 use Rattle.files.proofs.check_kinds.Goals as goal

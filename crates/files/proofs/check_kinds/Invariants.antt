@@ -1,13 +1,9 @@
-use borrow.Author.Rules.{rules}
 use Prim.Native.Nat.{ℕ, ◌-◌, ◌≤◌}
-use native.Mathlib.Omega.{arith}
-use mathlib.Core.Path.{◌≡◌, sym, ◌∙◌}
+use mathlib.Core.Path.{◌≡◌}
 use mathlib.Core.List.{map}
 use lib.ListN.{get_or}
 use Rattle.tables.specs.Row.{row_kind}
 use Rattle.reading.specs.Reading.{slots, check_kinds, is_wrong, first_wrong}
-use Rattle.reading.proofs.Checks.{wrong-here, wrong-next, wrong-end}
-use Rattle.files.proofs.Rows.{wrong_row}
 use Rattle.files.proofs.check_kinds.Given as goal
 
 abbrev pub invariant-loop-r : goal.invariant-loop-r

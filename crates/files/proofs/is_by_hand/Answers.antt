@@ -1,5 +1,4 @@
 -- `files::is_by_hand` meets its contract: gas's idle speed is read at its pair. Assumes nothing.
-use borrow.Author.Rules.{rules}
 use native.Mathlib.Omega.{arith}
 use mathlib.Core.Path.{sym}
 use mathlib.Core.Bool.{Bool, false}

@@ -1,5 +1,4 @@
 -- `files::judge_slots` meets its contract: the checks in their order, each a law of reading's `Judging`. Assumes nothing.
-use borrow.Author.Rules.{rules}
 use native.Mathlib.Omega.{arith}
 use mathlib.Core.Path.{ap, sym, ◌∙◌}
 use Rattle.tables.specs.File.{table_of, of_number, least_sections}

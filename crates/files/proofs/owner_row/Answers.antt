@@ -1,11 +1,8 @@
 -- `files::owner_row` meets its contract: the heading above row `r` is the one above the first row. Assumes nothing.
-use borrow.Author.Rules.{rules}
-use Prim.Native.Nat.{◌≤◌}
 use native.Mathlib.Omega.{arith}
-use mathlib.Core.Path.{◌≡◌, refl, sym, ◌∙◌}
+use mathlib.Core.Path.{refl, sym, ◌∙◌}
 use mathlib.Core.List.{map}
 use Rattle.tables.specs.Row.{row_kind}
-use Rattle.reading.specs.Reading.{owner_row}
 use Rattle.files.proofs.Rows.{heading-at, entry_at, owner_here, owner-up, owner-first}
 use Rattle.files.proofs.owner_row.Goals as goal
 

@@ -1,8 +1,6 @@
 -- `files::read_alone` meets its contract: 1, 16, or what the cleared places are filled with. Assumes nothing.
-use borrow.Author.Rules.{rules}
 use native.Mathlib.Omega.{arith}
 use mathlib.Core.Path.{sym, ◌∙◌}
-use borrow.Author.Tests.{not-true, not-false}
 use Rattle.places.proofs.Laws.{cleared-length}
 use Rattle.tables.specs.File.{least_places}
 use Rattle.files.proofs.Alone.{alone-short, alone-none, alone-given}

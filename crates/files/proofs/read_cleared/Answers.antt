@@ -1,5 +1,4 @@
 -- `files::read_cleared` meets its contract: 11, a refusal of the text, or its axle count and its mark. Assumes nothing.
-use borrow.Author.Rules.{rules}
 use native.Mathlib.Omega.{arith}
 use mathlib.Core.Path.{ap}
 use Prim.Native.Nat.{ℕ, ◌-◌}

@@ -1,5 +1,4 @@
 -- `files::read_into` meets its contract: what was read is written. Assumes nothing.
-use borrow.Author.Rules.{rules}
 use Rattle.files.proofs.Steps.{text-faulty, text-ready, text-read}
 use Rattle.files.proofs.read_into.Goals as goal
 

@@ -1,5 +1,4 @@
 -- `files::read_slots` meets its contract: the scan stops, or its slots are judged. Assumes nothing.
-use borrow.Author.Rules.{rules}
 use mathlib.Core.Path.{sym, subst}
 use Rattle.tables.specs.File.{table_of}
 use Rattle.reading.specs.Reading.{Slots}

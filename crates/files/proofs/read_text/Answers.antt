@@ -1,5 +1,4 @@
 -- `files::read_text` meets its contract: 3, and then what the slots, empty at first, are read into. Assumes nothing.
-use borrow.Author.Rules.{rules}
 use Prim.Native.Nat.{◌≤◌}
 use native.Mathlib.Omega.{arith}
 use lib.ListN.{length-take}

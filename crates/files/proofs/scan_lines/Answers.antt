@@ -1,23 +1,11 @@
 -- `files::scan_lines` meets its contract: each turn of the loop is one law of reading's `Turns`. Assumes nothing.
-use borrow.Author.Rules.{rules}
-use Prim.Native.Nat.{ℕ, ◌+◌, ◌-◌, ◌≤◌}
 use native.Mathlib.Omega.{arith}
-use mathlib.Core.Path.{◌≡◌, sym, ◌∙◌}
-use mathlib.Core.List.{List}
-use lib.ListN.{length}
-use Rattle.reading.specs.Tables.{most_bytes}
-use Rattle.lines.specs.Reading.{line_at}
-use Rattle.lines.specs.declared.LineRead.TheVariants.{Heading, Entry}
-use Rattle.lines.proofs.Lines.{Inside, heading-inside, entry-inside, Moves, heading-moves, entry-moves}
-use Rattle.tables.specs.Section.{Section}
+use mathlib.Core.Path.{sym, ◌∙◌}
+use Rattle.lines.proofs.Lines.{heading-inside, entry-inside, heading-moves, entry-moves}
 use Rattle.tables.specs.File.{table_of}
-use Rattle.tables.specs.Groups.{IsPlaceOf}
-use Rattle.reading.specs.Reading.{Slots, slots}
-use Rattle.reading.specs.Scanning.{Turn}
+use Rattle.reading.specs.Reading.{slots}
 use Rattle.reading.proofs.Turns.{turn-first, turn_end, turn-bad, turn-heading-refused, turn-heading, turn-entry-first, turn-entry-refused, turn-entry, took-no, took-yes}
 use Rattle.files.proofs.Numbers.{bad-most, heading-most, entry-most, entry-start}
-use Rattle.files.proofs.scan_lines.Lts as lts
-use Rattle.files.proofs.scan_lines.Tie as tie
 use Rattle.files.proofs.scan_lines.Goals as goal
 
 pub loop-line-init : goal.loop-line-init
@@ -142,9 +130,8 @@ loop-line-smaller c =
     omega (arith, m.on, m.within)
 
 pub loop-line-preserved : goal.loop-line-preserved
-loop-line-preserved c =
-    (
-      turn-entry (table_of c.args.file) c.args.text.now (slots c.args.numbers.now c.args.starts.now c.args.lengths.now) (slots c.loop-line.numbers c.loop-line.starts c.loop-line.lengths) c.loop-line.c c.loop-line.cur c.loop-line.invariant.0 _ _ _ _ (sym c.read_line.ensures ∙ c.in-Entry.is) (omega (arith, c.section_count-none.ensures, c.if-none-cur.false)) c.find_row-row.result
-          c.find_row-row.ensures _ (took-yes c.take_row-in-Entry.ensures c.if-not-take_row-2.false-raw),
-      c.loop-line.invariant.1,
-    )
+loop-line-preserved c = (
+  turn-entry (table_of c.args.file) c.args.text.now (slots c.args.numbers.now c.args.starts.now c.args.lengths.now) (slots c.loop-line.numbers c.loop-line.starts c.loop-line.lengths) c.loop-line.c c.loop-line.cur c.loop-line.invariant.0 _ _ _ _ (sym c.read_line.ensures ∙ c.in-Entry.is) (omega (arith, c.section_count-none.ensures, c.if-none-cur.false)) c.find_row-row.result
+      c.find_row-row.ensures _ (took-yes c.take_row-in-Entry.ensures c.if-not-take_row-2.false-raw),
+  c.loop-line.invariant.1,
+)

@@ -1,20 +1,9 @@
-use borrow.Author.Rules.{rules}
-use Prim.Native.Nat.{ℕ, ◌+◌, ◌-◌, ◌≤◌}
-use native.Mathlib.Omega.{arith}
-use mathlib.Core.Path.{◌≡◌, sym, ◌∙◌}
-use mathlib.Core.List.{List}
+use Prim.Native.Nat.{◌-◌}
 use lib.ListN.{length}
-use Rattle.reading.specs.Tables.{most_bytes}
-use Rattle.lines.specs.Reading.{line_at}
-use Rattle.lines.specs.declared.LineRead.TheVariants.{Heading, Entry}
-use Rattle.lines.proofs.Lines.{Inside, heading-inside, entry-inside, Moves, heading-moves, entry-moves}
-use Rattle.tables.specs.Section.{Section}
 use Rattle.tables.specs.File.{table_of}
 use Rattle.tables.specs.Groups.{IsPlaceOf}
-use Rattle.reading.specs.Reading.{Slots, slots}
+use Rattle.reading.specs.Reading.{slots}
 use Rattle.reading.specs.Scanning.{Turn}
-use Rattle.reading.proofs.Turns.{turn-first, turn_end, turn-bad, turn-heading-refused, turn-heading, turn-entry-first, turn-entry-refused, turn-entry, took-no, took-yes}
-use Rattle.files.proofs.Numbers.{bad-most, heading-most, entry-most, entry-start}
 use Rattle.files.proofs.scan_lines.Given as goal
 
 abbrev pub invariant-loop-line : goal.invariant-loop-line

@@ -1,5 +1,4 @@
 -- `files::scan_text` meets its contract: in each arm the names are those of the file's group. Assumes nothing.
-use borrow.Author.Rules.{rules}
 use Rattle.tables.specs.Entries.{new_booking, old_booking, opacity_analysis}
 use Rattle.tables.specs.Groups.{testers, gas_entries}
 use Rattle.tables.proofs.NameRows.{lent-as, acc-group, drift-group, suspension-group, gas-group, opacity-group, other-group}

@@ -1,11 +1,9 @@
 -- `files::sections_found` meets its contract: what is left to find from here is what was to be found. Assumes nothing.
-use borrow.Author.Rules.{rules}
-use Prim.Native.Nat.{◌-◌, ◌≤◌}
+use Prim.Native.Nat.{◌-◌}
 use native.Mathlib.Omega.{arith}
 use mathlib.Core.Path.{◌≡◌, ap, sym, ◌∙◌}
 use lib.ListN.{get_or}
 use Rattle.tables.specs.File.{table_of}
-use Rattle.reading.specs.Reading.{sections_found, first_absent}
 use Rattle.reading.proofs.Checks.{absent-here, absent-next, absent-end}
 use Prim.Native.Nat.{ℕ}
 use Rattle.files.proofs.Rows.{rows_in}

@@ -1,13 +1,7 @@
-use borrow.Author.Rules.{rules}
 use Prim.Native.Nat.{◌-◌, ◌≤◌}
-use native.Mathlib.Omega.{arith}
-use mathlib.Core.Path.{◌≡◌, ap, sym, ◌∙◌}
-use lib.ListN.{get_or}
+use mathlib.Core.Path.{◌≡◌}
 use Rattle.tables.specs.File.{table_of}
 use Rattle.reading.specs.Reading.{sections_found, first_absent}
-use Rattle.reading.proofs.Checks.{absent-here, absent-next, absent-end}
-use Prim.Native.Nat.{ℕ}
-use Rattle.files.proofs.Rows.{rows_in}
 use Rattle.files.proofs.sections_found.Given as goal
 
 abbrev pub invariant-loop-c : goal.invariant-loop-c

@@ -1,5 +1,4 @@
 -- `files::take_row` meets its contract: the row is past the end, taken, or free. Assumes nothing.
-use borrow.Author.Rules.{rules}
 use native.Mathlib.Omega.{arith}
 use mathlib.Core.Path.{refl}
 use Rattle.reading.proofs.Reduce.{free-is, taken_is, not_free}

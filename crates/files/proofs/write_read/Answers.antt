@@ -1,5 +1,4 @@
 -- `files::write_read` meets its contract: the pairs and the lines of the first sections' rows. Assumes nothing.
-use borrow.Author.Rules.{rules}
 use Rattle.reading.specs.Reading.{slots}
 use Rattle.files.proofs.Steps.{rows-ready, rows_written}
 use Rattle.files.proofs.write_read.Goals as goal

@@ -1,15 +1,11 @@
 -- `files::write_rows` meets its contract: what is left to write from here is what was to be written. Assumes nothing.
-use borrow.Author.Rules.{rules}
-use Prim.Native.Nat.{ℕ, ◌-◌, ◌≤◌, ◌<◌}
+use Prim.Native.Nat.{◌<◌}
 use native.Mathlib.Omega.{arith}
-use mathlib.Core.Option.{Option}
-use mathlib.Core.List.{List, map}
-use lib.ListN.{length, get_or, take}
-use Rattle.kinds.specs.Kind.{Kind, kind_of}
-use Rattle.tables.specs.Row.{row_kind}
+use lib.ListN.{length, get_or}
+use Rattle.kinds.specs.Kind.{kind_of}
 use Rattle.orders.specs.AnyOrder.{zip}
 use Rattle.files.proofs.Rows.{first_count, first-heading, first_entry}
-use Rattle.files.proofs.Entries.{zip_length, zip-at, Pairing, pairing-first, pairing-end, pairing-skip, pairing-room, pairing-put, Lining, lining-first, lining-end, lining-skip, lining-room, lining-put}
+use Rattle.files.proofs.Entries.{zip_length, zip-at, pairing-first, pairing-end, pairing-skip, pairing-room, pairing-put, lining-first, lining-end, lining-skip, lining-room, lining-put}
 use Rattle.files.proofs.write_rows.Invariants.{K}
 use Rattle.files.proofs.write_rows.Goals as goal
 

@@ -1,14 +1,11 @@
-use borrow.Author.Rules.{rules}
-use Prim.Native.Nat.{ℕ, ◌-◌, ◌≤◌, ◌<◌}
-use native.Mathlib.Omega.{arith}
+use Prim.Native.Nat.{ℕ, ◌-◌, ◌≤◌}
 use mathlib.Core.Option.{Option}
 use mathlib.Core.List.{List, map}
-use lib.ListN.{length, get_or, take}
-use Rattle.kinds.specs.Kind.{Kind, kind_of}
+use lib.ListN.{take}
+use Rattle.kinds.specs.Kind.{Kind}
 use Rattle.tables.specs.Row.{row_kind}
 use Rattle.orders.specs.AnyOrder.{zip}
-use Rattle.files.proofs.Rows.{first_count, first-heading, first_entry}
-use Rattle.files.proofs.Entries.{zip_length, zip-at, Pairing, pairing-first, pairing-end, pairing-skip, pairing-room, pairing-put, Lining, lining-first, lining-end, lining-skip, lining-room, lining-put}
+use Rattle.files.proofs.Entries.{Pairing, Lining}
 use Rattle.files.proofs.write_rows.Given as goal
 
 -- the rows that are written

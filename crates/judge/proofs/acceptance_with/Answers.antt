@@ -1,5 +1,4 @@
 -- `judge::acceptance_with` meets its contract. Assumes nothing.
-use borrow.Author.Rules.{rules}
 use mathlib.Core.Path.{refl}
 use Rattle.judge.proofs.acceptance_with.Goals as goal
 

@@ -1,5 +1,4 @@
 -- `judge::figures_in` meets its contract. Assumes nothing.
-use borrow.Author.Rules.{rules}
 use mathlib.Core.Path.{sym, ap}
 use Rattle.judge.specs.Steps.{figures_in}
 use Rattle.judge.proofs.figures_in.Goals as goal

@@ -1,5 +1,4 @@
 -- `judge::figures_of` meets its contract: each figure is that of the file of the number. Assumes nothing.
-use borrow.Author.Rules.{rules}
 use mathlib.Core.Path.{refl, ◌∙◌}
 use mathlib.Core.Bool.{false}
 use Prim.Native.Nat.{ℕ}

@@ -1,5 +1,4 @@
 -- `judge::identification_next` meets its contract: a refusal before it stands. Assumes nothing.
-use borrow.Author.Rules.{rules}
 use Rattle.judge.proofs.Slices.{asked-go, next-stop, next-go}
 use Rattle.judge.proofs.identification_next.Goals as goal
 

@@ -1,5 +1,4 @@
 -- `judge::judge_booking` meets its contract: 11, then the text. Assumes nothing.
-use borrow.Author.Rules.{rules}
 use native.Mathlib.Omega.{arith}
 use mathlib.Core.Path.{refl}
 use borrow.Author.Tests.{lt-ltb, le-ltb}

@@ -1,6 +1,4 @@
 -- `judge::judge_file` meets its contract: 11, then, of a file that is read, its text. Assumes nothing.
-use borrow.Author.Rules.{rules}
-use borrow.Author.Tests.{not-true, not-false}
 use Rattle.judge.proofs.File.{file-wrong, file-unread, file-read}
 use Rattle.judge.proofs.judge_file.Goals as goal
 

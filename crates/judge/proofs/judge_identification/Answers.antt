@@ -1,5 +1,4 @@
 -- `judge::judge_identification` meets its contract: 11, then, of an answer that is given, its form and its seven fields. Assumes nothing.
-use borrow.Author.Rules.{rules}
 use mathlib.Core.Path.{sym, ◌∙◌}
 use borrow.Author.Tests.{not-true, not-false, ltb-true}
 use Rattle.serial.proofs.Exact.{read-sound}
@@ -18,11 +17,10 @@ returns-then-not-given c =
     identification-none c.args.gas.now c.args.identification.now c.args.places.now (sym c.identification_right.ensures ∙ c.if-not-identification_right.false) (not-true _ c.if-not-given.true-raw)
 
 pub same_fields-requires : goal.same_fields-requires
-same_fields-requires c =
-    (
-      (read-sound c.args.identification.now _ (sym c.read_identification.ensures ∙ c.in-Fields.is)).ordered,
-      c.requires (ltb-true 0 _ (gas-given c.args.gas.now c.args.identification.now c.args.places.now (sym c.identification_right.ensures ∙ c.if-not-identification_right.false) (not-false _ c.if-not-given.false-raw))),
-    )
+same_fields-requires c = (
+  (read-sound c.args.identification.now _ (sym c.read_identification.ensures ∙ c.in-Fields.is)).ordered,
+  c.requires (ltb-true 0 _ (gas-given c.args.gas.now c.args.identification.now c.args.places.now (sym c.identification_right.ensures ∙ c.if-not-identification_right.false) (not-false _ c.if-not-given.false-raw))),
+)
 
 pub returns-then-not-same_fields : goal.returns-then-not-same_fields
 returns-then-not-same_fields c =

@@ -1,5 +1,4 @@
 -- `judge::judge_later` meets its contract: each slice is judged after those before it. Assumes nothing.
-use borrow.Author.Rules.{rules}
 use Prim.Native.Nat.{ℕ}
 use native.Mathlib.Omega.{arith}
 use mathlib.Core.Path.{refl, ◌∙◌}

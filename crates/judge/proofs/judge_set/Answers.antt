@@ -1,7 +1,5 @@
 -- `judge::judge_set` meets its contract: 1, 2, then the slices, and after a refusal all pairs are 0 again. Assumes nothing.
-use borrow.Author.Rules.{rules}
 use mathlib.Core.Path.{sym, ◌∙◌}
-use borrow.Author.Tests.{not-true, not-false}
 use Rattle.sets.specs.Records.{caller_of, slices_of}
 use Rattle.judge.proofs.Judged.{set-short, still-enough, set-stem, set-refused, set-accepted}
 use Rattle.judge.proofs.judge_set.Goals as goal

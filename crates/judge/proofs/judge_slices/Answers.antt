@@ -1,5 +1,4 @@
 -- `judge::judge_slices` meets its contract: AC2, then the slices after it. Assumes nothing.
-use borrow.Author.Rules.{rules}
 use Rattle.sets.specs.Records.{slices_of}
 use Rattle.judge.proofs.Slices.{slices-stop, booked-ready, slices-judged}
 use Rattle.judge.proofs.judge_slices.Goals as goal

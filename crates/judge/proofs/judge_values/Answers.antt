@@ -1,5 +1,4 @@
 -- `judge::judge_values` meets its contract: 10 over all entries, then 12 or 13, then what is kept. Assumes nothing.
-use borrow.Author.Rules.{rules}
 use mathlib.Core.Path.{sym}
 use lib.Seq.{length-take-le}
 use Rattle.judge.proofs.Values.{conditions-ready, sections-in, count-is, count_fits, pairs-ready, fixed-few, axles-are, figures-ready, broken-ready, due-is, values-due, values-broken, values-pass}

@@ -1,5 +1,4 @@
 -- `judge::line_of` meets its contract: past the last line there is 0. Assumes nothing.
-use borrow.Author.Rules.{rules}
 use mathlib.Core.Path.{sym}
 use lib.ListN.{get_or-eq_default}
 use Rattle.judge.proofs.line_of.Goals as goal

@@ -1,10 +1,7 @@
-use borrow.Author.Rules.{rules}
 use Prim.Native.Nat.{◌-◌, ◌≤◌}
-use native.Mathlib.Omega.{arith}
-use mathlib.Core.Path.{◌≡◌, refl, ◌∙◌}
-use lib.ListN.{length, take, length-set}
+use mathlib.Core.Path.{◌≡◌}
+use lib.ListN.{length, take}
 use Rattle.mctc.specs.Answers.{answered}
-use Rattle.mctc.proofs.Answers.{put_next, put_all}
 use Rattle.mctc.proofs.fill.Given as goal
 
 abbrev pub invariant-loop-i : goal.invariant-loop-i

@@ -1,5 +1,4 @@
 -- `mctc::fill_column` meets its contract: the refusal, or the axle count and how many entries. Assumes nothing.
-use borrow.Author.Rules.{rules}
 use Rattle.mctc.proofs.Answers.{column-refused, column-given}
 use Rattle.mctc.proofs.fill_column.Goals as goal
 

@@ -1,5 +1,4 @@
 -- `mctc::fill_judged` meets its contract: the refusal, or the axle counts and the marks. Assumes nothing.
-use borrow.Author.Rules.{rules}
 use Rattle.mctc.proofs.Answers.{set-refused, set-accepted}
 use Rattle.mctc.proofs.fill_judged.Goals as goal
 

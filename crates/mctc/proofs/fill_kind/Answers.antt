@@ -1,5 +1,4 @@
 -- `mctc::fill_kind` meets its contract: the refusal, or the numbers of the kind. Assumes nothing.
-use borrow.Author.Rules.{rules}
 use Rattle.mctc.proofs.Answers.{kind-refused, kind-shaped}
 use Rattle.mctc.proofs.fill_kind.Goals as goal
 

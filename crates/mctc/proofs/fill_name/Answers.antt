@@ -1,5 +1,4 @@
 -- `mctc::fill_name` meets its contract: the refusal, or the name's length and section. Assumes nothing.
-use borrow.Author.Rules.{rules}
 use Rattle.mctc.proofs.Answers.{name-refused, name-accepted}
 use Rattle.mctc.proofs.fill_name.Goals as goal
 

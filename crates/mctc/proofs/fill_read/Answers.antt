@@ -1,5 +1,4 @@
 -- `mctc::fill_read` meets its contract: the refusal, or the axle count and the mark. Assumes nothing.
-use borrow.Author.Rules.{rules}
 use Rattle.mctc.proofs.Answers.{read-refused, read-accepted}
 use Rattle.mctc.proofs.fill_read.Goals as goal
 

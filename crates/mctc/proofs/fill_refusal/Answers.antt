@@ -1,5 +1,4 @@
 -- `mctc::fill_refusal` meets its contract: the number, file and line, then zeros. Assumes nothing.
-use borrow.Author.Rules.{rules}
 use Rattle.mctc.proofs.Answers.{refused}
 use Rattle.mctc.proofs.fill_refusal.Goals as goal
 

@@ -1,5 +1,4 @@
 -- `mctc::fill_written` meets its contract: the refusal, or the length. Assumes nothing.
-use borrow.Author.Rules.{rules}
 use Rattle.mctc.proofs.Answers.{write-refused, write-accepted}
 use Rattle.mctc.proofs.fill_written.Goals as goal
 

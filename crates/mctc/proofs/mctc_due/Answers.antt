@@ -1,5 +1,4 @@
 -- `mctc::mctc_due` meets its contract: nothing is done, or the column is given and the array filled. Assumes nothing.
-use borrow.Author.Rules.{rules}
 use native.Mathlib.Omega.{arith}
 use Rattle.mctc.proofs.Calls.{due-short, due-done}
 use Rattle.mctc.proofs.mctc_due.Goals as goal

@@ -1,5 +1,4 @@
 -- `mctc::mctc_heading_name` meets its contract: nothing is done, or the heading is copied and the array filled. Assumes nothing.
-use borrow.Author.Rules.{rules}
 use native.Mathlib.Omega.{arith}
 use Rattle.names.specs.Names as N
 use Rattle.mctc.proofs.Calls.{name-short, name_done}

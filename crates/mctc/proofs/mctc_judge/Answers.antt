@@ -1,6 +1,5 @@
 -- `mctc::mctc_judge` meets its contract: nothing is done, or the set is judged and the array filled. Assumes nothing.
 use Rattle.sets.specs.Records.{caller_of}
-use borrow.Author.Rules.{rules}
 use native.Mathlib.Omega.{arith}
 use Rattle.mctc.proofs.Calls.{judge-short, judge-done}
 use Rattle.mctc.proofs.mctc_judge.Goals as goal

@@ -1,5 +1,4 @@
 -- `mctc::mctc_kind` meets its contract: nothing is done, or the array is filled with the kind. Assumes nothing.
-use borrow.Author.Rules.{rules}
 use native.Mathlib.Omega.{arith}
 use Rattle.names.specs.Names as N
 use Rattle.mctc.proofs.Calls.{kind-short, kind-done}

@@ -1,5 +1,4 @@
 -- `mctc::mctc_read` meets its contract: nothing is done, or the file is read and the array filled. Assumes nothing.
-use borrow.Author.Rules.{rules}
 use native.Mathlib.Omega.{arith}
 use Rattle.mctc.proofs.Calls.{read_short, read_done}
 use Rattle.mctc.proofs.mctc_read.Goals as goal

@@ -1,5 +1,4 @@
 -- `mctc::mctc_write` meets its contract: nothing is done, or the file is written and the array filled. Assumes nothing.
-use borrow.Author.Rules.{rules}
 use native.Mathlib.Omega.{arith}
 use Rattle.mctc.proofs.Calls.{write-short, write_done}
 use Rattle.mctc.proofs.mctc_write.Goals as goal

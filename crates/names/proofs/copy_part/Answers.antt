@@ -1,10 +1,9 @@
 -- `names::copy_part` meets its contract: the first `i` bytes are copied. Assumes nothing.
-use Prim.Native.Nat.{◌-◌, ◌≤◌}
 use native.Mathlib.Omega.{arith}
-use mathlib.Core.Path.{◌≡◌, refl, ◌∙◌}
+use mathlib.Core.Path.{refl, ◌∙◌}
 use borrow.Author.Rules.{rules}
-use lib.ListN.{length, length-set}
-use lib.Seq.{paste, paste-zero}
+use lib.ListN.{length-set}
+use lib.Seq.{paste-zero}
 use Rattle.names.proofs.Copied.{copy-next, copy-end}
 use Rattle.names.proofs.copy_part.Goals as goal
 

@@ -1,7 +1,6 @@
 -- `names::copy_word` meets its contract: no word of that number, or the first bytes of its row. Assumes nothing.
 use native.Mathlib.Omega.{arith}
 use Prim.Native.Nat.{◌<◌}
-use borrow.Author.Rules.{rules}
 use lib.ListN.{length}
 use Rattle.kinds.specs.Kind.{kind_of}
 use Rattle.kinds.specs.Shapes.{words_in}

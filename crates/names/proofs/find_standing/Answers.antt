@@ -1,10 +1,7 @@
 -- `names::find_standing` meets its contract: section after section, what is left of the number. Assumes nothing.
-use Prim.Native.Nat.{◌-◌, ◌≤◌}
 use native.Mathlib.Omega.{arith}
 use borrow.Author.Rules.{rules}
-use lib.ListN.{length}
-use Rattle.tables.specs.File.{table_of}
-use Rattle.names.proofs.Sections.{Reached, reached-first, reached-here, reached-next, reached-end}
+use Rattle.names.proofs.Sections.{reached-first, reached-here, reached-next, reached-end}
 use Rattle.names.proofs.find_standing.Goals as goal
 
 pub loop-section-init : goal.loop-section-init

@@ -1,9 +1,7 @@
 use Prim.Native.Nat.{◌-◌, ◌≤◌}
-use native.Mathlib.Omega.{arith}
-use borrow.Author.Rules.{rules}
 use lib.ListN.{length}
 use Rattle.tables.specs.File.{table_of}
-use Rattle.names.proofs.Sections.{Reached, reached-first, reached-here, reached-next, reached-end}
+use Rattle.names.proofs.Sections.{Reached}
 use Rattle.names.proofs.find_standing.Given as goal
 
 abbrev pub invariant-loop-section : goal.invariant-loop-section

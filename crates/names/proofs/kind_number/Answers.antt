@@ -1,6 +1,5 @@
 -- `names::kind_number` meets its contract: no entry of that number, or the kind in its row. Assumes nothing.
 use native.Mathlib.Omega.{arith}
-use borrow.Author.Rules.{rules}
 use mathlib.Core.Path.{sym, ◌∙◌}
 use Rattle.tables.proofs.Rows.{heading-row}
 use Rattle.names.proofs.Lengths.{sections-few}

@@ -1,5 +1,4 @@
 -- `names::kind_of_entry` meets its contract: no entry of that number, or the shape of its kind. Assumes nothing.
-use borrow.Author.Rules.{rules}
 use Rattle.names.proofs.EntryKinds.{kind-refused, kind-shaped}
 use Rattle.names.proofs.kind_of_entry.Goals as goal
 

@@ -1,5 +1,4 @@
 -- `reasons::asked_number` meets its contract: each arm is the clause of its condition. Assumes nothing.
-use borrow.Author.Rules.{rules}
 use Rattle.reasons.specs.Asked.{asked_of}
 use Rattle.reasons.proofs.asked_number.Goals as goal
 

@@ -1,5 +1,4 @@
 -- `reasons::category_of` meets its contract: list 1 is that of the categories. Assumes nothing.
-use borrow.Author.Rules.{rules}
 use Rattle.kinds.specs.Value.{words_of, numbered_lists}
 use Rattle.reasons.proofs.category_of.Goals as goal
 

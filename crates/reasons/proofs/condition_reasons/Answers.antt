@@ -1,5 +1,4 @@
 -- `reasons::condition_reasons` meets its contract: each arm is the clause of its condition. Assumes nothing.
-use borrow.Author.Rules.{rules}
 use Rattle.lines.specs.Bytes.{same_bytes}
 use Rattle.kinds.specs.Value.{word_index}
 use Rattle.tables.specs.Section.{entries_of}

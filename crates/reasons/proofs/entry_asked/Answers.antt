@@ -1,5 +1,4 @@
 -- `reasons::entry_asked` meets its contract: an entry that is there is asked for by its condition. Assumes nothing.
-use borrow.Author.Rules.{rules}
 use borrow.Author.Tests.{lt-ltb, le-ltb}
 use Rattle.reasons.specs.Asked.{entry_asked}
 use Rattle.reasons.proofs.entry_asked.Goals as goal

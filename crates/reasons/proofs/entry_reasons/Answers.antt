@@ -1,5 +1,4 @@
 -- `reasons::entry_reasons` meets its contract: the reasons of the entry's condition. Assumes nothing.
-use borrow.Author.Rules.{rules}
 use mathlib.Core.Path.{ap, ◌∙◌}
 use Rattle.tables.specs.File.{File}
 use Rattle.due.specs.declared.Condition.{Condition}

@@ -1,5 +1,4 @@
 -- `reasons::field_entry` meets its contract: the array is the entries' places, computed from their names. Assumes nothing.
-use borrow.Author.Rules.{rules}
 use native.Mathlib.Omega.{arith}
 use mathlib.Core.Path.{refl}
 use Rattle.lines.specs.Bytes.{same_bytes}

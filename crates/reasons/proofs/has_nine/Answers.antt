@@ -1,5 +1,4 @@
 -- `reasons::has_nine` meets its contract: what the stem states. Assumes nothing.
-use borrow.Author.Rules.{rules}
 use Rattle.reasons.proofs.has_nine.Goals as goal
 
 pub returns : goal.returns

@@ -1,5 +1,4 @@
 -- `reasons::passes` meets its contract: each arm is the definition of the test of that number. Assumes nothing.
-use borrow.Author.Rules.{rules}
 use mathlib.Core.Path.{refl}
 use Rattle.reasons.specs.Tests.{passes, test_of}
 use Rattle.reasons.proofs.Tests.{passes_at, none_passes}

@@ -1,5 +1,4 @@
 -- `writing::are_axles` meets its contract: the arms are the two ends of the range. Assumes nothing.
-use Prim.Native.Nat.{◌-◌}
 use Rattle.lines.proofs.Bools.{tests}
 use Rattle.writing.proofs.are_axles.Goals as goal
 

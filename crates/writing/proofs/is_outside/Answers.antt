@@ -1,6 +1,4 @@
 -- `writing::is_outside` meets its contract: the sum of the two numbers of the pair, which is exact, against the text's length. Assumes nothing.
-use Prim.Native.Nat.{◌-◌}
-use borrow.Author.Rules.{rules}
 use Rattle.writing.proofs.is_outside.Goals as goal
 
 pub returns : goal.returns

@@ -1,7 +1,5 @@
 -- `writing::is_right` meets its contract: an arm for each file, and none for other numbers. Assumes nothing.
 use mathlib.Core.Path.{sym, ◌∙◌}
-use Prim.Native.Nat.{◌-◌}
-use borrow.Author.Rules.{rules}
 use Rattle.tables.specs.File.{ac2, acc, drift, suspension, gas, opacity}
 use Rattle.writing.proofs.Quotes.{right_of, right-none}
 use Rattle.writing.proofs.is_right.Goals as goal

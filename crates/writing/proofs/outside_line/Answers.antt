@@ -1,11 +1,9 @@
 -- `writing::outside_line` meets its contract: the check from the start is the check from here on, until a pair is found outside. Assumes nothing.
 use mathlib.Core.Path.{sym, ◌∙◌}
-use Prim.Native.Nat.{◌-◌}
 use borrow.Author.Rules.{rules}
 use Rattle.tables.specs.File.{table_of}
 use Rattle.tables.specs.Row.{row_kinds}
-use Rattle.writing.specs.Writing.{is_outside}
-use Rattle.writing.proofs.Checks.{Turn, turn-start, turn-room, turn-entry, turn-heading, turn-found, turn_end, EntryRow}
+use Rattle.writing.proofs.Checks.{turn-start, turn-room, turn-entry, turn-heading, turn-found, turn_end, EntryRow}
 use Rattle.writing.proofs.outside_line.Lts as lts
 use Rattle.writing.proofs.outside_line.Tie as tie
 use Rattle.writing.proofs.outside_line.Goals as goal

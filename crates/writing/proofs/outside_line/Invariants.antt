@@ -1,10 +1,8 @@
-use mathlib.Core.Path.{sym, ◌∙◌}
 use Prim.Native.Nat.{◌-◌}
-use borrow.Author.Rules.{rules}
 use Rattle.tables.specs.File.{table_of}
 use Rattle.tables.specs.Row.{row_kinds}
 use Rattle.writing.specs.Writing.{is_outside}
-use Rattle.writing.proofs.Checks.{Turn, turn-start, turn-room, turn-entry, turn-heading, turn-found, turn_end, EntryRow}
+use Rattle.writing.proofs.Checks.{Turn}
 use Rattle.writing.proofs.outside_line.Given as goal
 
 abbrev pub invariant-loop-row : goal.invariant-loop-row

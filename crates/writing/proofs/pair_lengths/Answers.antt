@@ -1,11 +1,7 @@
 -- `writing::pair_lengths` meets its contract: the sum so far and the lengths from here on are the lengths of all pairs. Assumes nothing.
-use mathlib.Core.Path.{◌≡◌}
-use Prim.Native.Nat.{◌+◌, ◌-◌, ◌*◌, ◌≤◌}
 use native.Mathlib.Omega.{arith}
 use borrow.Author.Rules.{rules}
-use Rattle.places.specs.Places.{pairs_at}
-use Rattle.writing.specs.Steps.{pair_lengths}
-use Rattle.writing.proofs.Lengths.{lengths_from, lengths-first, lengths-next, lengths-end}
+use Rattle.writing.proofs.Lengths.{lengths-first, lengths-next, lengths-end}
 use Rattle.writing.proofs.pair_lengths.Goals as goal
 
 pub loop-i-init : goal.loop-i-init

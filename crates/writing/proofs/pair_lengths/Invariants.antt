@@ -1,10 +1,8 @@
 use mathlib.Core.Path.{◌≡◌}
 use Prim.Native.Nat.{◌+◌, ◌-◌, ◌*◌, ◌≤◌}
-use native.Mathlib.Omega.{arith}
-use borrow.Author.Rules.{rules}
 use Rattle.places.specs.Places.{pairs_at}
 use Rattle.writing.specs.Steps.{pair_lengths}
-use Rattle.writing.proofs.Lengths.{lengths_from, lengths-first, lengths-next, lengths-end}
+use Rattle.writing.proofs.Lengths.{lengths_from}
 use Rattle.writing.proofs.pair_lengths.Given as goal
 
 abbrev pub invariant-loop-i : goal.invariant-loop-i

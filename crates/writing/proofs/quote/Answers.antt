@@ -3,8 +3,6 @@ use mathlib.Core.Path.{◌≡◌, ap, sym, ◌∙◌}
 use mathlib.Core.Bool.{true, false}
 use Prim.Native.Nat.{◌≤◌, ◌<◌}
 use lib.ListN.{length}
-use borrow.Author.Rules.{rules}
-use borrow.Author.Tests.{not-true, not-false}
 use Rattle.tables.specs.File.{least_places}
 use Rattle.writing.specs.Writing.{answer_of, is_right}
 use Rattle.writing.proofs.Quotes.{quote-places, quote-file}

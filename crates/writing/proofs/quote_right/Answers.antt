@@ -1,8 +1,7 @@
 -- `writing::quote_right` meets its contract: 17 and 9 by their loops; where both pass, the length is the table's and the pairs'. Assumes nothing.
 use mathlib.Core.Path.{ap, sym, ◌∙◌}
-use Prim.Native.Nat.{◌+◌, ◌-◌, ◌≤◌}
+use Prim.Native.Nat.{◌+◌, ◌≤◌}
 use native.Mathlib.Omega.{arith}
-use borrow.Author.Rules.{rules}
 use Rattle.reading.specs.Tables.{most_bytes}
 use Rattle.writing.specs.Writing.{answer_of}
 use Rattle.writing.proofs.Checks.{found-line, no_line}

@@ -1,8 +1,7 @@
 -- `writing::section_count` meets its contract: the sections that are no axle's, and the axles. Assumes nothing.
 use mathlib.Core.Path.{ap, ◌∙◌}
-use Prim.Native.Nat.{ℕ, ◌+◌, ◌-◌}
+use Prim.Native.Nat.{ℕ, ◌+◌}
 use native.Mathlib.Omega.{arith}
-use borrow.Author.Rules.{rules}
 use Rattle.writing.proofs.Quotes.{right-file, section-sum, fixed-few}
 use Rattle.writing.proofs.section_count.Goals as goal
 

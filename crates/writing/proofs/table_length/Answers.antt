@@ -1,7 +1,5 @@
 -- `writing::table_length` meets its contract: an arm for each file, its number computed from the table, each axle the same. Assumes nothing.
 use mathlib.Core.Path.{sym}
-use Prim.Native.Nat.{◌-◌}
-use borrow.Author.Rules.{rules}
 use Rattle.tables.specs.File.{ac2, acc, drift, suspension, gas, opacity, sections}
 use Rattle.reading.specs.Tables.{table_length}
 use Rattle.tables.proofs.Files.{of_none}

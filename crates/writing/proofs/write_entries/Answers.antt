@@ -1,10 +1,8 @@
 -- `writing::write_entries` meets its contract: the bytes so far and the lines from here on are the bytes of all entries. Assumes nothing.
-use Prim.Native.Nat.{◌-◌}
 use native.Mathlib.Omega.{arith}
-use borrow.Author.Rules.{rules}
 use Rattle.tables.specs.File.{table_of}
 use Rattle.tables.specs.Row.{entries_in}
-use Rattle.writing.proofs.Bytes.{Entries, entries-start, entries-room, entries_next, entries-end}
+use Rattle.writing.proofs.Bytes.{entries-start, entries-room, entries_next, entries-end}
 use Rattle.places.proofs.Values.{within-at}
 use Rattle.writing.proofs.write_entries.Goals as goal
 

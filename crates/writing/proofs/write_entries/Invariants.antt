@@ -1,10 +1,7 @@
 use Prim.Native.Nat.{◌-◌}
-use native.Mathlib.Omega.{arith}
-use borrow.Author.Rules.{rules}
 use Rattle.tables.specs.File.{table_of}
 use Rattle.tables.specs.Row.{entries_in}
-use Rattle.writing.proofs.Bytes.{Entries, entries-start, entries-room, entries_next, entries-end}
-use Rattle.places.proofs.Values.{within-at}
+use Rattle.writing.proofs.Bytes.{Entries}
 use Rattle.writing.proofs.write_entries.Given as goal
 
 abbrev pub invariant-loop-entry : goal.invariant-loop-entry

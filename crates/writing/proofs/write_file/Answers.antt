@@ -1,11 +1,8 @@
 -- `writing::write_file` meets its contract: what the checks refuse leaves the output, and what they accept has room and is written. Assumes nothing.
-use mathlib.Core.Path.{◌≡◌, ap, sym, ◌∙◌}
-use Prim.Native.Nat.{◌-◌}
-use borrow.Author.Rules.{rules}
-use lib.ListN.{length}
+use mathlib.Core.Path.{ap, sym, ◌∙◌}
 use Rattle.lines.specs.Writing.{put}
-use Rattle.writing.specs.Writing.{quoted_is, quote_file, quote, bytes_of, written, answer_of}
-use Rattle.writing.proofs.Quotes.{right-file, RightFile}
+use Rattle.writing.specs.Writing.{quoted_is, quote_file, bytes_of}
+use Rattle.writing.proofs.Quotes.{right-file}
 use Rattle.writing.proofs.Acceptance.{written-inv, accepted-right, bytes-are, ready-to-write, out-refused, out-short, out_written}
 use Rattle.writing.proofs.write_file.Goals as goal
 

@@ -1,6 +1,4 @@
 -- `writing::write_section` meets its contract: the heading's line, then the entries'. Assumes nothing.
-use Prim.Native.Nat.{◌-◌}
-use borrow.Author.Rules.{rules}
 use Rattle.tables.specs.File.{table_of}
 use Rattle.writing.proofs.Bytes.{heading-room, entries-ready, section-wrote}
 use Rattle.writing.proofs.write_section.Goals as goal

@@ -1,9 +1,7 @@
 -- `writing::write_sections` meets its contract: the bytes so far and the lines of the sections from here on are the bytes of all sections. Assumes nothing.
-use Prim.Native.Nat.{◌-◌}
 use native.Mathlib.Omega.{arith}
-use borrow.Author.Rules.{rules}
 use Rattle.tables.specs.File.{table_of}
-use Rattle.writing.proofs.Bytes.{Sections, sections-start, section-ready, section-pairs, sections-next, sections-end}
+use Rattle.writing.proofs.Bytes.{sections-start, section-ready, section-pairs, sections-next, sections-end}
 use Rattle.writing.proofs.write_sections.Goals as goal
 
 pub loop-section-init : goal.loop-section-init

@@ -1,8 +1,6 @@
 use Prim.Native.Nat.{◌-◌}
-use native.Mathlib.Omega.{arith}
-use borrow.Author.Rules.{rules}
 use Rattle.tables.specs.File.{table_of}
-use Rattle.writing.proofs.Bytes.{Sections, sections-start, section-ready, section-pairs, sections-next, sections-end}
+use Rattle.writing.proofs.Bytes.{Sections}
 use Rattle.writing.proofs.write_sections.Given as goal
 
 abbrev pub invariant-loop-section : goal.invariant-loop-section

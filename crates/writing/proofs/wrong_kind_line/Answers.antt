@@ -2,7 +2,7 @@
 use Rattle.places.specs.Places.{start_of, length_of}
 use mathlib.Core.Path.{◌≡◌, ap, sym, ◌∙◌}
 use mathlib.Core.List.{List}
-use Prim.Native.Nat.{ℕ, ◌-◌}
+use Prim.Native.Nat.{ℕ}
 use borrow.Author.Rules.{rules}
 use mathlib.Core.Bool.{not}
 use Rattle.kinds.specs.Kind.{kind_of}
@@ -10,7 +10,7 @@ use Rattle.kinds.specs.Value.{kind_kept}
 use Rattle.tables.specs.File.{table_of}
 use Rattle.tables.specs.Row.{row_kinds}
 use Rattle.writing.specs.Writing.{is_wrong_kind}
-use Rattle.writing.proofs.Checks.{Turn, turn-start, turn-room, turn-entry, turn-heading, turn-found, turn_end, AllWithin, this-within, next-within, heading-within, EntryRow}
+use Rattle.writing.proofs.Checks.{turn-start, turn-room, turn-entry, turn-heading, turn-found, turn_end, this-within, next-within, heading-within, EntryRow}
 use Rattle.writing.proofs.wrong_kind_line.Lts as lts
 use Rattle.writing.proofs.wrong_kind_line.Tie as tie
 use Rattle.writing.proofs.wrong_kind_line.Goals as goal

@@ -1,15 +1,8 @@
-use Rattle.places.specs.Places.{start_of, length_of}
-use mathlib.Core.Path.{◌≡◌, ap, sym, ◌∙◌}
-use mathlib.Core.List.{List}
-use Prim.Native.Nat.{ℕ, ◌-◌}
-use borrow.Author.Rules.{rules}
-use mathlib.Core.Bool.{not}
-use Rattle.kinds.specs.Kind.{kind_of}
-use Rattle.kinds.specs.Value.{kind_kept}
+use Prim.Native.Nat.{◌-◌}
 use Rattle.tables.specs.File.{table_of}
 use Rattle.tables.specs.Row.{row_kinds}
 use Rattle.writing.specs.Writing.{is_wrong_kind}
-use Rattle.writing.proofs.Checks.{Turn, turn-start, turn-room, turn-entry, turn-heading, turn-found, turn_end, AllWithin, this-within, next-within, heading-within, EntryRow}
+use Rattle.writing.proofs.Checks.{Turn, AllWithin}
 use Rattle.writing.proofs.wrong_kind_line.Given as goal
 
 abbrev pub invariant-loop-row : goal.invariant-loop-row

@@ -1,5 +1,4 @@
 -- `mctc::asked::fill_ends` meets its contract: the ten ends, one by one. Assumes nothing.
-use borrow.Author.Rules.{rules}
 use native.Mathlib.Omega.{arith}
 use Rattle.mctc.proofs.Asking.{small}
 use Rattle.mctc.proofs.asked.fill_ends.Goals as goal

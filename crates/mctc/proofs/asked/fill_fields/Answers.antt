@@ -1,5 +1,4 @@
 -- `mctc::asked::fill_fields` meets its contract: 14, or the ends. Assumes nothing.
-use borrow.Author.Rules.{rules}
 use Rattle.mctc.proofs.asked.fill_fields.Goals as goal
 
 pub fill_ends-requires : goal.fill_ends-requires

@@ -1,5 +1,4 @@
 -- `mctc::asked::mctc_condition` meets its contract: nothing is done, or what is asked and why is put into the array. Assumes nothing.
-use borrow.Author.Rules.{rules}
 use native.Mathlib.Omega.{arith}
 use Rattle.mctc.proofs.Asking.{ask-short, ask-done}
 use Rattle.mctc.proofs.asked.mctc_condition.Goals as goal

@@ -1,8 +1,6 @@
 -- `mctc::asked::mctc_field` meets its contract: nothing is done, 16, or the entry. Assumes nothing.
-use borrow.Author.Rules.{rules}
 use mathlib.Core.Path.{sym, ◌∙◌}
 use native.Mathlib.Omega.{arith}
-use borrow.Author.Tests.{not-true, not-false}
 use Rattle.mctc.proofs.Asking.{ask-short, ask-done}
 use Rattle.mctc.proofs.asked.mctc_field.Goals as goal
 

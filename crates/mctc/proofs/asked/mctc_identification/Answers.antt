@@ -1,5 +1,4 @@
 -- `mctc::asked::mctc_identification` meets its contract: nothing is done, or what was read is put into the array. Assumes nothing.
-use borrow.Author.Rules.{rules}
 use native.Mathlib.Omega.{arith}
 use Rattle.mctc.proofs.Asking.{ask-short, ask-done, ends-fit}
 use Rattle.mctc.proofs.asked.mctc_identification.Goals as goal

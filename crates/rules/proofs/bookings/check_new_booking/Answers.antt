@@ -1,5 +1,4 @@
 -- `rules::bookings::check_new_booking` meets its contract: the two rules in their order, over the values at AC2's pairs. Assumes nothing.
-use borrow.Author.Rules.{rules}
 use lib.Dec.{lit<}
 use Rattle.serial.proofs.Tests.{passed, failed}
 use Rattle.tables.proofs.Values.{new-held}

@@ -1,5 +1,4 @@
 -- `rules::bookings::check_old_booking` meets its contract: the six rules in their order, over the values at the pairs of AC2 and ACC. Assumes nothing.
-use borrow.Author.Rules.{rules}
 use mathlib.Core.Path.{ap}
 use lib.Dec.{lit<}
 use Rattle.serial.proofs.Tests.{passed, failed}

@@ -1,9 +1,9 @@
 -- `rules::bookings::count_s` meets its contract: the count so far and that of the rest make the whole. Assumes nothing.
 use borrow.Author.Rules.{rules}
 use mathlib.Core.Path.{◌≡◌, ◌∙◌}
-use Prim.Native.Nat.{◌+◌, ◌-◌, ◌≤◌}
+use Prim.Native.Nat.{◌+◌}
 use native.Mathlib.Omega.{arith}
-use lib.ListN.{length, drop}
+use lib.ListN.{drop}
 use Rattle.rules.specs.Bookings.{count_of}
 use Rattle.rules.proofs.Tests.{count-step, count-end}
 use Rattle.rules.proofs.bookings.count_s.Goals as goal

@@ -1,10 +1,7 @@
-use borrow.Author.Rules.{rules}
-use mathlib.Core.Path.{◌≡◌, ◌∙◌}
+use mathlib.Core.Path.{◌≡◌}
 use Prim.Native.Nat.{◌+◌, ◌-◌, ◌≤◌}
-use native.Mathlib.Omega.{arith}
 use lib.ListN.{length, drop}
 use Rattle.rules.specs.Bookings.{count_of}
-use Rattle.rules.proofs.Tests.{count-step, count-end}
 use Rattle.rules.proofs.bookings.count_s.Given as goal
 
 abbrev pub invariant-loop-i : goal.invariant-loop-i

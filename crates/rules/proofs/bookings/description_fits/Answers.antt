@@ -1,5 +1,4 @@
 -- `rules::bookings::description_fits` meets its contract: the words of each category's list are compared. Assumes nothing.
-use borrow.Author.Rules.{rules}
 use mathlib.Core.Path.{sym, refl, ◌∙◌}
 use Rattle.kinds.specs.Value.{is_word, word_index}
 use Rattle.rules.proofs.Tests.{word-last}

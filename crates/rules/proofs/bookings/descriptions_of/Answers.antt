@@ -1,5 +1,4 @@
 -- `rules::bookings::descriptions_of` meets its contract: the table is what the definition says of each category. Assumes nothing.
-use borrow.Author.Rules.{rules}
 use Rattle.rules.proofs.Categories.{descriptions-in, descriptions-past}
 use Rattle.rules.proofs.bookings.descriptions_of.Goals as goal
 

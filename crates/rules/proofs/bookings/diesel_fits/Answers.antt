@@ -1,5 +1,4 @@
 -- `rules::bookings::diesel_fits` meets its contract: the tests are those of the definition. Assumes nothing.
-use borrow.Author.Rules.{rules}
 use mathlib.Core.Path.{sym, ◌∙◌}
 use Rattle.rules.specs.Bookings.{diesel_fits}
 use Rattle.rules.proofs.bookings.diesel_fits.Goals as goal

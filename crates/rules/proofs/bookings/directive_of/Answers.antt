@@ -1,5 +1,4 @@
 -- `rules::bookings::directive_of` meets its contract: list 3 is that of the petrol directives, in its order. Assumes nothing.
-use borrow.Author.Rules.{rules}
 use Rattle.rules.proofs.Tests.{directive-is, no-directive}
 use Rattle.rules.proofs.bookings.directive_of.Goals as goal
 

@@ -1,5 +1,4 @@
 -- `rules::bookings::fuel_fits` meets its contract: each fuel leads to the values that the definition names. Assumes nothing.
-use borrow.Author.Rules.{rules}
 use lib.Dec.{lit<}
 use Rattle.rules.specs.Bookings.{fuel_fits}
 use Rattle.tables.proofs.Values.{new-held}

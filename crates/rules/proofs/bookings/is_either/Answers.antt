@@ -1,5 +1,4 @@
 -- `rules::bookings::is_either` meets its contract: a value among words is the first of them or one of the others. Assumes nothing.
-use borrow.Author.Rules.{rules}
 use mathlib.Core.Path.{sym, ◌∙◌}
 use Rattle.rules.proofs.Tests.{word-here, word-later, word-last}
 use Rattle.rules.proofs.bookings.is_either.Goals as goal

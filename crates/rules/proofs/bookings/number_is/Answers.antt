@@ -1,5 +1,4 @@
 -- `rules::bookings::number_is` meets its contract: the value reads as a number, and it is compared; or it is none. Assumes nothing.
-use borrow.Author.Rules.{rules}
 use mathlib.Core.Path.{sym, ◌∙◌}
 use Rattle.rules.specs.Bookings.{number_is}
 use Rattle.rules.proofs.Tests.{number_of, no_number}

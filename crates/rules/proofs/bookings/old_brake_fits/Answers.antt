@@ -1,5 +1,4 @@
 -- `rules::bookings::old_brake_fits` meets its contract: the tests are those of the definition. Assumes nothing.
-use borrow.Author.Rules.{rules}
 use Rattle.serial.proofs.Tests.{passed, failed}
 use Rattle.rules.specs.Bookings.{old_brake_fits}
 use Rattle.rules.proofs.bookings.old_brake_fits.Goals as goal

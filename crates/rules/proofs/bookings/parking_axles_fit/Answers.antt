@@ -1,5 +1,4 @@
 -- `rules::bookings::parking_axles_fit` meets its contract: the number is compared with the count. Assumes nothing.
-use borrow.Author.Rules.{rules}
 use Rattle.rules.specs.Bookings.{parking_axles_fit}
 use Rattle.rules.proofs.bookings.parking_axles_fit.Goals as goal
 

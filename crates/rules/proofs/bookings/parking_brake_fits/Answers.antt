@@ -1,5 +1,4 @@
 -- `rules::bookings::parking_brake_fits` meets its contract: the tests are those of the definition. Assumes nothing.
-use borrow.Author.Rules.{rules}
 use mathlib.Core.Path.{sym, ap, ◌∙◌}
 use mathlib.Core.Bool.{not}
 use Rattle.rules.specs.Bookings.{parking_brake_fits}

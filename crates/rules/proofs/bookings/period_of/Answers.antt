@@ -1,5 +1,4 @@
 -- `rules::bookings::period_of` meets its contract: the value reads as a day, or it is none. Assumes nothing.
-use borrow.Author.Rules.{rules}
 use mathlib.Core.Path.{sym, ◌∙◌}
 use Rattle.rules.proofs.Tests.{no-day}
 use Rattle.rules.proofs.bookings.period_of.Goals as goal

@@ -1,5 +1,4 @@
 -- `rules::bookings::petrol_fits` meets its contract: each word is compared with the value. Assumes nothing.
-use borrow.Author.Rules.{rules}
 use Rattle.rules.proofs.bookings.petrol_fits.Goals as goal
 
 pub returns-in-Cat : goal.returns-in-Cat

@@ -1,5 +1,4 @@
 -- `rules::bookings::type_fits` meets its contract: each type is compared with its word. Assumes nothing.
-use borrow.Author.Rules.{rules}
 use Rattle.rules.proofs.bookings.type_fits.Goals as goal
 
 pub returns-in-Leggero : goal.returns-in-Leggero

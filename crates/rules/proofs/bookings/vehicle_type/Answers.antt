@@ -1,5 +1,4 @@
 -- `rules::bookings::vehicle_type` meets its contract: the table is what the definition says of each category. Assumes nothing.
-use borrow.Author.Rules.{rules}
 use Rattle.rules.proofs.Categories.{type-in, type-past}
 use Rattle.rules.proofs.bookings.vehicle_type.Goals as goal
 

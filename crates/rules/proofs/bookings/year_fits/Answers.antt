@@ -1,5 +1,4 @@
 -- `rules::bookings::year_fits` meets its contract: the bytes behind the first four are compared, of fewer than four none. Assumes nothing.
-use borrow.Author.Rules.{rules}
 use Prim.Native.Nat.{◌≤◌}
 use native.Mathlib.Omega.{arith}
 use lib.ListN.{length, drop_of_length-le}

@@ -1,5 +1,4 @@
 -- `rules::differences::axle_fits` meets its contract: the three values read as numbers and fit, or one is none. Assumes nothing.
-use borrow.Author.Rules.{rules}
 use mathlib.Core.Path.{sym, ◌∙◌}
 use Rattle.rules.specs.Differences.{difference_fits}
 use Rattle.rules.proofs.Tests.{number_of, no_number}

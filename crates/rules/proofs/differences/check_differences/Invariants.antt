@@ -1,15 +1,9 @@
-use borrow.Author.Rules.{rules}
-use mathlib.Core.Path.{◌≡◌, refl, sym, ◌∙◌}
-use Prim.Native.Nat.{◌+◌, ◌-◌, ◌*◌, ◌≤◌}
-use native.Mathlib.Omega.{arith}
-use native.Mathlib.Nat.{sub-zero}
+use mathlib.Core.Path.{◌≡◌}
+use Prim.Native.Nat.{◌-◌, ◌≤◌}
 use Rattle.tables.specs.File.{suspension}
 use Rattle.tables.specs.Value.{values_of}
-use Rattle.tables.proofs.Values.{axle-held}
 use Rattle.rules.specs.Rule.{first_broken}
 use Rattle.rules.specs.Differences.{differences_from}
-use Rattle.serial.proofs.Tests.{passed, failed}
-use Rattle.rules.proofs.Rules.{difference-step, difference-end}
 use Rattle.rules.proofs.differences.check_differences.Given as goal
 
 abbrev pub invariant-loop-i : goal.invariant-loop-i

@@ -1,5 +1,4 @@
 -- `rules::differences::difference_of` meets its contract: the test is that of the definition. Assumes nothing.
-use borrow.Author.Rules.{rules}
 use Rattle.lines.proofs.Bools.{tests}
 use Rattle.rules.proofs.differences.difference_of.Goals as goal
 

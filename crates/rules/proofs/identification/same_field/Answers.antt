@@ -1,5 +1,4 @@
 -- `rules::identification::same_field` meets its contract: the field is compared with the value of the pair. Assumes nothing.
-use borrow.Author.Rules.{rules}
 use Rattle.rules.proofs.identification.same_field.Goals as goal
 
 pub returns : goal.returns

@@ -1,5 +1,4 @@
 -- `rules::slices::good_stem` meets its contract: the tests are those of the definition. Assumes nothing.
-use borrow.Author.Rules.{rules}
 use borrow.Author.Tests.{eq-eqb, ne_eqb}
 use Rattle.kinds.proofs.Laws.{tail_all}
 use Rattle.serial.proofs.Tests.{passed, failed}

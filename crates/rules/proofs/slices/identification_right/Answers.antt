@@ -1,5 +1,4 @@
 -- `rules::slices::identification_right` meets its contract: without gas the answer is not due, with gas by its link. Assumes nothing.
-use borrow.Author.Rules.{rules}
 use native.Mathlib.Omega.{arith}
 use borrow.Author.Tests.{lt-ltb, le-ltb}
 use Rattle.rules.specs.Slices.{identification_right}

@@ -1,5 +1,4 @@
 -- `rules::slices::is_read` meets its contract: each file that is given, but ACC with L. Assumes nothing.
-use borrow.Author.Rules.{rules}
 use mathlib.Core.Path.{refl, sym, ap}
 use mathlib.Core.Bool.{not}
 use borrow.Author.Tests.{not-true, not-false}

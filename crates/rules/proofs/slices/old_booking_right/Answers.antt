@@ -1,5 +1,4 @@
 -- `rules::slices::old_booking_right` meets its contract: the tests are those of the definition. Assumes nothing.
-use borrow.Author.Rules.{rules}
 use mathlib.Core.Path.{sym, ap, ◌∙◌}
 use mathlib.Core.Bool.{not}
 use Rattle.rules.specs.Slices.{old_booking_right}

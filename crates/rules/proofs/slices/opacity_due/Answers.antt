@@ -1,5 +1,4 @@
 -- `rules::slices::opacity_due` meets its contract: the tests are those of the definition. Assumes nothing.
-use borrow.Author.Rules.{rules}
 use mathlib.Core.Path.{sym, ◌∙◌}
 use Rattle.rules.specs.Slices.{opacity_due}
 use Rattle.rules.proofs.slices.opacity_due.Goals as goal

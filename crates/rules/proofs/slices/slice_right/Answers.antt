@@ -1,5 +1,4 @@
 -- `rules::slices::slice_right` meets its contract: each file by its number; drift and suspension are optional. Assumes nothing.
-use borrow.Author.Rules.{rules}
 use mathlib.Core.Path.{refl, sym, ap, ◌∙◌}
 use mathlib.Core.Bool.{Bool, true}
 use Rattle.tables.specs.File.{File, ac2, acc, gas, opacity}

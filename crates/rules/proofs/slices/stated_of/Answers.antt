@@ -1,5 +1,4 @@
 -- `rules::slices::stated_of` meets its contract: the third byte is compared with 9; of fewer than three bytes there is none. Assumes nothing.
-use borrow.Author.Rules.{rules}
 use mathlib.Core.Path.{refl}
 use Prim.Native.Nat.{◌≤◌}
 use native.Mathlib.Omega.{arith}
