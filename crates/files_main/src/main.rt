@@ -10,6 +10,8 @@ ghost use Rattle.std.specs.Prelude.{◌≤◌, length};
 
 use files::FileAnswer;
 use refusals::Refusal;
+use std::io;
+use std::io::{BufWriter, Read, Write};
 use writing::WriteAnswer;
 
 // Where the next byte 00 from `at` on is, or the end.
@@ -97,31 +99,30 @@ fn size_at(line: &[u8], word: usize, most: usize) -> usize
     if n < most { n } else { most }
 }
 
-fn print_number(n: u32) {
-    io::write_all(1, b" ");
-    io::print_decimal(1, n as u64);
+fn print_number(out: &mut impl Write, n: u32) -> io::Result<()> {
+    write!(out, " {n}")
 }
 
-fn show_refusal(refusal: Refusal) {
-    io::write_all(1, b"refused");
+fn show_refusal(out: &mut impl Write, refusal: Refusal) -> io::Result<()> {
+    out.write_all(b"refused")?;
     let kind = refusal.kind;
-    print_number(refusals::refusal_number(kind));
-    print_number(refusal.file);
-    print_number(refusal.line);
-    io::write_all(1, b"\n");
+    print_number(out, refusals::refusal_number(kind))?;
+    print_number(out, refusal.file)?;
+    print_number(out, refusal.line)?;
+    out.write_all(b"\n")
 }
 
-fn show_file_answer(answer: FileAnswer) {
+fn show_file_answer(out: &mut impl Write, answer: FileAnswer) -> io::Result<()> {
     match answer {
         FileAnswer::Accepted(acceptance) => {
-            io::write_all(1, b"accepted");
-            print_number(acceptance.axles);
+            out.write_all(b"accepted")?;
+            print_number(out, acceptance.axles)?;
             if acceptance.byhand {
-                io::write_all(1, b" by hand");
+                out.write_all(b" by hand")?;
             }
-            io::write_all(1, b"\n");
+            out.write_all(b"\n")
         }
-        FileAnswer::Refused(refusal) => show_refusal(refusal),
+        FileAnswer::Refused(refusal) => show_refusal(out, refusal),
     }
 }
 
@@ -129,27 +130,28 @@ fn is_unused(start: u32, size: u32) -> bool {
     if start == 0 { size == 0 } else { false }
 }
 
-fn show_pair(k: usize, start: u32, size: u32) {
+fn show_pair(out: &mut impl Write, k: usize, start: u32, size: u32) -> io::Result<()> {
     if is_unused(start, size) {
-        return;
+        return Ok(());
     }
-    io::write_all(1, b" ");
-    io::print_decimal(1, k as u64);
-    io::write_all(1, b":");
-    io::print_decimal(1, start as u64);
-    io::write_all(1, b"+");
-    io::print_decimal(1, size as u64);
+    write!(out, " {k}:{start}+{size}")
 }
 
 // The pairs that are not 0, each behind its number.
-fn show_pairs(places: &[u32])
+fn show_pairs(out: &mut impl Write, places: &[u32]) -> io::Result<()>
     requires { 388 ≤ length places.now }
 {
     let mut k = 0;
     while k < 194 {
-        show_pair(k, places::start_of(places, k), places::length_of(places, k));
+        show_pair(
+            out,
+            k,
+            places::start_of(places, k),
+            places::length_of(places, k),
+        )?;
         k += 1;
     }
+    Ok(())
 }
 
 // How many numbers from `from` on hold 7, as before.
@@ -182,57 +184,64 @@ fn kept_bytes(output: &[u8], from: usize) -> usize {
     kept
 }
 
-fn show_kept(n: usize) {
-    io::write_all(1, b"kept ");
-    io::print_decimal(1, n as u64);
-    io::write_all(1, b"\n");
+fn show_kept(out: &mut impl Write, n: usize) -> io::Result<()> {
+    writeln!(out, "kept {n}")
 }
 
-fn show_places(places: &[u32]) {
+fn show_places(out: &mut impl Write, places: &[u32]) -> io::Result<()> {
     if places.len() < 388 {
-        show_kept(kept_numbers(places, 0));
-        return;
+        return show_kept(out, kept_numbers(places, 0));
     }
-    io::write_all(1, b"pairs");
-    show_pairs(places);
-    io::write_all(1, b"\n");
-    show_kept(kept_numbers(places, 388));
+    out.write_all(b"pairs")?;
+    show_pairs(out, places)?;
+    out.write_all(b"\n")?;
+    show_kept(out, kept_numbers(places, 388))
 }
 
-fn read_lent(file: u32, text: &[u8], places: &mut [u32]) {
+fn read_lent(out: &mut impl Write, file: u32, text: &[u8], places: &mut [u32]) -> io::Result<()> {
     let answer = files::read_alone(file, text, places);
-    show_file_answer(answer);
-    show_places(places);
+    show_file_answer(out, answer)?;
+    show_places(out, places)
 }
 
-fn show_read(command: &[u8], text: &[u8]) {
+fn show_read(out: &mut impl Write, command: &[u8], text: &[u8]) -> io::Result<()> {
     let mut places = [7u32; 420];
     let n = size_at(command, 2, 420);
-    read_lent(number_at(command, 1), text, &mut places[..n]);
+    read_lent(out, number_at(command, 1), text, &mut places[..n])
 }
 
 // The written bytes, what reading them back answers, and how many later bytes stayed.
-fn show_written(file: u32, length: usize, output: &[u8], places: &mut [u32]) {
-    io::write_all(1, b"written ");
-    io::print_decimal(1, length as u64);
-    io::write_all(1, b"\n");
+fn show_written(
+    out: &mut impl Write,
+    file: u32,
+    length: usize,
+    output: &[u8],
+    places: &mut [u32],
+) -> io::Result<()> {
+    writeln!(out, "written {length}")?;
     if output.len() < length {
-        return;
+        return Ok(());
     }
-    io::write_all(1, &output[..length]);
+    out.write_all(&output[..length])?;
     let answer = files::read_alone(file, &output[..length], places);
-    show_file_answer(answer);
-    show_kept(kept_bytes(output, length));
+    show_file_answer(out, answer)?;
+    show_kept(out, kept_bytes(output, length))
 }
 
-fn show_write_answer(file: u32, answer: WriteAnswer, output: &[u8], places: &mut [u32]) {
+fn show_write_answer(
+    out: &mut impl Write,
+    file: u32,
+    answer: WriteAnswer,
+    output: &[u8],
+    places: &mut [u32],
+) -> io::Result<()> {
     match answer {
         WriteAnswer::Written(acceptance) => {
-            show_written(file, acceptance.length as usize, output, places)
+            show_written(out, file, acceptance.length as usize, output, places)
         }
         WriteAnswer::Refused(refusal) => {
-            show_refusal(refusal);
-            show_kept(kept_bytes(output, 0));
+            show_refusal(out, refusal)?;
+            show_kept(out, kept_bytes(output, 0))
         }
     }
 }
@@ -259,53 +268,61 @@ fn change_pairs(command: &[u8], places: &mut [u32]) {
     }
 }
 
-fn write_lent(command: &[u8], text: &[u8], places: &mut [u32], output: &mut [u8]) {
+fn write_lent(
+    out: &mut impl Write,
+    command: &[u8],
+    text: &[u8],
+    places: &mut [u32],
+    output: &mut [u8],
+) -> io::Result<()> {
     let file = number_at(command, 1);
     files::read_alone(file, text, places);
     change_pairs(command, places);
     let answer = writing::write_file(text, places, file, number_at(command, 3), output);
-    show_write_answer(file, answer, output, places);
+    show_write_answer(out, file, answer, output, places)
 }
 
-fn show_write(command: &[u8], text: &[u8]) {
+fn show_write(out: &mut impl Write, command: &[u8], text: &[u8]) -> io::Result<()> {
     let mut places = [7u32; 420];
     let mut output = [170u8; 4096];
     let n = size_at(command, 2, 420);
     let m = size_at(command, 4, 4096);
-    write_lent(command, text, &mut places[..n], &mut output[..m]);
+    write_lent(out, command, text, &mut places[..n], &mut output[..m])
 }
 
 fn first_byte(command: &[u8]) -> u8 {
     if command.len() == 0 { 0 } else { command[0] }
 }
 
-fn show_case(command: &[u8], text: &[u8]) {
+fn show_case(out: &mut impl Write, command: &[u8], text: &[u8]) -> io::Result<()> {
     match first_byte(command) {
-        b'r' => show_read(command, text),
-        b'w' => show_write(command, text),
-        _ => (),
+        b'r' => show_read(out, command, text),
+        b'w' => show_write(out, command, text),
+        _ => Ok(()),
     }
 }
 
-fn show_all(input: &[u8]) {
+fn show_all(out: &mut impl Write, input: &[u8]) -> io::Result<()> {
     let mut at = 0;
     while at < input.len() {
         let title = part_end(input, at);
-        io::write_all(1, b"-- ");
-        io::write_all(1, &input[at..title]);
-        io::write_all(1, b"\n");
+        out.write_all(b"-- ")?;
+        out.write_all(&input[at..title])?;
+        out.write_all(b"\n")?;
         let from = after(input, title);
         let command = part_end(input, from);
         let text = after(input, command);
         let end = part_end(input, text);
-        show_case(&input[from..command], &input[text..end]);
+        show_case(out, &input[from..command], &input[text..end])?;
         at = end + 1;
     }
+    Ok(())
 }
 
-// The input holds a text just too long and one just short enough, more than io::large_buffer has room for.
-fn main() {
-    let mut input = [0u8; 262144];
-    let n = io::read_full(0, &mut input);
-    show_all(&input[..n]);
+fn main(rt: HostRuntime) -> io::Result<()> {
+    let mut input = Vec::new(rt.alloc());
+    rt.stdin().read_to_end(&mut input)?;
+    let mut out = BufWriter::new(rt.alloc(), rt.stdout())?;
+    show_all(&mut out, input.as_slice())?;
+    out.flush()
 }

@@ -9,7 +9,7 @@
 // F is one digit. With file 1 the second part is empty: AC2 is the file.
 #![tactic(auto)]
 
-ghost use Rattle.std.specs.Prelude.{◌≡◌, true, ◌+◌, ◌*◌, ◌<◌, ◌≤◌, min, length};
+ghost use Rattle.std.specs.Prelude.{◌≡◌, true, ◌+◌, ◌*◌, ◌<◌, ◌≤◌, min, length, IfOk};
 ghost use Rattle.places.specs.Places.{place_size, pairs_at, Within};
 ghost use Rattle.tables.specs.File.{ac2, gas as gas_file, entries, first_pair, least_places, of_number, most_axles};
 ghost use Rattle.serial.specs.Reading.{Ordered};
@@ -20,6 +20,8 @@ use files::TextAnswer;
 use refusals::RefusalKind;
 use rules::{RuleCheck, Stated};
 use serial::{FieldEnds, IdentificationRead};
+use std::io;
+use std::io::{BufWriter, Read, Write};
 
 // ---- reading a file
 
@@ -29,16 +31,15 @@ const LEAST_PLACES: usize = 388;
 // An axle count that no file has: the file was refused.
 const NOT_READ: usize = 10;
 
-fn print_number(n: u32) {
-    io::write_all(1, b" ");
-    io::print_decimal(1, n as u64);
+fn print_number(out: &mut impl Write, n: u32) -> io::Result<()> {
+    write!(out, " {n}")
 }
 
-fn print_refused(kind: RefusalKind, line: u32) {
-    io::write_all(1, b"refused");
-    print_number(refusals::refusal_number(kind));
-    io::write_all(1, b", line");
-    print_number(line);
+fn print_refused(out: &mut impl Write, kind: RefusalKind, line: u32) -> io::Result<()> {
+    out.write_all(b"refused")?;
+    print_number(out, refusals::refusal_number(kind))?;
+    out.write_all(b", line")?;
+    print_number(out, line)
 }
 
 fn axles_of(file: u32, sections: usize) -> usize {
@@ -50,38 +51,51 @@ fn axles_of(file: u32, sections: usize) -> usize {
 }
 
 // The axle count of a file, which is 0 for a file without axles; its pairs and lines are filled.
-fn read_file(file: u32, text: &[u8], places: &mut [u32], lines: &mut [u32]) -> usize
+fn read_file(
+    out: &mut impl Write,
+    file: u32,
+    text: &[u8],
+    places: &mut [u32],
+    lines: &mut [u32],
+) -> io::Result<usize>
     requires { (least_places ≤ length places.old) × (64 ≤ length lines.old) }
     ensures { length places.new ≡ length places.old }
 {
     match files::read_text(file, text, places, lines) {
         TextAnswer::Faulty(x) => {
             let kind = x.kind;
-            print_refused(kind, x.line);
-            io::write_all(1, b"\n");
-            NOT_READ
+            print_refused(out, kind, x.line)?;
+            out.write_all(b"\n")?;
+            Ok(NOT_READ)
         }
-        TextAnswer::Sections(count) => axles_of(file, count),
+        TextAnswer::Sections(count) => Ok(axles_of(file, count)),
     }
 }
 
-fn read_booking(text: &[u8], places: &mut [u32]) -> usize
+fn read_booking(out: &mut impl Write, text: &[u8], places: &mut [u32]) -> io::Result<usize>
     requires { least_places ≤ length places.old }
     ensures { length places.new ≡ length places.old }
 {
     let mut lines = [0u32; 64];
-    read_file(1, text, places, &mut lines)
+    read_file(out, 1, text, places, &mut lines)
 }
 
 // AC2, then the file, whose axle count and lines are handed back.
-fn read_both(file: u32, booking: &[u8], text: &[u8], places: &mut [u32], lines: &mut [u32]) -> usize
+fn read_both(
+    out: &mut impl Write,
+    file: u32,
+    booking: &[u8],
+    text: &[u8],
+    places: &mut [u32],
+    lines: &mut [u32],
+) -> io::Result<usize>
     requires { (least_places ≤ length places.old) × (64 ≤ length lines.old) }
     ensures { length places.new ≡ length places.old }
 {
-    if read_booking(booking, places) != 0 {
-        return NOT_READ;
+    if read_booking(out, booking, places)? != 0 {
+        return Ok(NOT_READ);
     }
-    read_file(file, text, places, lines)
+    read_file(out, file, text, places, lines)
 }
 
 // ---- pairs within their text
@@ -156,26 +170,29 @@ fn line_start(text: &[u8], place: usize) -> usize
 }
 
 // The name of the entry whose value starts here, as it stands in the text.
-fn print_name(text: &[u8], start: usize) {
+fn print_name(out: &mut impl Write, text: &[u8], start: usize) -> io::Result<()> {
     if start == 0 {
-        return;
+        return Ok(());
     }
     if text.len() < start {
-        return;
+        return Ok(());
     }
     let equals = start - 1;
     let from = line_start(text, equals);
-    io::write_all(1, &text[from..equals]);
+    out.write_all(&text[from..equals])
 }
 
-fn print_line(lines: &[u32], entry: usize) {
+fn print_line(out: &mut impl Write, lines: &[u32], entry: usize) -> io::Result<()> {
     if entry < lines.len() {
-        print_number(lines[entry]);
+        print_number(out, lines[entry])
+    } else {
+        Ok(())
     }
 }
 
 // A refusal at an entry of a file: its number, line and name. `none` where there is no such entry.
 fn print_refusal(
+    out: &mut impl Write,
     number: u32,
     entry: usize,
     file: u32,
@@ -183,41 +200,41 @@ fn print_refusal(
     text: &[u8],
     places: &[u32],
     lines: &[u32],
-)
+) -> io::Result<()>
     requires { (axles ≤ most_axles) × (least_places ≤ length places.now) }
 {
     let count = entry_count(file, axles);
     if count <= entry {
-        io::write_all(1, b"none\n");
-        return;
+        return out.write_all(b"none\n");
     }
-    io::write_all(1, b"refused");
-    print_number(number);
-    io::write_all(1, b", line");
-    print_line(lines, entry);
-    io::write_all(1, b": ");
+    out.write_all(b"refused")?;
+    print_number(out, number)?;
+    out.write_all(b", line")?;
+    print_line(out, lines, entry)?;
+    out.write_all(b": ")?;
     print_name(
+        out,
         text,
         places::start_of(places, tables::first_pair(file) + entry) as usize,
-    );
-    io::write_all(1, b"\n");
+    )?;
+    out.write_all(b"\n")
 }
 
 // ---- due entries
 
-fn print_due(due: Due) {
+fn print_due(out: &mut impl Write, due: Due) -> io::Result<()> {
     match due {
-        Due::IsDue => io::write_all(1, b"due     "),
-        Due::NotDue => io::write_all(1, b"not due "),
-        Due::IsFree => io::write_all(1, b"free    "),
-    };
+        Due::IsDue => out.write_all(b"due     "),
+        Due::NotDue => out.write_all(b"not due "),
+        Due::IsFree => out.write_all(b"free    "),
+    }
 }
 
-fn print_found(filled: bool) {
+fn print_found(out: &mut impl Write, filled: bool) -> io::Result<()> {
     if filled {
-        io::write_all(1, b"filled  ");
+        out.write_all(b"filled  ")
     } else {
-        io::write_all(1, b"empty   ");
+        out.write_all(b"empty   ")
     }
 }
 
@@ -229,66 +246,98 @@ fn differs(due: Due, filled: bool) -> bool {
     }
 }
 
-fn show_entry(due: Due, text: &[u8], places: &[u32], k: usize)
+fn show_entry(
+    out: &mut impl Write,
+    due: Due,
+    text: &[u8],
+    places: &[u32],
+    k: usize,
+) -> io::Result<()>
     requires { place_size * (k + 1) ≤ length places.now }
 {
     let filled = 0 < places::length_of(places, k);
-    print_due(due);
-    print_found(filled);
-    print_name(text, places::start_of(places, k) as usize);
+    print_due(out, due)?;
+    print_found(out, filled)?;
+    print_name(out, text, places::start_of(places, k) as usize)?;
     if differs(due, filled) {
-        io::write_all(1, b"  <- differs");
+        out.write_all(b"  <- differs")?;
     }
-    io::write_all(1, b"\n");
+    out.write_all(b"\n")
 }
 
-fn show_entries(file: u32, first: usize, count: usize, c: Conditions, text: &[u8], places: &[u32])
+fn show_entries(
+    out: &mut impl Write,
+    file: u32,
+    first: usize,
+    count: usize,
+    c: Conditions,
+    text: &[u8],
+    places: &[u32],
+) -> io::Result<()>
     requires { place_size * (first + count) ≤ length places.now }
 {
     let mut i = 0;
     while i < count {
-        show_entry(due::due_of(file, i, c), text, places, first + i);
+        show_entry(out, due::due_of(file, i, c), text, places, first + i)?;
         i += 1;
     }
+    Ok(())
 }
 
-fn show_mark(marked: bool) {
+fn show_mark(out: &mut impl Write, marked: bool) -> io::Result<()> {
     if marked {
-        io::write_all(1, b"marked\n");
+        out.write_all(b"marked\n")
+    } else {
+        Ok(())
     }
 }
 
-fn show_due(file: u32, axles: usize, booking: &[u8], text: &[u8], places: &[u32], lines: &[u32])
+fn show_due(
+    out: &mut impl Write,
+    file: u32,
+    axles: usize,
+    booking: &[u8],
+    text: &[u8],
+    places: &[u32],
+    lines: &[u32],
+) -> io::Result<()>
     requires { (axles ≤ most_axles) × Held ac2 0 booking.now places.now × NumberHeld file axles text.now places.now }
 {
     let c = due::conditions_of(file, due::booking_of(booking, places), text, places);
     let first = tables::first_pair(file);
     let count = entry_count(file, axles);
-    show_entries(file, first, count, c, text, places);
+    show_entries(out, file, first, count, c, text, places)?;
     let entry = due::first_not_as_due(file, first, count, c, places);
-    print_refusal(10, entry, file, axles, text, places, lines);
-    show_mark(rules::is_marked(file, axles, text, places));
+    print_refusal(out, 10, entry, file, axles, text, places, lines)?;
+    show_mark(out, rules::is_marked(file, axles, text, places))
 }
 
 // ---- bookings and Differenza%
 
-fn show_rules(file: u32, axles: usize, booking: &[u8], text: &[u8], places: &[u32], lines: &[u32])
+fn show_rules(
+    out: &mut impl Write,
+    file: u32,
+    axles: usize,
+    booking: &[u8],
+    text: &[u8],
+    places: &[u32],
+    lines: &[u32],
+) -> io::Result<()>
     requires { (axles ≤ most_axles) × Held ac2 0 booking.now places.now × NumberHeld file axles text.now places.now }
 {
     let b = due::booking_of(booking, places);
     match rules::first_broken(file, axles, b, booking, text, places) {
-        RuleCheck::Kept => {
-            io::write_all(1, b"kept\n");
-        }
+        RuleCheck::Kept => out.write_all(b"kept\n"),
         RuleCheck::Broken(x) => {
             let kind = x.kind;
             let number = refusals::refusal_number(kind);
-            print_refusal(number, x.entry, file, axles, text, places, lines);
+            print_refusal(out, number, x.entry, file, axles, text, places, lines)
         }
     }
 }
 
 fn show_held(
+    out: &mut impl Write,
     all_rules: bool,
     file: u32,
     axles: usize,
@@ -296,168 +345,191 @@ fn show_held(
     text: &[u8],
     places: &[u32],
     lines: &[u32],
-)
+) -> io::Result<()>
     requires { (axles ≤ most_axles) × (least_places ≤ length places.now) }
 {
     if !is_held(1, 0, booking, places) {
-        io::write_all(1, b"not within\n");
-        return;
+        return out.write_all(b"not within\n");
     }
     if !is_held(file, axles, text, places) {
-        io::write_all(1, b"not within\n");
-        return;
+        return out.write_all(b"not within\n");
     }
     if all_rules {
-        show_rules(file, axles, booking, text, places, lines);
+        show_rules(out, file, axles, booking, text, places, lines)
     } else {
-        show_due(file, axles, booking, text, places, lines);
+        show_due(out, file, axles, booking, text, places, lines)
     }
 }
 
 // Due entries, or else the other rules, of a file beside AC2.
-fn show_file(all_rules: bool, file: u32, booking: &[u8], text: &[u8]) {
+fn show_file(
+    out: &mut impl Write,
+    all_rules: bool,
+    file: u32,
+    booking: &[u8],
+    text: &[u8],
+) -> io::Result<()> {
     let mut places = [0u32; LEAST_PLACES];
     let mut lines = [0u32; 64];
-    let axles = read_both(file, booking, text, &mut places, &mut lines);
+    let axles = read_both(out, file, booking, text, &mut places, &mut lines)?;
     if axles < NOT_READ {
-        show_held(all_rules, file, axles, booking, text, &places, &lines);
+        show_held(out, all_rules, file, axles, booking, text, &places, &lines)
+    } else {
+        Ok(())
     }
 }
 
 // ---- the stem and the slices
 
-fn print_verdict(right: bool) {
+fn print_verdict(out: &mut impl Write, right: bool) -> io::Result<()> {
     if right {
-        io::write_all(1, b"right");
+        out.write_all(b"right")
     } else {
-        io::write_all(1, b"wrong");
+        out.write_all(b"wrong")
     }
 }
 
-fn show_stem(stem: &[u8]) {
+fn show_stem(out: &mut impl Write, stem: &[u8]) -> io::Result<()> {
     if rules::good_stem(stem) {
-        io::write_all(1, b"good stem\n");
+        out.write_all(b"good stem\n")
     } else {
-        io::write_all(1, b"refused 2\n");
+        out.write_all(b"refused 2\n")
     }
 }
 
-fn show_slice(file: u32, stated: Stated, booking: Booking) {
-    io::write_all(1, b"file");
-    print_number(file);
-    io::write_all(1, b": left out ");
-    print_verdict(rules::slice_right(file, stated, booking, false));
-    io::write_all(1, b", given ");
-    print_verdict(rules::slice_right(file, stated, booking, true));
+fn show_slice(out: &mut impl Write, file: u32, stated: Stated, booking: Booking) -> io::Result<()> {
+    out.write_all(b"file")?;
+    print_number(out, file)?;
+    out.write_all(b": left out ")?;
+    print_verdict(out, rules::slice_right(file, stated, booking, false))?;
+    out.write_all(b", given ")?;
+    print_verdict(out, rules::slice_right(file, stated, booking, true))?;
     if rules::is_read(file, booking, true) {
-        io::write_all(1, b", read\n");
+        out.write_all(b", read\n")
     } else {
-        io::write_all(1, b", not read\n");
+        out.write_all(b", not read\n")
     }
 }
 
 // Files 1 to 5 and 7; of slice 6, which is no such file, `answer` has the cases.
-fn show_slices(stated: Stated, booking: Booking) {
+fn show_slices(out: &mut impl Write, stated: Stated, booking: Booking) -> io::Result<()> {
     let mut file = 1;
     while file < 6 {
-        show_slice(file, stated, booking);
+        show_slice(out, file, stated, booking)?;
         file += 1;
     }
-    show_slice(7, stated, booking);
+    show_slice(out, 7, stated, booking)
 }
 
-fn show_booking(booking: &[u8], stem: &[u8], places: &[u32])
+fn show_booking(out: &mut impl Write, booking: &[u8], stem: &[u8], places: &[u32]) -> io::Result<()>
     requires { least_places ≤ length places.now }
 {
     if is_held(1, 0, booking, places) {
-        show_slices(rules::stated_of(stem), due::booking_of(booking, places));
+        show_slices(
+            out,
+            rules::stated_of(stem),
+            due::booking_of(booking, places),
+        )
+    } else {
+        Ok(())
     }
 }
 
-fn show_given(booking: &[u8], stem: &[u8]) {
+fn show_given(out: &mut impl Write, booking: &[u8], stem: &[u8]) -> io::Result<()> {
     let mut places = [0u32; LEAST_PLACES];
-    if read_booking(booking, &mut places) == 0 {
-        show_booking(booking, stem, &places);
+    if read_booking(out, booking, &mut places)? == 0 {
+        show_booking(out, booking, stem, &places)
+    } else {
+        Ok(())
     }
 }
 
 // ---- the identification answer
 
 // The field between two ends.
-fn print_field(answer: &[u8], last: usize, end: usize)
+fn print_field(out: &mut impl Write, answer: &[u8], last: usize, end: usize) -> io::Result<()>
     requires { (last < end) × (end ≤ length answer.now) }
 {
-    io::write_all(1, b"  ");
-    io::write_all(1, &answer[last + 1..end]);
-    io::write_all(1, b"\n");
+    out.write_all(b"  ")?;
+    out.write_all(&answer[last + 1..end])?;
+    out.write_all(b"\n")
 }
 
-fn show_fields(answer: &[u8], e: FieldEnds)
+fn show_fields(out: &mut impl Write, answer: &[u8], e: FieldEnds) -> io::Result<()>
     requires { Ordered (length answer.now) e }
 {
-    print_field(answer, e.gas, e.address);
-    print_field(answer, e.id, e.mar);
-    print_field(answer, e.mar, e.model);
-    print_field(answer, e.model, e.numom);
-    print_field(answer, e.numom, e.numser);
-    print_field(answer, e.numser, e.datasca);
-    print_field(answer, e.datasca, e.numver);
-    print_field(answer, e.numver, e.vermctcnet);
+    print_field(out, answer, e.gas, e.address)?;
+    print_field(out, answer, e.id, e.mar)?;
+    print_field(out, answer, e.mar, e.model)?;
+    print_field(out, answer, e.model, e.numom)?;
+    print_field(out, answer, e.numom, e.numser)?;
+    print_field(out, answer, e.numser, e.datasca)?;
+    print_field(out, answer, e.datasca, e.numver)?;
+    print_field(out, answer, e.numver, e.vermctcnet)
 }
 
-fn show_equal(answer: &[u8], e: FieldEnds, gas: &[u8], places: &[u32])
+fn show_equal(
+    out: &mut impl Write,
+    answer: &[u8],
+    e: FieldEnds,
+    gas: &[u8],
+    places: &[u32],
+) -> io::Result<()>
     requires { Ordered (length answer.now) e × Held gas_file 0 gas.now places.now }
 {
     if rules::same_fields(answer, e, gas, places) {
-        io::write_all(1, b"equal\n");
+        out.write_all(b"equal\n")
     } else {
-        io::write_all(1, b"refused 15\n");
+        out.write_all(b"refused 15\n")
     }
 }
 
-fn show_read(answer: &[u8], gas: &[u8], places: &[u32])
+fn show_read(out: &mut impl Write, answer: &[u8], gas: &[u8], places: &[u32]) -> io::Result<()>
     requires { Held gas_file 0 gas.now places.now }
 {
     match serial::read_identification(answer) {
-        IdentificationRead::Malformed => {
-            io::write_all(1, b"refused 14\n");
-        }
+        IdentificationRead::Malformed => out.write_all(b"refused 14\n"),
         IdentificationRead::Fields(e) => {
-            show_fields(answer, e);
-            show_equal(answer, e, gas, places);
+            show_fields(out, answer, e)?;
+            show_equal(out, answer, e, gas, places)
         }
     }
 }
 
-fn show_judged(answer: &[u8], gas: &[u8], places: &[u32])
+fn show_judged(out: &mut impl Write, answer: &[u8], gas: &[u8], places: &[u32]) -> io::Result<()>
     requires { Held gas_file 0 gas.now places.now }
 {
     let given = 0 < answer.len();
     if !rules::identification_right(gas, places, given) {
-        io::write_all(1, b"refused 11\n");
+        out.write_all(b"refused 11\n")?;
     }
     if given {
-        show_read(answer, gas, places);
+        show_read(out, answer, gas, places)
+    } else {
+        Ok(())
     }
 }
 
-fn show_answered(answer: &[u8], gas: &[u8], places: &[u32])
+fn show_answered(out: &mut impl Write, answer: &[u8], gas: &[u8], places: &[u32]) -> io::Result<()>
     requires { least_places ≤ length places.now }
 {
     if is_held(5, 0, gas, places) {
-        show_judged(answer, gas, places);
+        show_judged(out, answer, gas, places)
+    } else {
+        Ok(())
     }
 }
 
-fn show_answer(gas: &[u8], answer: &[u8]) {
+fn show_answer(out: &mut impl Write, gas: &[u8], answer: &[u8]) -> io::Result<()> {
     let mut places = [0u32; LEAST_PLACES];
     let mut lines = [0u32; 64];
     if gas.len() == 0 {
-        show_answered(answer, gas, &places);
-        return;
+        return show_answered(out, answer, gas, &places);
     }
-    if read_file(5, gas, &mut places, &mut lines) == 0 {
-        show_answered(answer, gas, &places);
+    if read_file(out, 5, gas, &mut places, &mut lines)? == 0 {
+        show_answered(out, answer, gas, &places)
+    } else {
+        Ok(())
     }
 }
 
@@ -479,11 +551,17 @@ fn file_at(title: &[u8], place: usize) -> u32 {
     }
 }
 
-fn show_with(all_rules: bool, file: u32, first: &[u8], second: &[u8]) {
+fn show_with(
+    out: &mut impl Write,
+    all_rules: bool,
+    file: u32,
+    first: &[u8],
+    second: &[u8],
+) -> io::Result<()> {
     if file == 1 {
-        show_file(all_rules, 1, first, first);
+        show_file(out, all_rules, 1, first, first)
     } else {
-        show_file(all_rules, file, first, second);
+        show_file(out, all_rules, file, first, second)
     }
 }
 
@@ -494,17 +572,19 @@ fn starts_with(title: &[u8], word: &[u8]) -> bool {
     lines::equal(&title[..word.len()], word)
 }
 
-fn show_case(title: &[u8], first: &[u8], second: &[u8]) {
+fn show_case(out: &mut impl Write, title: &[u8], first: &[u8], second: &[u8]) -> io::Result<()> {
     if starts_with(title, b"due") {
-        show_with(false, file_at(title, 4), first, second);
+        show_with(out, false, file_at(title, 4), first, second)
     } else if starts_with(title, b"rules") {
-        show_with(true, file_at(title, 6), first, second);
+        show_with(out, true, file_at(title, 6), first, second)
     } else if starts_with(title, b"stem") {
-        show_stem(first);
+        show_stem(out, first)
     } else if starts_with(title, b"given") {
-        show_given(first, second);
+        show_given(out, first, second)
     } else if starts_with(title, b"answer") {
-        show_answer(first, second);
+        show_answer(out, first, second)
+    } else {
+        Ok(())
     }
 }
 
@@ -535,35 +615,39 @@ fn after(input: &[u8], end: usize) -> usize
 }
 
 // The case that begins at this place; the place after it.
-fn show_next(input: &[u8], at: usize) -> usize
+fn show_next(out: &mut impl Write, input: &[u8], at: usize) -> io::Result<usize>
     requires { at < length input.now }
-    ensures { (at < result) × (result ≤ length input.now) }
+    ensures { IfOk result (λ next. (at < next) × (next ≤ length input.now)) }
 {
     let title = part_end(input, at);
     let from = after(input, title);
     let first = part_end(input, from);
     let next = after(input, first);
     let second = part_end(input, next);
-    io::write_all(1, b"-- ");
-    io::write_all(1, &input[at..title]);
-    io::write_all(1, b"\n");
-    show_case(&input[at..title], &input[from..first], &input[next..second]);
-    after(input, second)
+    out.write_all(b"-- ")?;
+    out.write_all(&input[at..title])?;
+    out.write_all(b"\n")?;
+    show_case(
+        out,
+        &input[at..title],
+        &input[from..first],
+        &input[next..second],
+    )?;
+    Ok(after(input, second))
 }
 
-fn show_all(input: &[u8]) {
+fn show_all(out: &mut impl Write, input: &[u8]) -> io::Result<()> {
     let mut at = 0;
     while at < input.len() {
-        at = show_next(input, at);
+        at = show_next(out, input, at)?;
     }
+    Ok(())
 }
 
-fn input_buffer() -> [u8; 524288] {
-    [0; 524288]
-}
-
-fn main() {
-    let mut input = input_buffer();
-    let n = io::read_full(0, &mut input);
-    show_all(&input[..n]);
+fn main(rt: HostRuntime) -> io::Result<()> {
+    let mut input = Vec::new(rt.alloc());
+    rt.stdin().read_to_end(&mut input)?;
+    let mut out = BufWriter::new(rt.alloc(), rt.stdout())?;
+    show_all(&mut out, input.as_slice())?;
+    out.flush()
 }
