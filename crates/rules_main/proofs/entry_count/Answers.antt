@@ -25,6 +25,4 @@ pub returns-in-7 : goal.returns-in-7
 returns-in-7 c = counts _ _ 55 opacity c.in-7.is (sym (opacity-count _)) (rw first-pairs.11 (omega arith))
 
 pub returns-in_default : goal.returns-in_default
-returns-in_default c =
-    let d = c.in_default in
-    no-counts _ _ ((((((tt, d.not-1), d.not-2), d.not-3), d.not-4), d.not-5), d.not-7)
+returns-in_default c = no-counts _ _ c.in_default.in_default-own.rest
