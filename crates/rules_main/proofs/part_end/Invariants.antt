@@ -1,4 +1,4 @@
--- The place moves on within the input.
+-- The place stays between `at` and the end.
 use Rattle.std.proofs.Common.{length, ◌-◌, ◌≤◌}
 use Rattle.rules_main.proofs.part_end.Given as goal
 
