@@ -1,6 +1,7 @@
-// Judges stored cases by the rules: due entries against found ones (10), bookings (12), Differenza% (13), slices (2, 11) and
-// identification answers (14, 15).
-// Standard input: for each case a title and two parts, each ended by a byte 00. The title's first word says what is judged:
+// Judges stored cases by the rules: due entries against found ones (10), bookings (12), Differenza% (13), slices (2, 11)
+// and identification answers (14, 15).
+// Standard input: for each case a title and two parts, each ended by a byte 00. The title's first word says what is
+// judged:
 //   due F    AC2, file F: each entry of F, what is asked of it and what was found; the first that is not as due
 //   rules F  AC2, file F: the first rule of F that is broken
 //   stem     a stem, nothing
@@ -103,7 +104,8 @@ fn read_both(
 // How many entries a file with this many axles has.
 fn entry_count(file: u32, axles: usize) -> usize
     requires { axles ≤ most_axles }
-    ensures { (result ≡ of_number 0 (λ f. length (entries f axles)) file) × (of_number 0 first_pair file + result ≤ 194) }
+    ensures { (result ≡ of_number 0 (λ f. length (entries f axles)) file)
+        × (of_number 0 first_pair file + result ≤ 194) }
 {
     match file {
         1 => 12,

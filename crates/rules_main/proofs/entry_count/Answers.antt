@@ -1,5 +1,5 @@
 -- Each file by its number has this many entries.
-use Rattle.std.proofs.Common.{sym, arith}
+use Rattle.std.proofs.Common.{sym, arith, rules}
 use Rattle.tables.specs.File.{ac2, acc, drift, suspension, gas, opacity}
 use Rattle.tables.proofs.Numbers.{first-pairs}
 use Rattle.tables.proofs.Values.{new-count, old-count, drift-count, suspension-count, gas-count, opacity-count}
@@ -25,4 +25,4 @@ pub returns-in-7 : goal.returns-in-7
 returns-in-7 c = counts _ _ 55 opacity c.in-7.is (sym (opacity-count _)) (rw first-pairs.11 (omega arith))
 
 pub returns-in_default : goal.returns-in_default
-returns-in_default c = no-counts _ _ c.in_default.in_default-own.rest
+returns-in_default c = no-counts _ _ (search rules)
