@@ -3,7 +3,7 @@
 // slices and how many places are lent, and then the bytes of these nine. Each place holds 7 before.
 #![tactic(auto)]
 
-ghost use Rattle.std.specs.Prelude.{◌+◌, ◌*◌, ◌≤◌, ◌<◌, IfOk, length};
+ghost use Rattle.std.specs.Prelude.{◌+◌, ◌*◌, ◌≤◌, ◌<◌, length};
 
 use sets::{Acceptance, SetAnswer};
 use std::io;
@@ -147,13 +147,13 @@ fn print_title(out: &mut impl Write, title: &[u8]) -> io::Result<()> {
     out.write_all(b": ")
 }
 
-// One set from `at` on; the place after it, or the end where the input is broken off.
-fn judge_case(out: &mut impl Write, input: &[u8], at: usize) -> io::Result<usize>
+// One set from `at` on; the place after it, or the end where the input is broken off, and whether the answer could be written.
+fn judge_case(out: &mut impl Write, input: &[u8], at: usize) -> (usize, io::Result<()>)
     requires { at < length input.now }
-    ensures { IfOk result (λ next. (at < next) × (next ≤ length input.now)) }
+    ensures { (at < result.0) × (result.0 ≤ length input.now) }
 {
     if input.len() - at < 40 {
-        return Ok(input.len());
+        return (input.len(), Ok(()));
     }
     let title = at + 40;
     let from = title + number(input, at);
@@ -166,28 +166,32 @@ fn judge_case(out: &mut impl Write, input: &[u8], at: usize) -> io::Result<usize
     let identification = gas + number(input, at + 28);
     let end = from + identification + number(input, at + 32);
     if input.len() < end {
-        return Ok(input.len());
+        return (input.len(), Ok(()));
     }
-    print_title(out, &input[title..from])?;
-    judge_parts(
-        out,
-        &input[from..end],
-        stem,
-        ac2,
-        acc,
-        drift,
-        suspension,
-        gas,
-        identification,
-        number(input, at + 36),
-    )?;
-    Ok(end)
+    let written = match print_title(out, &input[title..from]) {
+        Err(error) => Err(error),
+        Ok(()) => judge_parts(
+            out,
+            &input[from..end],
+            stem,
+            ac2,
+            acc,
+            drift,
+            suspension,
+            gas,
+            identification,
+            number(input, at + 36),
+        ),
+    };
+    (end, written)
 }
 
 fn judge_all(out: &mut impl Write, input: &[u8]) -> io::Result<()> {
     let mut at = 0;
     while at < input.len() {
-        at = judge_case(out, input, at)?;
+        let (next, written) = judge_case(out, input, at);
+        written?;
+        at = next;
     }
     Ok(())
 }

@@ -10,7 +10,7 @@
 // F is one digit. With file 1 the second part is empty: AC2 is the file.
 #![tactic(auto)]
 
-ghost use Rattle.std.specs.Prelude.{◌≡◌, true, ◌+◌, ◌*◌, ◌<◌, ◌≤◌, min, length, IfOk};
+ghost use Rattle.std.specs.Prelude.{◌≡◌, true, ◌+◌, ◌*◌, ◌<◌, ◌≤◌, min, length};
 ghost use Rattle.places.specs.Places.{place_size, pairs_at, Within};
 ghost use Rattle.tables.specs.File.{ac2, gas as gas_file, entries, first_pair, least_places, of_number, most_axles};
 ghost use Rattle.serial.specs.Reading.{Ordered};
@@ -616,32 +616,40 @@ fn after(input: &[u8], end: usize) -> usize
     }
 }
 
-// The case that begins at this place; the place after it.
-fn show_next(out: &mut impl Write, input: &[u8], at: usize) -> io::Result<usize>
+fn print_title(out: &mut impl Write, title: &[u8]) -> io::Result<()> {
+    out.write_all(b"-- ")?;
+    out.write_all(title)?;
+    out.write_all(b"\n")
+}
+
+// The case that begins at this place; the place after it, and whether it could be written.
+fn show_next(out: &mut impl Write, input: &[u8], at: usize) -> (usize, io::Result<()>)
     requires { at < length input.now }
-    ensures { IfOk result (λ next. (at < next) × (next ≤ length input.now)) }
+    ensures { (at < result.0) × (result.0 ≤ length input.now) }
 {
     let title = part_end(input, at);
     let from = after(input, title);
     let first = part_end(input, from);
     let next = after(input, first);
     let second = part_end(input, next);
-    out.write_all(b"-- ")?;
-    out.write_all(&input[at..title])?;
-    out.write_all(b"\n")?;
-    show_case(
-        out,
-        &input[at..title],
-        &input[from..first],
-        &input[next..second],
-    )?;
-    Ok(after(input, second))
+    let written = match print_title(out, &input[at..title]) {
+        Err(error) => Err(error),
+        Ok(()) => show_case(
+            out,
+            &input[at..title],
+            &input[from..first],
+            &input[next..second],
+        ),
+    };
+    (after(input, second), written)
 }
 
 fn show_all(out: &mut impl Write, input: &[u8]) -> io::Result<()> {
     let mut at = 0;
     while at < input.len() {
-        at = show_next(out, input, at)?;
+        let (next, written) = show_next(out, input, at);
+        written?;
+        at = next;
     }
     Ok(())
 }
