@@ -147,7 +147,8 @@ fn print_title(out: &mut impl Write, title: &[u8]) -> io::Result<()> {
     out.write_all(b": ")
 }
 
-// One set from `at` on; the place after it, or the end where the input is broken off, and whether the answer could be written.
+// One set from `at` on; the place after it, or the end where the input is broken off, and whether the answer could be
+// written.
 fn judge_case(out: &mut impl Write, input: &[u8], at: usize) -> (usize, io::Result<()>)
     requires { at < length input.now }
     ensures { (at < result.0) × (result.0 ≤ length input.now) }
