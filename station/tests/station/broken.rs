@@ -8,7 +8,7 @@ use std::os::unix::fs::{symlink, PermissionsExt};
 use std::path::{Path, PathBuf};
 use std::process::Command;
 
-use crate::common::{changed, empty_folder, put, repository, run, Change};
+use crate::common::{changed, empty_folder, put, repository, run, Change, Folder};
 use crate::transcripts::check;
 
 /// A sample that broken sets are made from.
@@ -36,7 +36,7 @@ impl Sample {
 
 /// The folder in which the broken sets are made.
 struct Broken {
-    folder: PathBuf,
+    folder: Folder,
 }
 
 impl Broken {
@@ -165,7 +165,7 @@ pub fn identification(inner: &[u8]) -> Vec<u8> {
 const COUNT: usize = 102;
 
 /// All of them, in a new folder of this name.
-pub fn broken_sets(name: &str) -> PathBuf {
+pub fn broken_sets(name: &str) -> Folder {
     let broken = Broken {
         folder: empty_folder(name),
     };
@@ -471,7 +471,8 @@ fn broken_sets_are_told_apart() {
 fn broken_sets_are_all_tried() {
     let transcripts = repository().join("station/tests/transcripts");
     let tried = fs::read_to_string(transcripts.join("broken.txt")).expect("a transcript");
-    for path in files(&broken_sets("broken-names")) {
+    let root = broken_sets("broken-names");
+    for path in files(&root) {
         let name = path.file_name().expect("a name").to_string_lossy();
         let stands = tried.contains(&format!("$ mctc judge {name} "));
         assert_eq!(stands, name != "19-unreadable", "{name}");
@@ -481,7 +482,8 @@ fn broken_sets_are_all_tried() {
 /// Permissions do not bind root, who reads the file all the same.
 #[test]
 fn a_file_without_permissions() {
-    let folder = broken_sets("broken-permissions").join("19-unreadable");
+    let root = broken_sets("broken-permissions");
+    let folder = root.join("19-unreadable");
     let may_read = File::open(file_of_car(&folder, "DER")).is_ok();
     let output = run(&folder, &["judge", ".", CAR.stem]);
     let said = String::from_utf8_lossy(&output.stderr).into_owned();

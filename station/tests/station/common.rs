@@ -1,9 +1,12 @@
 //! The program run as a user would run it.
 
+use std::env;
 use std::ffi::OsStr;
 use std::fs;
+use std::ops::Deref;
 use std::path::{Path, PathBuf};
-use std::process::{Command, Output};
+use std::process::{self, Command, Output};
+use std::thread;
 
 /// The endings of a set's files, in the order of their numbers.
 pub const ENDINGS: [&str; 7] = ["AC2", "ACC", "DER", "SOS", "GAS", "ID", "OPA"];
@@ -26,14 +29,31 @@ pub fn run(folder: &Path, words: &[impl AsRef<OsStr>]) -> Output {
     output.expect("the program runs")
 }
 
-/// An empty folder of this name for a test's own files.
-pub fn empty_folder(name: &str) -> PathBuf {
-    let folder = Path::new(env!("CARGO_TARGET_TMPDIR")).join(name);
-    if folder.exists() {
-        fs::remove_dir_all(&folder).expect("the folder of an earlier run is removed");
+/// A folder for a test's own files, which goes with the test unless that fails. It lies outside the repository, where
+/// `rt ci` takes no links.
+pub struct Folder(PathBuf);
+
+impl Deref for Folder {
+    type Target = Path;
+
+    fn deref(&self) -> &Path {
+        &self.0
     }
-    fs::create_dir_all(&folder).expect("a folder");
-    folder
+}
+
+impl Drop for Folder {
+    fn drop(&mut self) {
+        if !thread::panicking() {
+            fs::remove_dir_all(&self.0).expect("the folder is removed");
+        }
+    }
+}
+
+/// An empty folder of this name.
+pub fn empty_folder(name: &str) -> Folder {
+    let folder = env::temp_dir().join(format!("mctc-{}-{name}", process::id()));
+    fs::create_dir(&folder).expect("a folder");
+    Folder(folder)
 }
 
 /// A change to a sample: in the file with this ending, what stands there, and what stands instead.

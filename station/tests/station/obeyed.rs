@@ -7,7 +7,7 @@ use std::os::unix::ffi::OsStrExt;
 use std::path::{Path, PathBuf};
 
 use crate::broken::{broken_sets, files, DIESEL};
-use crate::common::{empty_folder, put, repository, run, ENDINGS};
+use crate::common::{empty_folder, put, repository, run, Folder, ENDINGS};
 use outside::comparison::set_case;
 use outside::generator::record;
 use outside::judge::{Call, Set};
@@ -230,7 +230,8 @@ fn has(folder: &Path, ending: &str) -> bool {
 #[test]
 fn no_test_is_left_out_by_obeying() {
     let mut mended = Vec::new();
-    for folder in files(&broken_sets("obeyed")) {
+    let root = broken_sets("obeyed");
+    for folder in files(&root) {
         let name = folder
             .file_name()
             .expect("a name")
@@ -253,7 +254,7 @@ fn no_test_is_left_out_by_obeying() {
 }
 
 /// A petrol car's files with the fuel in small letters, and what somebody may have taken out already.
-fn small_letters(name: &str, directive: bool, endings: &[&str]) -> PathBuf {
+fn small_letters(name: &str, directive: bool, endings: &[&str]) -> Folder {
     let folder = empty_folder(name);
     for ending in endings {
         let sample = format!("samples/accepted-car/AA123456.{ending}");

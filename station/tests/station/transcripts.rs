@@ -12,7 +12,7 @@ use std::path::{Path, PathBuf};
 use std::process::Command;
 
 use crate::broken::identification;
-use crate::common::{empty_folder, put, repository, run};
+use crate::common::{empty_folder, put, repository, run, Folder};
 
 fn transcripts() -> PathBuf {
     repository().join("station/tests/transcripts")
@@ -146,7 +146,7 @@ fn samples_are_all_tried() {
 }
 
 /// A folder with all that can be odd about files on disk.
-fn odd_files() -> PathBuf {
+fn odd_files() -> Folder {
     let folder = empty_folder("odd-files");
     let sample = |name: &str| fs::read(repository().join("samples").join(name)).expect("a sample");
     let ac2 = sample("accepted-trailer/AC204711.ac2");
