@@ -52,6 +52,10 @@ impl Drop for Folder {
 /// An empty folder of this name.
 pub fn empty_folder(name: &str) -> Folder {
     let folder = env::temp_dir().join(format!("mctc-{}-{name}", process::id()));
+    // A run that failed may have had the same number.
+    if folder.exists() {
+        fs::remove_dir_all(&folder).expect("the folder of an earlier run is removed");
+    }
     fs::create_dir(&folder).expect("a folder");
     Folder(folder)
 }
