@@ -7,6 +7,7 @@ use mathlib.Core.List.{List, map}
 use lib.Dec.{leb}
 use lib.ListN.{length}
 use borrow.Author.Tests.{leb-true, leb-false, le-leb}
+use Rattle.std.specs.Prelude.{Result, Err}
 use Rattle.refusals.specs.Refusals.{number_of}
 use Rattle.refusals.specs.Answer.{Answer, refusal, acceptance, followed}
 use Rattle.refusals.specs.declared.Refusal.{Refusal}
@@ -14,7 +15,6 @@ use Rattle.places.specs.Places.{Pair, set_pairs, pairs_at, value_at, Within}
 use Rattle.tables.specs.File.{File, ac2, first_pair, least_places, of_number}
 use Rattle.files.specs.declared.FileAcceptance.{FileAcceptance}
 use Rattle.files.specs.Alone.{ReadsAlone}
-use Rattle.files.specs.declared.FileAnswer.{FileAnswer}
 use Rattle.files.proofs.Pairs.{same-file, AloneRead, refused-inv, short-inv, alone-length, alone-pairs, alone-cleared}
 use Rattle.due.specs.Booking.{booking_in}
 use Rattle.due.specs.declared.Booking.{Booking}
@@ -22,10 +22,9 @@ use Rattle.tables.specs.Value.{pairs_of, Held}
 use Rattle.due.specs.Values.{new_values}
 use Rattle.tables.proofs.Values.{new-count}
 use Rattle.columns.specs.Column.{FileColumn, column_beside, fitting, due_column, places_of, Gives}
-use Rattle.columns.specs.declared.ColumnAnswer.{ColumnAnswer}
-use Rattle.columns.specs.declared.ColumnAnswer.TheVariants.{Refused}
+use Rattle.columns.specs.declared.ColumnAcceptance.{ColumnAcceptance}
 
-module _ (s p q : List ℕ) (n : ℕ) (x : AloneRead 1 s p q n) where
+module _ {s p q : List ℕ} {n : ℕ} (x : AloneRead 1 s p q n) where
   -- ---- what is asked
 
   new-pairs : pairs_of ac2 0 q ≡ x.pairs
@@ -52,7 +51,7 @@ module _ (s p q : List ℕ) (n : ℕ) (x : AloneRead 1 s p q n) where
   abbrev beside : ℕ → List ℕ → ℕ → Answer FileColumn
   beside file t room = fitting file room (column_beside file (map (value_at s) x.pairs) t)
 
-  pub after_read : (file : ℕ) (t out u after : List ℕ) (y : ColumnAnswer) → Gives file (beside file t (length out)) q u out after y
+  pub after_read : (file : ℕ) (t out u after : List ℕ) (y : Result ColumnAcceptance Refusal) → Gives file (beside file t (length out)) q u out after y
       → Gives file (due_column file s t p (length out)) p u out after y
   unfolding due_column
   after_read file t out u after y g =
@@ -66,12 +65,12 @@ module _ (s p q : List ℕ) (n : ℕ) (x : AloneRead 1 s p q n) where
 
 -- ---- AC2 was refused
 
-pub after-refused : (file : ℕ) (s t p q out : List ℕ) (r : FileAnswer) → ReadsAlone 1 s p q r → (x : Refusal) → r ≡ FileAnswer.Refused x
-    → Gives file (due_column file s t p (length out)) p q out out (Refused x)
+pub after-refused : (file : ℕ) (s t p q out : List ℕ) (r : Result FileAcceptance Refusal) → ReadsAlone 1 s p q r → (x : Refusal) → r ≡ Err x
+    → Gives file (due_column file s t p (length out)) p q out out (Err x)
 unfolding due_column
 after-refused file s t p q out r w x e = go (leb least_places (length p)) refl
   where
-    go : (b : Bool) → leb least_places (length p) ≡ b → Gives file (due_column file s t p (length out)) p q out out (Refused x)
+    go : (b : Bool) → leb least_places (length p) ≡ b → Gives file (due_column file s t p (length out)) p q out out (Err x)
     go true h =
         let v = refused-inv w x e (leb-true least_places (length p) h) in
         rw (h, v.0) (record {

@@ -6,6 +6,7 @@ use mathlib.Core.Bool.{Bool, true, false, cond}
 use mathlib.Core.List.{List, ◌++◌, map}
 use lib.ListN.{length, drop}
 use borrow.Author.Tests.{le-leb, lt-leb}
+use Rattle.std.specs.Prelude.{Result, Ok, Err}
 use Rattle.refusals.specs.Refusals.{number_of, refusal_with}
 use Rattle.refusals.specs.Answer.{refusal, acceptance}
 use Rattle.refusals.specs.declared.Refusal.{Refusal}
@@ -19,7 +20,7 @@ use Rattle.tables.proofs.Numbers.{first-pairs}
 use Rattle.tables.proofs.Axles.{entries-most}
 use Rattle.files.specs.Files.{axles_of}
 use Rattle.files.specs.Alone.{ReadsAlone}
-use Rattle.files.specs.declared.FileAnswer.{FileAnswer}
+use Rattle.files.specs.declared.FileAcceptance.{FileAcceptance}
 use Rattle.files.proofs.Texts.{rooms-fit}
 use Rattle.files.proofs.Pairs.{AloneRead, refused-inv, by-alone, alone-few, alone-sections, alone-length, alone-pairs, alone-cleared}
 use Rattle.due.specs.Booking.{booking_in}
@@ -32,11 +33,10 @@ use Rattle.due.proofs.Entries.{due-file, conditions-file}
 use Rattle.rules.specs.Slices.{is_read}
 use Rattle.tables.proofs.Values.{held_number, fixed_held}
 use Rattle.columns.specs.Column.{numbers_from, column_of, FileColumn, no_column, column_read, column_of_text, column_beside, fitting, Gives}
-use Rattle.columns.specs.declared.ColumnAnswer.{ColumnAnswer}
-use Rattle.columns.specs.declared.ColumnAnswer.TheVariants.{Column, Refused}
+use Rattle.columns.specs.declared.ColumnAcceptance.{ColumnAcceptance}
 use Rattle.columns.proofs.Numbers.{numbers-length, numbers-same}
 
-module _ (file : ℕ) (t p q : List ℕ) (n : ℕ) (x : AloneRead file t p q n) where
+module _ {file : ℕ} {t p q : List ℕ} {n : ℕ} (x : AloneRead file t p q n) where
   abbrev f : File
   f = x.file
 
@@ -108,7 +108,7 @@ module _ (file : ℕ) (t p q : List ℕ) (n : ℕ) (x : AloneRead file t p q n) 
     many = column-size a ∙ sym em
 
     pub too_short : length out < m → (k : ℕ) → k ≡ least_places
-        → Gives file (fitting file (length out) (column_of_text file a t)) p (cleared k q) out out (Refused (refusal_with OutputTooShort file 0))
+        → Gives file (fitting file (length out) (column_of_text file a t)) p (cleared k q) out out (Err (refusal_with OutputTooShort file 0))
     too_short l k ek =
         rw (text-column a, lt-leb (length (whole a).numbers) (length out) (omega (arith, many, l))) (record {
           answer = refl;
@@ -117,7 +117,7 @@ module _ (file : ℕ) (t p q : List ℕ) (n : ℕ) (x : AloneRead file t p q n) 
         })
 
     pub given : m ≤ length out → (c : Conditions) → numbers_from (λ i. due_in file i c) 0 m ≡ (whole a).numbers
-        → Gives file (fitting file (length out) (column_of_text file a t)) p q out (numbers_from (λ i. due_in file i c) 0 m ++ drop m out) (Column (record { axles = n; count = m }))
+        → Gives file (fitting file (length out) (column_of_text file a t)) p q out (numbers_from (λ i. due_in file i c) 0 m ++ drop m out) (Ok (record { axles = n; count = m }))
     given l c ec =
         rw (text-column a, le-leb (length (whole a).numbers) (length out) (omega (arith, many, l))) (record {
           answer = ap₂ (λ (j y : ℕ). acceptance (record { axles = j; count = y })) x.axles-are (sym many);
@@ -128,7 +128,7 @@ module _ (file : ℕ) (t p q : List ℕ) (n : ℕ) (x : AloneRead file t p q n) 
 -- ---- the ways out of `column_beside`
 
 module _ (file : ℕ) (t p out : List ℕ) (b : Booking) (u : Bool) (eu : u ≡ of_number true (λ f. is_read f b true) file) (a : List (List ℕ)) (eb : b ≡ booking_in a) where
-  abbrev Left : List ℕ → List ℕ → ColumnAnswer → Type 0
+  abbrev Left : List ℕ → List ℕ → Result ColumnAcceptance Refusal → Type 0
   Left q after r = Gives file (fitting file (length out) (column_beside file a t)) p q out after r
 
   test : (v : Bool) → u ≡ v → column_beside file a t ≡ cond v (column_of_text file a t) (acceptance no_column)
@@ -136,19 +136,19 @@ module _ (file : ℕ) (t p out : List ℕ) (b : Booking) (u : Bool) (eu : u ≡ 
       ap (λ (y : Bool). cond y (column_of_text file a t) (acceptance no_column))
       (ap (λ (y : Booking). of_number true (λ f. is_read f y true) file) (sym eb) ∙ sym eu ∙ e)
 
-  pub beside-unread : u ≡ false → (k : ℕ) → k ≡ least_places → Left (cleared k p) out (Column (record { axles = 0; count = 0 }))
+  pub beside-unread : u ≡ false → (k : ℕ) → k ≡ least_places → Left (cleared k p) out (Ok (record { axles = 0; count = 0 }))
   unfolding set_pairs
   beside-unread e k ek =
       rw (test false e, le-leb 0 (length out) (omega arith)) (record { answer = refl; places = ap (λ (j : ℕ). cleared j p) ek; column = refl })
 
   -- of a file that is read
-  pub beside-read : u ≡ true → (q after : List ℕ) (r : ColumnAnswer) → Gives file (fitting file (length out) (column_of_text file a t)) p q out after r → Left q after r
+  pub beside-read : u ≡ true → (q after : List ℕ) (r : Result ColumnAcceptance Refusal) → Gives file (fitting file (length out) (column_of_text file a t)) p q out after r → Left q after r
   beside-read e q after r g = rw (test true e) g
 
-  pub beside-refused : u ≡ true → least_places ≤ length p → (q : List ℕ) (r : FileAnswer) → ReadsAlone file t p q r → (x : Refusal) → r ≡ FileAnswer.Refused x → Left q out (Refused x)
+  pub beside-refused : u ≡ true → least_places ≤ length p → (q : List ℕ) (r : Result FileAcceptance Refusal) → ReadsAlone file t p q r → (x : Refusal) → r ≡ Err x → Left q out (Err x)
   beside-refused e l q r w x ex =
       let v = refused-inv w x ex l in
-      beside-read e q out (Refused x) (rw v.0 (record {
+      beside-read e q out (Err x) (rw v.0 (record {
         answer = ap (λ (m : ℕ). refusal (number_of x.kind) m x.line) (sym v.1);
         places = rw (le-leb least_places (length p) l) v.2;
         column = refl;

@@ -1,6 +1,7 @@
 -- The due column of one file (01, Due entries): what is asked of each entry, from AC2's text and the file's alone.
-use Rattle.std.specs.Prelude.{ℕ, zero, suc, ◌+◌, ◌≡◌, Bool, true, cond, not, List, [], ◌∷◌, ◌++◌, map, eqb, leb, length, drop}
-use Rattle.refusals.specs.Answer.{Answer, refusal, acceptance, refusal_of, require, followed}
+use Rattle.std.specs.Prelude.{ℕ, zero, suc, ◌+◌, ◌≡◌, Bool, true, cond, not, List, [], ◌∷◌, ◌++◌, map, eqb, leb, length, drop, Result}
+use Rattle.refusals.specs.Answer.{Answer, refusal, acceptance, answer_is, require, followed}
+use Rattle.refusals.specs.declared.Refusal.{Refusal}
 use Rattle.places.specs.Places.{Pair, value_at, set_pairs, cleared}
 use Rattle.tables.specs.File.{File, entries, first_pair, least_places, of_number}
 use Rattle.reading.specs.Reading.{Reading, refused, read}
@@ -14,8 +15,6 @@ use Rattle.due.specs.declared.Due.{Due}
 use Rattle.due.specs.declared.Due.TheVariants.{IsDue, NotDue, IsFree}
 use Rattle.rules.specs.Slices.{is_read}
 use Rattle.columns.specs.declared.ColumnAcceptance.{ColumnAcceptance}
-use Rattle.columns.specs.declared.ColumnAnswer.{ColumnAnswer}
-use Rattle.columns.specs.declared.ColumnAnswer.TheVariants.{Column, Refused}
 
 -- ---- the column
 
@@ -91,11 +90,6 @@ due_column file s t p room =
 
 -- ---- what a call leaves
 
--- what the answer enum says
-abbrev pub answer_is : ColumnAnswer → Answer ColumnAcceptance
-answer_is (Refused x) = refusal_of x
-answer_is (Column a) = acceptance a
-
 -- the answer, which has no room for the column
 abbrev pub answer_of : Answer FileColumn → Answer ColumnAcceptance
 answer_of r = followed r (λ c. acceptance (record { axles = c.axles; count = length c.numbers }))
@@ -111,13 +105,13 @@ column_after (refusal k f l) out = out
 column_after (acceptance c) out = c.numbers ++ drop (length c.numbers) out
 
 -- the answer, the places from p to q and the column from out to after are those of o
-pub record Gives (file : ℕ) (o : Answer FileColumn) (p q out after : List ℕ) (r : ColumnAnswer) : Type 0 where
+pub record Gives (file : ℕ) (o : Answer FileColumn) (p q out after : List ℕ) (r : Result ColumnAcceptance Refusal) : Type 0 where
   pub answer : answer_is r ≡ answer_of o
   pub places : q ≡ places_of file o p
   pub column : after ≡ column_after o out
 
 -- the step after AC2 was read, of which b is kept: the file beside any values of AC2 that say b
-abbrev pub GivesForBooking : ℕ → Booking → List ℕ → List ℕ → List ℕ → List ℕ → List ℕ → ColumnAnswer → Type 0
+abbrev pub GivesForBooking : ℕ → Booking → List ℕ → List ℕ → List ℕ → List ℕ → List ℕ → Result ColumnAcceptance Refusal → Type 0
 GivesForBooking file b t p q out after r =
     (a : List (List ℕ)) → b ≡ booking_in a
     → Gives file (fitting file (length out) (column_beside file a t)) p q out after r

@@ -8,7 +8,6 @@ ghost use Rattle.due.specs.Due.{due_in};
 ghost use Rattle.columns.specs.Column.{due_number, numbers_from, due_column, Gives, GivesForBooking};
 
 use due::{Booking, Conditions, Due};
-use files::FileAnswer;
 use refusals::{Refusal, RefusalKind};
 use tables::AC2;
 
@@ -17,12 +16,6 @@ use tables::AC2;
 pub struct ColumnAcceptance {
     pub axles: u32,
     pub count: u32,
-}
-
-#[derive(Clone, Copy)]
-pub enum ColumnAnswer {
-    Column(ColumnAcceptance),
-    Refused(Refusal),
 }
 
 // What is asked of an entry, as a number.
@@ -42,10 +35,8 @@ fn write_column(file: u32, conditions: Conditions, count: usize, column: &mut [u
     ensures { column.new
         ≡ numbers_from (λ i. due_in file i conditions) 0 count ++ drop count column.old }
 {
-    let mut i = 0;
-    while i < count {
+    for i in 0..count {
         column[i] = due_number(due::due_of(file, i, conditions));
-        i += 1;
     }
 }
 
@@ -56,37 +47,32 @@ fn column_beside(
     text: &[u8],
     places: &mut [u32],
     column: &mut [u32],
-) -> ColumnAnswer
+) -> Result<ColumnAcceptance, Refusal>
     requires { least_places ≤ length places.old }
     ensures { GivesForBooking file booking text.now
         places.old places.new column.old column.new result }
 {
     if !rules::is_read(file, booking, true) {
         places::clear(places, tables::least_places());
-        return ColumnAnswer::Column(ColumnAcceptance { axles: 0, count: 0 });
+        return Ok(ColumnAcceptance { axles: 0, count: 0 });
     }
-    match files::read_alone(file, text, places) {
-        FileAnswer::Refused(x) => ColumnAnswer::Refused(x),
-        FileAnswer::Accepted(a) => {
-            let axles = a.axles;
-            let sections = axles as usize + tables::fixed_section_count(file);
-            let count = tables::entries_before(file, sections);
-            if column.len() < count {
-                places::clear(places, tables::least_places());
-                return ColumnAnswer::Refused(Refusal {
-                    kind: RefusalKind::OutputTooShort,
-                    file: file,
-                    line: 0,
-                });
-            }
-            let conditions = due::conditions_of(file, booking, text, places);
-            write_column(file, conditions, count, column);
-            ColumnAnswer::Column(ColumnAcceptance {
-                axles: axles,
-                count: count as u32,
-            })
-        }
+    let axles = files::read_alone(file, text, places)?.axles;
+    let sections = axles as usize + tables::fixed_section_count(file);
+    let count = tables::entries_before(file, sections);
+    if column.len() < count {
+        places::clear(places, tables::least_places());
+        return Err(Refusal {
+            kind: RefusalKind::OutputTooShort,
+            file,
+            line: 0,
+        });
     }
+    let conditions = due::conditions_of(file, booking, text, places);
+    write_column(file, conditions, count, column);
+    Ok(ColumnAcceptance {
+        axles,
+        count: count as u32,
+    })
 }
 
 // The due column of the file of this number: 1 due, 2 not due, 3 free, for each of its entries. Refuses with 1; with 11
@@ -98,16 +84,12 @@ pub fn due_column(
     text: &[u8],
     places: &mut [u32],
     column: &mut [u32],
-) -> ColumnAnswer
+) -> Result<ColumnAcceptance, Refusal>
     ensures { Gives file
         (due_column file ac2.now text.now places.old (length column.old))
         places.old places.new column.old column.new result }
 {
-    match files::read_alone(AC2, ac2, places) {
-        FileAnswer::Refused(x) => ColumnAnswer::Refused(x),
-        FileAnswer::Accepted(_) => {
-            let booking = due::booking_of(ac2, places);
-            column_beside(file, booking, text, places, column)
-        }
-    }
+    files::read_alone(AC2, ac2, places)?;
+    let booking = due::booking_of(ac2, places);
+    column_beside(file, booking, text, places, column)
 }

@@ -1,12 +1,10 @@
 -- What entries hang on, by place and by file number; and that each name that is not simply due stands in its file's table. Assumes nothing.
-use Prim.Native.Nat.{ℕ, zero, suc, ◌+◌, ◌≤◌, ◌<◌}
-use native.Mathlib.Omega.{arith}
+use Prim.Native.Nat.{ℕ, zero, suc, ◌≤◌}
 use mathlib.Core.Path.{◌≡◌, refl, ap, sym, ◌∙◌}
 use mathlib.Core.Bool.{Bool, true, ◌&&◌}
 use mathlib.Core.List.{List, [], ◌∷◌, map}
 use lib.Dec.{ltb}
-use lib.ListN.{length, get_or, take, drop, get_or-eq_default, length-map}
-use lib.Seq.{get_or-take, get_or-drop}
+use lib.ListN.{length, get_or, get_or-eq_default, length-map}
 use Rattle.lines.specs.Bytes.{same_bytes}
 use Rattle.tables.specs.Section.{entries_of}
 use Rattle.tables.specs.Entries.{
@@ -36,9 +34,7 @@ use Rattle.due.specs.Booking.{booking_in}
 use Rattle.tables.specs.Value.{values_of}
 use Rattle.due.specs.Conditions.{no_links, links_of, links_numbered, with_links, conditions_of}
 use Rattle.due.specs.Due.{NamedCondition, exceptions, condition_of, fixed_conditions, condition_at, condition_in, due_of, due_in}
-use Rattle.due.specs.Table.{condition_table, first_condition, fixed_count}
 use Rattle.due.specs.declared.Conditions.{Conditions}
-use Rattle.due.specs.declared.Condition.{Condition}
 use Rattle.due.specs.declared.Condition.TheVariants.{Always}
 
 -- ---- names
@@ -67,66 +63,18 @@ past-fixed f i h =
     let e : length (map (condition_of (exceptions f)) ns) ≡ length (entries f 0) = length-map ns (condition_of (exceptions f)) ∙ length-map (entries f 0) (λ e. e.name) in
     sym (get_or-eq_default (map (condition_of (exceptions f)) ns) Always (rw e h))
 
--- the test: a file's part of the table has what its fixed sections' entries hang on, computed from their names
-part-is : (f : File) → take (length (entries f 0)) (drop (first_condition f) condition_table) ≡ fixed_conditions f
-unfolding condition_table first_condition exceptions condition_of same_bytes entries entries_of sections fixed_sections axle_sections axles_from new_booking old_booking sixteen tester protocol measurement analysis analyser counter speed_test all_key_dates all_key_bodies fuel_analysis opacimeter opacity_test opacity_keys opacity_analysis
-part-is ac2 = refl
-part-is acc = refl
-part-is drift = refl
-part-is suspension = refl
-part-is gas = refl
-part-is opacity = refl
-
-condition-is : (f : File) (i : ℕ) → i < length (entries f 0) → get_or condition_table (first_condition f + i) Always ≡ condition_at f i
-unfolding condition_at
-condition-is f i h =
-    sym (get_or-drop (first_condition f) condition_table i Always)
-    ∙ sym (get_or-take (length (entries f 0)) (drop (first_condition f) condition_table) i Always h)
-    ∙ ap (λ (cs : List Condition). get_or cs i Always) (part-is f)
-
--- ---- file numbers
-
--- the condition of an entry of the fixed sections stands in the table
-condition-in : (n i : ℕ) → i < fixed_count n → get_or condition_table (of_number 0 first_condition n + i) Always ≡ condition_in n i
-unfolding of_number condition_in
-condition-in zero i h = absurd (omega arith)
-condition-in (suc zero) i h = condition-is ac2 i h
-condition-in (suc (suc zero)) i h = condition-is acc i h
-condition-in (suc (suc (suc zero))) i h = condition-is drift i h
-condition-in (suc (suc (suc (suc zero)))) i h = condition-is suspension i h
-condition-in (suc (suc (suc (suc (suc zero))))) i h = condition-is gas i h
-condition-in (suc (suc (suc (suc (suc (suc zero)))))) i h = absurd (omega arith)
-condition-in (suc (suc (suc (suc (suc (suc (suc zero))))))) i h = condition-is opacity i h
-condition-in (suc (suc (suc (suc (suc (suc (suc (suc n)))))))) i h = absurd (omega arith)
-
-pub in_table : (n i start size : ℕ) → start ≡ of_number 0 first_condition n → size ≡ fixed_count n → i < size → get_or condition_table (start + i) Always ≡ condition_in n i
-in_table n i start size s z h = rw s (condition-in n i (rw z at h))
-
--- past the fixed sections each is always due
-pub condition-past : (n i : ℕ) → fixed_count n ≤ i → Always ≡ condition_in n i
-unfolding of_number condition_in
-condition-past zero i h = refl
-condition-past (suc zero) i h = past-fixed ac2 i h
-condition-past (suc (suc zero)) i h = past-fixed acc i h
-condition-past (suc (suc (suc zero))) i h = past-fixed drift i h
-condition-past (suc (suc (suc (suc zero)))) i h = past-fixed suspension i h
-condition-past (suc (suc (suc (suc (suc zero))))) i h = past-fixed gas i h
-condition-past (suc (suc (suc (suc (suc (suc zero)))))) i h = refl
-condition-past (suc (suc (suc (suc (suc (suc (suc zero))))))) i h = past-fixed opacity i h
-condition-past (suc (suc (suc (suc (suc (suc (suc (suc n)))))))) i h = refl
-
--- and the table is long enough
-pub table-in : (n : ℕ) → of_number 0 first_condition n + fixed_count n ≤ 142
-unfolding of_number first_condition entries entries_of sections fixed_sections axle_sections axles_from new_booking old_booking sixteen tester protocol measurement analysis analyser counter speed_test all_key_dates all_key_bodies fuel_analysis opacimeter opacity_test opacity_keys opacity_analysis
-table-in zero = omega arith
-table-in (suc zero) = omega arith
-table-in (suc (suc zero)) = omega arith
-table-in (suc (suc (suc zero))) = omega arith
-table-in (suc (suc (suc (suc zero)))) = omega arith
-table-in (suc (suc (suc (suc (suc zero))))) = omega arith
-table-in (suc (suc (suc (suc (suc (suc zero)))))) = omega arith
-table-in (suc (suc (suc (suc (suc (suc (suc zero))))))) = omega arith
-table-in (suc (suc (suc (suc (suc (suc (suc (suc n)))))))) = omega arith
+-- by a file's number: of a number that no file has, all is due
+pub condition-in : (n i : ℕ) → get_or (of_number [] fixed_conditions n) i Always ≡ condition_in n i
+unfolding of_number condition_in condition_at
+condition-in zero i = refl
+condition-in (suc zero) i = refl
+condition-in (suc (suc zero)) i = refl
+condition-in (suc (suc (suc zero))) i = refl
+condition-in (suc (suc (suc (suc zero)))) i = refl
+condition-in (suc (suc (suc (suc (suc zero))))) i = refl
+condition-in (suc (suc (suc (suc (suc (suc zero)))))) i = refl
+condition-in (suc (suc (suc (suc (suc (suc (suc zero))))))) i = refl
+condition-in (suc (suc (suc (suc (suc (suc (suc (suc n)))))))) i = refl
 
 -- by a file's number is by the file
 pub condition-file : (f : File) (i : ℕ) → condition_in (file_number f) i ≡ condition_at f i

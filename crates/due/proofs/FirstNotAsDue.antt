@@ -9,12 +9,12 @@ use lib.Dec.{ltb}
 use lib.ListN.{length, get_or, length-map}
 use Rattle.places.specs.Places.{Pair, length_of, pairs_at, value_at, Within}
 use Rattle.tables.specs.File.{File, file_number, of_number}
-use Rattle.due.specs.Due.{condition_at, holds_in, due_of, due_in, filled, filled_pairs, as_due, is_as_due, first_not_as_due_from, first_not_as_due}
-use Rattle.due.specs.Table.{condition_table, first_condition, fixed_count}
+use Rattle.due.specs.Due.{fixed_conditions, condition_at, holds_in, due_of, due_in, filled, filled_pairs, as_due, is_as_due, first_not_as_due_from, first_not_as_due}
 use Rattle.due.specs.declared.Conditions.{Conditions}
 use Rattle.due.specs.declared.Due.{Due}
+use Rattle.due.specs.declared.Condition.{Condition}
 use Rattle.due.specs.declared.Condition.TheVariants.{Always}
-use Rattle.due.proofs.Entries.{in_table, condition-past, due-file}
+use Rattle.due.proofs.Entries.{condition-in, due-file}
 use Rattle.due.proofs.Values.{filled_at}
 
 -- ---- one turn of the loop over the n pairs from pair a on
@@ -34,16 +34,11 @@ module _ (d : ℕ → Due) (p : List ℕ) (a i n : ℕ) where
       let q : n - i ≡ 0 = omega arith in
       rw q refl
 
--- entry i is as due, by the table of conditions or past a file's part of it
-module _ (n i : ℕ) (c : Conditions) (full : Bool) where
-  pub by-table : (start size : ℕ) → start ≡ of_number 0 first_condition n → size ≡ fixed_count n → i < size
-      → as_due (due_in n i c) full ≡ as_due (holds_in (get_or condition_table (start + i) Always) c) full
-  unfolding due_in
-  by-table start size s z h = rw (in_table n i start size s z h)
-
-  pub past-table : (size : ℕ) → size ≡ fixed_count n → size ≤ i → as_due (due_in n i c) full ≡ full
-  unfolding due_in holds_in
-  past-table size z h = rw (← (condition-past n i (rw z at h)))
+-- whether an entry is as due, by its condition among those of the file
+pub as-due-at : (n i : ℕ) (c : Conditions) (full : Bool) (ks : List Condition) (k : Condition) → ks ≡ of_number [] fixed_conditions n → k ≡ get_or ks i Always
+    → as_due (due_in n i c) full ≡ as_due (holds_in k c) full
+unfolding due_in
+as-due-at n i c full ks k e ek = rw (ek, e, condition-in n i)
 
 -- ---- from lengths to values
 

@@ -69,18 +69,7 @@ links_of f own = cond (has_links f) (links_in f own) no_links
 
 -- what AC2 says, and what the file's own links say
 abbrev pub with_links : Booking → Links → Conditions
-with_links b l = record {
-  category = b.category;
-  six = b.six;
-  fuel = b.fuel;
-  late = b.late;
-  nessuna = b.nessuna;
-  serial = l.serial;
-  external = l.external;
-  device = l.device;
-  counter = l.counter;
-  speedtest = l.speedtest;
-}
+with_links b l = record { booking = b; links = l }
 
 -- the conditions of file f, from AC2's values and its own
 unfoldable pub conditions_of : File → List (List ℕ) → List (List ℕ) → Conditions

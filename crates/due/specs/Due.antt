@@ -120,7 +120,7 @@ is_m_or_n k = is_m k || is_n k
 
 -- "condition P, that is L1e, L2e or L6e, or Motociclo directive NESSUNA"
 unfoldable pub condition_p : Conditions → Bool
-condition_p c = is_moped c.category || c.nessuna
+condition_p c = is_moped c.booking.category || c.booking.nessuna
 
 -- "filled exactly when"
 abbrev pub when : Bool → Due
@@ -131,20 +131,20 @@ when false = NotDue
 unfoldable pub holds_in : Condition → Conditions → Due
 holds_in Always c = IsDue
 holds_in Free c = IsFree
-holds_in CodiceCIC c = when (is_moped c.category && c.six)
-holds_in Alimentazione c = when (not (is_o c.category))
-holds_in DieselEntry c = when (is_diesel c.fuel)
-holds_in CarDirective c = when (is_petrol c.fuel && is_m_or_n c.category)
-holds_in MotorcycleDirective c = when (is_petrol c.fuel && is_motorcycle c.category)
-holds_in COMinAcc c = when c.late
-holds_in ExternalCounter c = when c.external
+holds_in CodiceCIC c = when (is_moped c.booking.category && c.booking.six)
+holds_in Alimentazione c = when (not (is_o c.booking.category))
+holds_in DieselEntry c = when (is_diesel c.booking.fuel)
+holds_in CarDirective c = when (is_petrol c.booking.fuel && is_m_or_n c.booking.category)
+holds_in MotorcycleDirective c = when (is_petrol c.booking.fuel && is_motorcycle c.booking.category)
+holds_in COMinAcc c = when c.booking.late
+holds_in ExternalCounter c = when c.links.external
 holds_in SpeedTest c = when (condition_p c)
-holds_in DeviceKey c = when (is210 c.device && c.serial)
-holds_in DeviceChecksum c = when (is200 c.device && c.serial)
-holds_in CounterKey c = when (is210 c.counter && c.external)
-holds_in CounterChecksum c = when (is200 c.counter && c.external)
-holds_in SpeedTestKey c = when (is210 c.speedtest && condition_p c)
-holds_in SpeedTestChecksum c = when (is200 c.speedtest && condition_p c)
+holds_in DeviceKey c = when (is210 c.links.device && c.links.serial)
+holds_in DeviceChecksum c = when (is200 c.links.device && c.links.serial)
+holds_in CounterKey c = when (is210 c.links.counter && c.links.external)
+holds_in CounterChecksum c = when (is200 c.links.counter && c.links.external)
+holds_in SpeedTestKey c = when (is210 c.links.speedtest && condition_p c)
+holds_in SpeedTestChecksum c = when (is200 c.links.speedtest && condition_p c)
 
 unfoldable pub due_of : File → ℕ → Conditions → Due
 due_of f i c = holds_in (condition_at f i) c

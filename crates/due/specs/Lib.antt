@@ -2,4 +2,3 @@ pub mod Values
 pub mod Booking
 pub mod Conditions
 pub mod Due
-pub mod Table

@@ -1,20 +1,20 @@
 // Due entries (01, Due entries): conditions made from values, and what they ask of each entry.
 #![tactic(auto)]
 
-ghost use Rattle.std.specs.Prelude.{◌≡◌, ◌&&◌, ◌+◌, ◌*◌, ◌<◌, ◌≤◌, ltb, length};
+ghost use Rattle.std.specs.Prelude.{◌≡◌, ◌+◌, ◌*◌, ◌≤◌, ltb, length, List, [], get_or};
 ghost use Rattle.places.specs.Places.{place_size, length_of, pairs_at};
 ghost use Rattle.tables.specs.File.{ac2, of_number};
 ghost use Rattle.due.specs.Values.{new_values};
 ghost use Rattle.tables.specs.Value.{Held, NumberHeld, PairHeld};
 ghost use Rattle.due.specs.Booking.{fuel_in, is_late, is_nessuna, is_petrol, is_diesel, is_o, is_l, booking_in};
 ghost use Rattle.due.specs.Conditions.{is200, is210, version_in, is_serial_link, is_external_link, links_at, links_numbered, with_links};
-ghost use Rattle.due.specs.Due.{condition_in, is_moped, is_motorcycle, is_m_or_n, condition_p, when, holds_in, due_in, filled_pairs, as_due, first_not_as_due_from};
-ghost use Rattle.due.specs.Table.{first_condition, fixed_count};
+ghost use Rattle.due.specs.declared.Condition.{Condition};
+ghost use Rattle.due.specs.Due.{fixed_conditions, condition_in, is_moped, is_motorcycle, is_m_or_n, condition_p, when, holds_in, due_in, filled_pairs, as_due, first_not_as_due_from};
 
 use kinds::numbers::{CATEGORIES, PETROL_DIRECTIVES};
 use tables::{AC2, ACC, DRIFT, GAS, OPACITY, SUSPENSION, pairs};
 
-#[derive(Clone, Copy)]
+#[derive(Debug, PartialEq, Eq, Clone, Copy)]
 pub enum Fuel {
     Petrol,
     Diesel,
@@ -24,7 +24,7 @@ pub enum Fuel {
 // What the rules ask of AC2, each reduced to the few cases that matter: the category's place in 01's list, whether
 // TargaNominale has six bytes, the fuel, whether DirettivaEmissioniGasBenzinaAuto is 91/441/CEE or later, and whether
 // DirettivaEmissioniGasMotociclo is NESSUNA.
-#[derive(Clone, Copy)]
+#[derive(Debug, PartialEq, Eq, Clone, Copy)]
 pub struct Booking {
     pub category: usize,
     pub six: bool,
@@ -33,7 +33,7 @@ pub struct Booking {
     pub nessuna: bool,
 }
 
-#[derive(Clone, Copy)]
+#[derive(Debug, PartialEq, Eq, Clone, Copy)]
 pub enum Version {
     V200,
     V210,
@@ -42,7 +42,7 @@ pub enum Version {
 
 // What due entries ask of a file with device links: whether TipoCollegamento is RS SENZA ESITO, whether
 // TipoCollegamentoContagiri is ESTERNO, and the protocol version of each device.
-#[derive(Clone, Copy)]
+#[derive(Debug, PartialEq, Eq, Clone, Copy)]
 pub struct Links {
     pub serial: bool,
     pub external: bool,
@@ -83,23 +83,15 @@ const NO_LINKS: Links = Links {
     speedtest: Version::OtherVersion,
 };
 
-// All that due entries depend on: a booking's five and the links' five.
-#[derive(Clone, Copy)]
+// All that due entries depend on.
+#[derive(Debug, PartialEq, Eq, Clone, Copy)]
 pub struct Conditions {
-    pub category: usize,
-    pub six: bool,
-    pub fuel: Fuel,
-    pub late: bool,
-    pub nessuna: bool,
-    pub serial: bool,
-    pub external: bool,
-    pub device: Version,
-    pub counter: Version,
-    pub speedtest: Version,
+    pub booking: Booking,
+    pub links: Links,
 }
 
 // What is asked of an entry: filled, empty, or nothing.
-#[derive(Clone, Copy)]
+#[derive(Debug, PartialEq, Eq, Clone, Copy)]
 pub enum Due {
     IsDue,
     NotDue,
@@ -108,7 +100,7 @@ pub enum Due {
 
 // What an entry hangs on, in 01's order. DieselEntry: Turbo and CorrettorePressione. SpeedTest: condition P.
 // The last six: the key and the checksum of each device.
-#[derive(Clone, Copy)]
+#[derive(Debug, PartialEq, Eq, Clone, Copy)]
 pub enum Condition {
     Always,
     Free,
@@ -128,9 +120,8 @@ pub enum Condition {
     SpeedTestChecksum,
 }
 
-// What the entries of the fixed sections hang on, in entry order; suspension has drift's. One array, so that a loop over
-// the entries of any file lays it out once, before it begins.
-const CONDITIONS: [Condition; 142] = [
+// What the entries of each file's fixed sections hang on, in entry order. Static data: a loop over the entries lays nothing out.
+static AC2_CONDITIONS: [Condition; 12] = [
     Condition::Always, // AC2: TargaNominale
     Condition::Always, // AC2: TipoVeicolo
     Condition::Always, // AC2: CategoriaInternazionale
@@ -143,12 +134,18 @@ const CONDITIONS: [Condition; 142] = [
     Condition::MotorcycleDirective, // AC2: DirettivaEmissioniGasMotociclo
     Condition::Always, // AC2: AzionamentoFrenoStazionamento
     Condition::Always, // AC2: PosAssiStaz
+];
+
+static ACC_CONDITIONS: [Condition; 6] = [
     Condition::Always, // ACC: TipoVeicolo
     Condition::Always, // ACC: DescrizioneVeicolo
     Condition::Always, // ACC: AnnoPrimaImm
     Condition::Free, // ACC: Alimentazione_1
     Condition::Always, // ACC: FrenoStazionamento
     Condition::Always, // ACC: NumAssiStazionamento
+];
+
+static DRIFT_CONDITIONS: [Condition; 16] = [
     Condition::Always, // drift, suspension: Marca
     Condition::Always, // drift, suspension: Tipo
     Condition::Always, // drift, suspension: NumOmologa
@@ -165,6 +162,9 @@ const CONDITIONS: [Condition; 142] = [
     Condition::Always, // drift, suspension: InizioMisura
     Condition::Always, // drift, suspension: FineMisura
     Condition::Always, // drift, suspension: Operatore
+];
+
+static GAS_CONDITIONS: [Condition; 53] = [
     Condition::Always, // gas: MarcaAnalizzatore
     Condition::Always, // gas: TipoAnalizzatore
     Condition::Always, // gas: NumOmologaAnalizzatore
@@ -218,6 +218,9 @@ const CONDITIONS: [Condition; 142] = [
     Condition::Always, // gas: O2Min
     Condition::Always, // gas: NumGiriMotoreMin
     Condition::COMinAcc, // gas: COMinAcc
+];
+
+static OPACITY_CONDITIONS: [Condition; 55] = [
     Condition::Always, // opacity: MarcaOpacimetro
     Condition::Always, // opacity: TipoOpacimetro
     Condition::Always, // opacity: NumOmologaOpacimetro
@@ -275,83 +278,60 @@ const CONDITIONS: [Condition; 142] = [
     Condition::Always, // opacity: Operatore
 ];
 
-// Where a file's conditions begin among these.
-fn first_condition(file: u32) -> usize
-    ensures { result ≡ of_number 0 first_condition file }
+// Suspension has drift's.
+fn fixed_conditions(file: u32) -> &'static [Condition]
+    ensures { result.now ≡ of_number [] fixed_conditions file }
 {
     match file {
-        ACC => 12,
-        DRIFT => 18,
-        SUSPENSION => 18,
-        GAS => 34,
-        OPACITY => 87,
-        _ => 0,
+        AC2 => &AC2_CONDITIONS,
+        ACC => &ACC_CONDITIONS,
+        DRIFT => &DRIFT_CONDITIONS,
+        SUSPENSION => &DRIFT_CONDITIONS,
+        GAS => &GAS_CONDITIONS,
+        OPACITY => &OPACITY_CONDITIONS,
+        _ => &[],
     }
 }
 
-// How many there are: an axle's entries, which follow, are always due.
-fn condition_count(file: u32) -> usize
-    ensures { result ≡ fixed_count file }
+// An axle's entries, which follow those of the fixed sections, are always due.
+fn condition_among(conditions: &[Condition], entry: usize) -> Condition
+    ensures { result ≡ get_or conditions.now entry Condition.Always }
 {
-    match file {
-        AC2 => 12,
-        ACC => 6,
-        DRIFT => 16,
-        SUSPENSION => 16,
-        GAS => 53,
-        OPACITY => 55,
-        _ => 0,
-    }
+    conditions.get(entry).map_or(Condition::Always, |x| *x)
 }
 
 // What an entry hangs on, by its file's number and its place in entry order.
 pub fn condition_at(file: u32, entry: usize) -> Condition
     ensures { result ≡ condition_in file entry }
 {
-    let start = first_condition(file);
-    if entry < condition_count(file) {
-        return CONDITIONS[start + entry];
-    }
-    Condition::Always
+    condition_among(fixed_conditions(file), entry)
 }
 
 // L1e, L2e, L6e
 pub fn is_moped(category: usize) -> bool
     ensures { result ≡ is_moped category }
 {
-    match category {
-        10 | 11 | 15 => true,
-        _ => false,
-    }
+    matches!(category, 10 | 11 | 15)
 }
 
 // L3e, L4e, L5e, L7e
 pub fn is_motorcycle(category: usize) -> bool
     ensures { result ≡ is_motorcycle category }
 {
-    match category {
-        12 | 13 | 14 | 16 => true,
-        _ => false,
-    }
+    matches!(category, 12 | 13 | 14 | 16)
 }
 
 // L1e to L7e
 pub fn is_l(category: usize) -> bool
     ensures { result ≡ is_l category }
 {
-    match category {
-        10..=16 => true,
-        _ => false,
-    }
+    matches!(category, 10..=16)
 }
 
 pub fn is_o(category: usize) -> bool
     ensures { result ≡ is_o category }
 {
-    match category {
-        6..=9 => true,
-        _ => false,
-    }
+    matches!(category, 6..=9)
 }
 
 // M or N
@@ -364,100 +344,60 @@ pub fn is_m_or_n(category: usize) -> bool
 pub fn is_petrol(fuel: Fuel) -> bool
     ensures { result ≡ is_petrol fuel }
 {
-    match fuel {
-        Fuel::Petrol => true,
-        Fuel::Diesel => false,
-        Fuel::OtherFuel => false,
-    }
+    fuel == Fuel::Petrol
 }
 
 pub fn is_diesel(fuel: Fuel) -> bool
     ensures { result ≡ is_diesel fuel }
 {
-    match fuel {
-        Fuel::Petrol => false,
-        Fuel::Diesel => true,
-        Fuel::OtherFuel => false,
-    }
+    fuel == Fuel::Diesel
 }
 
+#[tactic(auto, unfolding(crate::specs::Due::condition_p))]
 fn condition_p(c: Conditions) -> bool
     ensures { result ≡ condition_p c }
 {
-    if is_moped(c.category) {
-        return true;
-    }
-    c.nessuna
+    is_moped(c.booking.category) || c.booking.nessuna
 }
 
 fn due_when(holds: bool) -> Due
     ensures { result ≡ when holds }
 {
-    if holds {
-        return Due::IsDue;
-    }
-    Due::NotDue
+    if holds { Due::IsDue } else { Due::NotDue }
 }
 
-fn due_when_both(a: bool, b: bool) -> Due
-    ensures { result ≡ when (a && b) }
-{
-    if a {
-        return due_when(b);
-    }
-    Due::NotDue
-}
-
-// Key ID, date, module, exponent.
-fn key_due(version: Version, device: bool) -> Due
-    ensures { result ≡ when (is210 version && device) }
-{
-    match version {
-        Version::V200 => Due::NotDue,
-        Version::V210 => due_when(device),
-        Version::OtherVersion => Due::NotDue,
-    }
-}
-
-fn checksum_due(version: Version, device: bool) -> Due
-    ensures { result ≡ when (is200 version && device) }
-{
-    match version {
-        Version::V200 => due_when(device),
-        Version::V210 => Due::NotDue,
-        Version::OtherVersion => Due::NotDue,
-    }
-}
-
-// What a condition asks of the entries that hang on it.
+// What a condition asks of the entries that hang on it. Version 210: key ID, date, module, exponent; 200: the checksum.
+#[tactic(auto, unfolding(crate::specs::Due::holds_in))]
 fn holds_in(condition: Condition, c: Conditions) -> Due
     ensures { result ≡ holds_in condition c }
 {
-    let fuel = c.fuel;
-    let device = c.device;
-    let counter = c.counter;
-    let speedtest = c.speedtest;
+    let Conditions { booking, links } = c;
     match condition {
         Condition::Always => Due::IsDue,
         Condition::Free => Due::IsFree,
-        Condition::CodiceCIC => due_when_both(is_moped(c.category), c.six),
-        Condition::Alimentazione => due_when(!is_o(c.category)),
-        Condition::DieselEntry => due_when(is_diesel(fuel)),
-        Condition::CarDirective => due_when_both(is_petrol(fuel), is_m_or_n(c.category)),
-        Condition::MotorcycleDirective => due_when_both(is_petrol(fuel), is_motorcycle(c.category)),
-        Condition::COMinAcc => due_when(c.late),
-        Condition::ExternalCounter => due_when(c.external),
+        Condition::CodiceCIC => due_when(is_moped(booking.category) && booking.six),
+        Condition::Alimentazione => due_when(!is_o(booking.category)),
+        Condition::DieselEntry => due_when(is_diesel(booking.fuel)),
+        Condition::CarDirective => due_when(is_petrol(booking.fuel) && is_m_or_n(booking.category)),
+        Condition::MotorcycleDirective => {
+            due_when(is_petrol(booking.fuel) && is_motorcycle(booking.category))
+        }
+        Condition::COMinAcc => due_when(booking.late),
+        Condition::ExternalCounter => due_when(links.external),
         Condition::SpeedTest => due_when(condition_p(c)),
-        Condition::DeviceKey => key_due(device, c.serial),
-        Condition::DeviceChecksum => checksum_due(device, c.serial),
-        Condition::CounterKey => key_due(counter, c.external),
-        Condition::CounterChecksum => checksum_due(counter, c.external),
-        Condition::SpeedTestKey => key_due(speedtest, condition_p(c)),
-        Condition::SpeedTestChecksum => checksum_due(speedtest, condition_p(c)),
+        Condition::DeviceKey => due_when(links.device == Version::V210 && links.serial),
+        Condition::DeviceChecksum => due_when(links.device == Version::V200 && links.serial),
+        Condition::CounterKey => due_when(links.counter == Version::V210 && links.external),
+        Condition::CounterChecksum => due_when(links.counter == Version::V200 && links.external),
+        Condition::SpeedTestKey => due_when(links.speedtest == Version::V210 && condition_p(c)),
+        Condition::SpeedTestChecksum => {
+            due_when(links.speedtest == Version::V200 && condition_p(c))
+        }
     }
 }
 
 // What is asked of an entry, by its file's number and its place in entry order.
+#[tactic(auto, unfolding(crate::specs::Due::due_in))]
 pub fn due_of(file: u32, entry: usize, c: Conditions) -> Due
     ensures { result ≡ due_in file entry c }
 {
@@ -475,6 +415,7 @@ fn as_due(due: Due, filled: bool) -> bool
 }
 
 // Whether an entry is as its condition asks. Most are always due: these are told apart first.
+#[tactic(auto, unfolding(crate::specs::Due::holds_in))]
 fn is_as_due(condition: Condition, c: Conditions, filled: bool) -> bool
     ensures { result ≡ as_due (holds_in condition c) filled }
 {
@@ -503,27 +444,17 @@ pub fn first_not_as_due(
     requires { place_size * (first + count) ≤ length places.now }
     ensures { result ≡ first_not_as_due_from (λ i. due_in file i c) 0 (filled_pairs (pairs_at places.now first count)) }
 {
-    let conditions = CONDITIONS;
-    let start = first_condition(file);
-    let size = condition_count(file);
-    let mut i = 0;
-    while i < count {
+    let conditions = fixed_conditions(file);
+    for i in 0..count {
         let filled = is_filled(places, first + i);
-        if i < size {
-            let condition = conditions[start + i];
-            if !is_as_due(condition, c, filled) {
-                return i;
-            }
-        } else {
-            if !filled {
-                return i;
-            }
+        if !is_as_due(condition_among(conditions, i), c, filled) {
+            return i;
         }
-        i += 1;
     }
-    i
+    count
 }
 
+#[tactic(auto, unfolding(crate::specs::Booking::fuel_in))]
 pub fn fuel_of(value: &[u8]) -> Fuel
     ensures { result ≡ fuel_in value.now }
 {
@@ -536,6 +467,7 @@ pub fn fuel_of(value: &[u8]) -> Fuel
     Fuel::OtherFuel
 }
 
+#[tactic(auto, unfolding(crate::specs::Conditions::version_in))]
 pub fn version_of(value: &[u8]) -> Version
     ensures { result ≡ version_in value.now }
 {
@@ -549,13 +481,11 @@ pub fn version_of(value: &[u8]) -> Version
 }
 
 // 91/441/CEE or later: by the place in the list of petrol directives, which is in order of time.
+#[tactic(auto, unfolding(crate::specs::Booking::is_late, kinds::specs::Value::is_word, kinds::specs::Value::words_of, kinds::specs::Value::numbered_lists, kinds::specs::Kind::words))]
 pub fn is_late(value: &[u8]) -> bool
     ensures { result ≡ is_late value.now }
 {
-    match kinds::word_index(PETROL_DIRECTIVES, value) {
-        2..=3 => true,
-        _ => false,
-    }
+    matches!(kinds::word_index(PETROL_DIRECTIVES, value), 2..=3)
 }
 
 // Whether a motorcycle's directive is NESSUNA.
@@ -574,19 +504,17 @@ pub fn booking_of(text: &[u8], places: &[u32]) -> Booking
         CATEGORIES,
         places::value_of(text, places, pairs::AC2_CATEGORIA_INTERNAZIONALE),
     );
-    let fuel = fuel_of(places::value_of(text, places, pairs::AC2_ALIMENTAZIONE_1));
-    let late = is_late(places::value_of(text, places, pairs::AC2_DIRETTIVA_BENZINA_AUTO));
-    let nessuna = is_nessuna(places::value_of(text, places, pairs::AC2_DIRETTIVA_MOTOCICLO));
     Booking {
         category,
         six: places::length_of(places, pairs::AC2_TARGA_NOMINALE) == 6,
-        fuel,
-        late,
-        nessuna,
+        fuel: fuel_of(places::value_of(text, places, pairs::AC2_ALIMENTAZIONE_1)),
+        late: is_late(places::value_of(text, places, pairs::AC2_DIRETTIVA_BENZINA_AUTO)),
+        nessuna: is_nessuna(places::value_of(text, places, pairs::AC2_DIRETTIVA_MOTOCICLO)),
     }
 }
 
 // Whether a value of TipoCollegamento is RS SENZA ESITO.
+#[tactic(auto, unfolding(crate::specs::Conditions::is_serial_link))]
 pub fn is_serial(link: &[u8]) -> bool
     ensures { result ≡ is_serial_link link.now }
 {
@@ -605,15 +533,11 @@ fn links_at(k: LinkPairs, speedtest: Version, text: &[u8], places: &[u32]) -> Li
     requires { PairHeld text.now places.now k.link × PairHeld text.now places.now k.version × PairHeld text.now places.now k.counterlink × PairHeld text.now places.now k.counterversion }
     ensures { result ≡ links_at k speedtest text.now places.now }
 {
-    let serial = is_serial(places::value_of(text, places, k.link));
-    let device = version_of(places::value_of(text, places, k.version));
-    let external = is_external(places::value_of(text, places, k.counterlink));
-    let counter = version_of(places::value_of(text, places, k.counterversion));
     Links {
-        serial,
-        external,
-        device,
-        counter,
+        serial: is_serial(places::value_of(text, places, k.link)),
+        external: is_external(places::value_of(text, places, k.counterlink)),
+        device: version_of(places::value_of(text, places, k.version)),
+        counter: version_of(places::value_of(text, places, k.counterversion)),
         speedtest,
     }
 }
@@ -638,31 +562,13 @@ fn links_of(file: u32, text: &[u8], places: &[u32]) -> Links
     }
 }
 
-fn with_links(booking: Booking, links: Links) -> Conditions
-    ensures { result ≡ with_links booking links }
-{
-    let fuel = booking.fuel;
-    let device = links.device;
-    let counter = links.counter;
-    let speedtest = links.speedtest;
-    Conditions {
-        category: booking.category,
-        six: booking.six,
-        fuel,
-        late: booking.late,
-        nessuna: booking.nessuna,
-        serial: links.serial,
-        external: links.external,
-        device,
-        counter,
-        speedtest,
-    }
-}
-
 // The conditions of the file of this number, from what AC2 says and the file's own text.
 pub fn conditions_of(file: u32, booking: Booking, own: &[u8], places: &[u32]) -> Conditions
     requires { NumberHeld file 0 own.now places.now }
     ensures { result ≡ with_links booking (links_numbered file own.now places.now) }
 {
-    with_links(booking, links_of(file, own, places))
+    Conditions {
+        booking,
+        links: links_of(file, own, places),
+    }
 }

@@ -6,6 +6,8 @@ use mathlib.Core.Bool.{Bool, true, false}
 use mathlib.Core.List.{List, map}
 use lib.ListN.{length}
 use borrow.Author.Tests.{le-leb, lt-leb, eq-eqb, ne_eqb}
+use Rattle.std.specs.Prelude.{Result, Ok, Err}
+use Rattle.refusals.specs.declared.Refusal.{Refusal}
 use Rattle.refusals.specs.declared.RefusalKind.TheVariants.{PlacesTooShort, FileOrAxles, SliceNotAsDue}
 use Rattle.places.specs.Places.{cleared, value_at}
 use Rattle.tables.specs.File.{File, file_number, fixed_sections, least_places, least_sections, of_number, is_file, table_of}
@@ -13,11 +15,7 @@ use Rattle.tables.specs.Value.{values_of, Held, NumberHeld}
 use Rattle.files.specs.Files.{read_numbered, axles_of, is_by_hand, by_hand_in}
 use Rattle.files.specs.Steps.{ReadsText}
 use Rattle.files.specs.Alone.{refused_as, read_given, read_alone, alone_answer, alone_places, ReadsCleared, ReadsAlone}
-use Rattle.files.specs.declared.Fault.{Fault}
-use Rattle.files.specs.declared.FileAnswer.{FileAnswer}
-use Rattle.files.specs.declared.FileAnswer.TheVariants.{Accepted}
-use Rattle.files.specs.declared.TextAnswer.{TextAnswer}
-use Rattle.files.specs.declared.TextAnswer.TheVariants.{Sections, Faulty}
+use Rattle.files.specs.declared.FileAcceptance.{FileAcceptance}
 use Rattle.tables.specs.File.{sections, axle_sections, axles_from}
 use Rattle.tables.proofs.Files.{of_number_lem, is-file}
 use Rattle.tables.proofs.Values.{held_number}
@@ -31,21 +29,17 @@ module _ (n : ℕ) (s p : List ℕ) where
   unfolding read_given
   cleared-empty e = let b = eq-eqb (length s) 0 e in record { answer = rw b; places = rw b }
 
-  module _ (f : ¬ (length s ≡ 0)) (q ls : List ℕ) (r : TextAnswer) (w : ReadsText n s r p q ls) where
+  module _ (f : ¬ (length s ≡ 0)) (q ls : List ℕ) where
     filled : read_given n s ≡ read_numbered n s
     unfolding read_given
     filled = rw (ne_eqb (length s) 0 f)
 
-    pub cleared-faulty : (x : Fault) → r ≡ Faulty x → ReadsCleared n s p q (refused_as x.kind n x.line)
-    cleared-faulty x e =
-        let v = subst (λ (y : TextAnswer). ReadsText n s y p q ls) e w in
+    pub cleared-faulty : (x : Refusal) → ReadsText n s (Err x) p q ls → ReadsCleared n s p q (Err x)
+    cleared-faulty x v =
         let g = filled ∙ v.0 in
-        record { answer = rw g; places = rw g v.1 }
+        record { answer = rw (g, v.1); places = rw g v.2 }
 
-    module _ (enough : least_places ≤ length p) (is : is_file n ≡ true) (c : ℕ) (e : r ≡ Sections c) (a : ℕ) (k : a ≡ c - of_number 0 (λ f. length (fixed_sections f)) n) where
-      abbrev v : ReadsText n s (Sections c) p q ls
-      v = subst (λ (y : TextAnswer). ReadsText n s y p q ls) e w
-
+    module _ (enough : least_places ≤ length p) (is : is_file n ≡ true) (c : ℕ) (v : ReadsText n s (Ok c) p q ls) (a : ℕ) (k : a ≡ c - of_number 0 (λ f. length (fixed_sections f)) n) where
       abbrev file : File
       file = (is-file n is).0
 
@@ -65,7 +59,7 @@ module _ (n : ℕ) (s p : List ℕ) where
           ∙ ap (is_by_hand file) (text-values file n number s p q ls c v enough)
           ∙ sym (of_number_lem false (λ f. is_by_hand f (map (value_at s) v.0)) file n number)
 
-      pub cleared-read : (h : Bool) → h ≡ by_hand_in n (λ f. values_of f a s q) → ReadsCleared n s p q (Accepted (record { axles = a; byhand = h }))
+      pub cleared-read : (h : Bool) → h ≡ by_hand_in n (λ f. values_of f a s q) → ReadsCleared n s p q (Ok (record { axles = a; byhand = h }))
       cleared-read h i =
           let g = filled ∙ v.1 in
           record {
@@ -98,9 +92,8 @@ few-sections (suc (suc (suc (suc (suc (suc (suc zero))))))) = omega arith
 few-sections (suc (suc (suc (suc (suc (suc (suc (suc n)))))))) = omega arith
 
 -- the count of a text that was read
-pub count-in : (n : ℕ) (s p q ls : List ℕ) (r : TextAnswer) (c : ℕ) → ReadsText n s r p q ls → r ≡ Sections c → (of_number 0 (λ f. length (fixed_sections f)) n ≤ c) × (c ≤ 10)
-count-in n s p q ls r c w e =
-    let v = subst (λ (y : TextAnswer). ReadsText n s y p q ls) e w in
+pub count-in : (n : ℕ) (s p q ls : List ℕ) (c : ℕ) → ReadsText n s (Ok c) p q ls → (of_number 0 (λ f. length (fixed_sections f)) n ≤ c) × (c ≤ 10)
+count-in n s p q ls c v =
     let i = (sound (table_of n) (of_number 0 least_sections n) s (number-distinct n) c v.0 _ (by-inv (table_of n) (of_number 0 least_sections n) s c v.0 _ v.1).1).is in
     (omega (arith, fixed-least n, i.enough), omega (arith, few-sections n, i.most))
 
@@ -114,6 +107,6 @@ module _ (n : ℕ) (s p : List ℕ) where
     unfolding alone_answer alone_places read_alone
     alone-none e = let b = le-leb least_places (length p) l in record { answer = rw (b, e); places = rw (b, e) }
 
-    pub alone-given : is_file n ≡ true → (q : List ℕ) (r : FileAnswer) → ReadsCleared n s (cleared least_places p) q r → ReadsAlone n s p q r
+    pub alone-given : is_file n ≡ true → (q : List ℕ) (r : Result FileAcceptance Refusal) → ReadsCleared n s (cleared least_places p) q r → ReadsAlone n s p q r
     unfolding alone_answer alone_places read_alone
     alone-given e q r w = let b = le-leb least_places (length p) l in record { answer = rw (b, e) w.answer; places = rw (b, e) w.places }

@@ -1,4 +1,5 @@
 pub mod Rows
+pub mod Slots
 pub mod Entries
 pub mod Numbers
 pub mod Steps

@@ -1,17 +1,19 @@
--- The numbers of a text's lines are at most its length. Assumes nothing.
-use Prim.Native.Nat.{ℕ, ◌≤◌, ◌<◌}
+-- The places within a line that was read, and its number, are at most the text's length. Assumes nothing.
+use Prim.Native.Nat.{ℕ, ◌+◌, ◌≤◌, ◌<◌}
 use native.Mathlib.Omega.{arith}
-use mathlib.Core.Path.{◌≡◌, refl}
+use mathlib.Core.Path.{◌≡◌, sym, ◌∙◌}
 use mathlib.Core.Bool.{Bool, true, false}
 use mathlib.Core.List.{List}
+use mathlib.Core.Path.{refl}
 use lib.Dec.{leb}
 use lib.ListN.{length}
 use borrow.Author.Tests.{leb-true, leb-false}
 use Rattle.lines.specs.Reading.{line_at}
 use Rattle.lines.specs.declared.Cursor.{Cursor}
+use Rattle.lines.specs.declared.LineRead.{LineRead}
 use Rattle.lines.specs.declared.LineRead.TheVariants.{Bad, Heading, Entry}
 use Rattle.lines.proofs.Bools.{clash}
-use Rattle.lines.proofs.Lines.{end_reads, bad-number, entry_read, heading-moves, entry-moves}
+use Rattle.lines.proofs.Lines.{end_reads, bad-number, entry_read, heading-moves, entry-moves, heading-inside, entry-inside}
 
 pub bad-most : (s : List ℕ) (c : Cursor) (n : ℕ) → line_at s c ≡ Bad n → n ≤ length s
 bad-most s c n e = go (leb (length s) c.at) (λ h. leb-true (length s) c.at h) (λ h. leb-false (length s) c.at h)
@@ -20,12 +22,44 @@ bad-most s c n e = go (leb (length s) c.at) (λ h. leb-true (length s) c.at h) (
     go true f g = let p = end_reads s c (f refl) in clash (cc)
     go false f g = let l = g refl in omega (arith, bad-number s c n e)
 
-pub heading-most : (s : List ℕ) (c : Cursor) (a e : ℕ) (n : Cursor) → line_at s c ≡ Heading a e n → n.line ≤ length s
-heading-most s c a e n p = let m = heading-moves s c a e n p in omega (arith, m.within, m.counted)
+-- a heading from a to e, and the position n after it
+pub record HeadingIn (s : List ℕ) (c : Cursor) (a e : ℕ) (n : Cursor) : Type 0 where
+  pub is : line_at s c ≡ Heading a e n
+  pub low : a ≤ e
+  pub top : e ≤ length s
+  pub on : c.at < n.at
+  pub within : n.at ≤ length s
+  pub number : n.line ≤ length s
 
-pub entry-most : (s : List ℕ) (c : Cursor) (a q e : ℕ) (n : Cursor) → line_at s c ≡ Entry a q e n → n.line ≤ length s
-entry-most s c a q e n p = let m = entry-moves s c a q e n p in omega (arith, m.within, m.counted)
+pub heading-in : {s : List ℕ} {c : Cursor} {a e : ℕ} {n : Cursor} {r : LineRead} → r ≡ line_at s c → r ≡ Heading a e n → HeadingIn s c a e n
+heading-in {s} {c} {a} {e} {n} u v =
+    let p = sym u ∙ v in
+    let i = heading-inside s c a e n p in
+    let m = heading-moves s c a e n p in
+    record { is = p; low = i.high; top = i.top; on = m.on; within = m.within; number = omega (arith, m.within, m.counted) }
 
--- an entry's name ends where it starts, or later
-pub entry-start : (s : List ℕ) (c : Cursor) (a q e : ℕ) (n : Cursor) → line_at s c ≡ Entry a q e n → a ≤ q
-entry-start s c a q e n p = let r = entry_read s c a q e n p in omega (arith, r.starts, r.splits)
+-- an entry from a to e, with its `=` at q
+pub record EntryIn (s : List ℕ) (c : Cursor) (a q e : ℕ) (n : Cursor) : Type 0 where
+  pub is : line_at s c ≡ Entry a q e n
+  pub low : a ≤ q
+  pub high : q + 1 ≤ e
+  pub top : e ≤ length s
+  pub on : c.at < n.at
+  pub within : n.at ≤ length s
+  pub number : n.line ≤ length s
+
+pub entry-in : {s : List ℕ} {c : Cursor} {a q e : ℕ} {n : Cursor} {r : LineRead} → r ≡ line_at s c → r ≡ Entry a q e n → EntryIn s c a q e n
+entry-in {s} {c} {a} {q} {e} {n} u v =
+    let p = sym u ∙ v in
+    let r = entry_read s c a q e n p in
+    let i = entry-inside s c a q e n p in
+    let m = entry-moves s c a q e n p in
+    record {
+      is = p;
+      low = omega (arith, r.starts, r.splits);
+      high = i.high;
+      top = i.top;
+      on = m.on;
+      within = m.within;
+      number = omega (arith, m.within, m.counted);
+    }

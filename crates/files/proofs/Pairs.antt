@@ -10,7 +10,8 @@ use lib.ListN.{length}
 use borrow.Author.Tests.{leb-true, le-leb, lt-leb, ne_eqb}
 use Rattle.lines.proofs.Bools.{clash}
 use Rattle.refusals.specs.Refusals.{number_of}
-use Rattle.refusals.specs.Answer.{Answer, refusal, acceptance, refusal_of}
+use Rattle.std.specs.Prelude.{Result, Ok, Err}
+use Rattle.refusals.specs.Answer.{Answer, refusal, acceptance, refusal_of, answer_is}
 use Rattle.refusals.specs.declared.Refusal.{Refusal}
 use Rattle.places.specs.Places.{Pair, set_pairs, pairs_at, value_at, values_at, cleared, Within}
 use Rattle.places.proofs.Laws.{set-length, drop-pairs, cleared-length, cleared-drop}
@@ -22,10 +23,8 @@ use Rattle.reading.proofs.Tables.{tables-distinct}
 use Rattle.reading.proofs.Formed.{text-length}
 use Rattle.reading.proofs.Theorem.{sound}
 use Rattle.files.specs.Files.{read_file, read_numbered, axles_of, IsFile, is_by_hand, by_hand_in}
-use Rattle.files.specs.Alone.{accepted, answer_is, answer_of, pairs_set, read_given, read_alone, alone_answer, alone_places, ReadsAlone}
+use Rattle.files.specs.Alone.{accepted, answer_of, pairs_set, read_given, read_alone, alone_answer, alone_places, ReadsAlone}
 use Rattle.files.specs.declared.FileAcceptance.{FileAcceptance}
-use Rattle.files.specs.declared.FileAnswer.{FileAnswer}
-use Rattle.files.specs.declared.FileAnswer.TheVariants.{Accepted, Refused}
 use Rattle.files.proofs.Theorem.{by-inv, FileRead, read-sound, read-complete}
 use Rattle.files.proofs.Texts.{few-axles, pairs-fit, own-pairs, read-numbered}
 use Rattle.files.proofs.Alone.{fixed-least, few-sections}
@@ -95,8 +94,8 @@ module _ (n : ℕ) (s p q : List ℕ) (axles : ℕ) (l : least_places ≤ length
         places-are = d ∙ ap (λ (m : ℕ). set_pairs m ps (cleared least_places p)) (of_number_lem 0 first_pair f n g);
       }
 
-module _ {n : ℕ} {s p q : List ℕ} {r : FileAnswer} (w : ReadsAlone n s p q r) where
-  pub accepted-inv : (x : FileAcceptance) → r ≡ Accepted x → AloneRead n s p q x.axles
+module _ {n : ℕ} {s p q : List ℕ} {r : Result FileAcceptance Refusal} (w : ReadsAlone n s p q r) where
+  pub accepted-inv : (x : FileAcceptance) → r ≡ Ok x → AloneRead n s p q x.axles
   unfolding alone_answer alone_places
   accepted-inv x e = go (leb least_places (length p)) refl (sym (ap answer_is e) ∙ w.answer) w.places
     where
@@ -110,7 +109,7 @@ module _ {n : ℕ} {s p q : List ℕ} {r : FileAnswer} (w : ReadsAlone n s p q r
       go false h a d = clash (cc)
 
   -- where there are places enough
-  pub refused-inv : (x : Refusal) → r ≡ Refused x → least_places ≤ length p
+  pub refused-inv : (x : Refusal) → r ≡ Err x → least_places ≤ length p
       → (read_alone n s ≡ refused (number_of x.kind) x.line) × (n ≡ x.file) × (q ≡ cleared least_places p)
   unfolding alone_answer alone_places
   refused-inv x e l =
@@ -122,7 +121,7 @@ module _ {n : ℕ} {s p q : List ℕ} {r : FileAnswer} (w : ReadsAlone n s p q r
       given (refused k i) h a d = (cc, cc, d)
       given (read c ps ls) h a d = clash (cc)
 
-  pub short-inv : (x : Refusal) → r ≡ Refused x → length p < least_places → (refusal_of {A = FileAcceptance} x ≡ refusal 1 0 0) × (q ≡ p)
+  pub short-inv : (x : Refusal) → r ≡ Err x → length p < least_places → (refusal_of {A = FileAcceptance} x ≡ refusal 1 0 0) × (q ≡ p)
   unfolding alone_answer alone_places
   short-inv x e l =
       let b = lt-leb least_places (length p) l in

@@ -11,7 +11,10 @@ use borrow.Author.Tests.{ne_eqb}
 use Rattle.kinds.specs.Kind.{Kind, kind_of}
 use Rattle.kinds.specs.Value.{kind_ok, kind_kept}
 use Rattle.places.specs.Places.{value_at}
-use Rattle.reading.specs.Reading.{Slots, owner_row, kept_row, is_wrong}
+use Rattle.reading.specs.Reading.{owner_row, kept_row, is_wrong}
+use Rattle.files.specs.Steps.{slots_of, slot_at, place_of}
+use Rattle.files.specs.declared.Slot.{Slot}
+use Rattle.files.proofs.Slots.{start-at, length-at}
 use Rattle.tables.specs.Section.{Section}
 use Rattle.tables.specs.Row.{row_count, rows_before, row_kind}
 use Rattle.kinds.proofs.Laws.{kind_count}
@@ -26,10 +29,9 @@ module _ (ns : List ℕ) (r : ℕ) (l : r < length ns) where
   pub entry_at : get_or ns r 0 < kind_count → get_or (map row_kind ns) r none ≡ some (kind_of (get_or ns r 0))
   entry_at h = sym (number_at ns r l) ∙ entry_row (get_or ns r 0) h
 
-  pub wrong_row : (s : List ℕ) (a : Slots) (b : Bool) → b ≡ kept_row (row_kind (get_or ns r 0)) (value_at s (get_or a.starts r 0, get_or a.lengths r 0))
-      → is_wrong (map row_kind ns) s a r ≡ not b
-  wrong_row s a b e =
-      ap (λ (o : Option Kind). not (kept_row o (value_at s (get_or a.starts r 0, get_or a.lengths r 0)))) (sym (number_at ns r l)) ∙ ap not (sym e)
+  pub wrong_row : (s : List ℕ) (xs : List Slot) (b : Bool) → b ≡ kept_row (row_kind (get_or ns r 0)) (value_at s (place_of (slot_at xs r))) → is_wrong (map row_kind ns) s (slots_of xs) r ≡ not b
+  wrong_row s xs b e =
+      rw (start-at xs r, length-at xs r) (ap (λ (o : Option Kind). not (kept_row o (value_at s (place_of (slot_at xs r))))) (sym (number_at ns r l)) ∙ ap not (sym e))
 
 -- the same of the first n rows
 module _ (ns : List ℕ) (n : ℕ) (m : n ≤ length ns) where

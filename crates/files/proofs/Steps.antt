@@ -4,10 +4,12 @@ use native.Mathlib.Omega.{arith}
 use mathlib.Core.Path.{◌≡◌, refl, ap, ap₂, sym, subst, ◌∙◌}
 use mathlib.Core.Option.{Option, some}
 use mathlib.Core.List.{List, [], ◌∷◌, ◌++◌, map}
-use lib.ListN.{length, take, drop, replicate, length-append, length-drop, length-map, length-take}
+use lib.ListN.{length, take, drop, length-append, length-drop, length-map, length-take}
 use borrow.Author.Tests.{le-leb, lt-leb}
+use Rattle.std.specs.Prelude.{Result, Ok, Err}
 use Rattle.reading.specs.Tables.{most_bytes}
-use Rattle.refusals.specs.Refusals.{number_of}
+use Rattle.refusals.specs.Refusals.{number_of, refusal_with}
+use Rattle.refusals.specs.declared.RefusalKind.TheVariants.{FileTooLong}
 use Rattle.kinds.specs.Kind.{Kind}
 use Rattle.places.specs.Places.{place_size}
 use Rattle.tables.specs.Section.{Entry, Section, entries_of}
@@ -16,19 +18,16 @@ use Rattle.tables.specs.Row.{row_count, rows_before, row_kinds, row_kind, most_r
 use Rattle.tables.proofs.Numbers.{room_in}
 use Rattle.tables.proofs.Rows.{rows_few, kinds-count, rows-le}
 use Rattle.orders.specs.AnyOrder.{zip}
-use Rattle.reading.specs.Reading.{check_absent, check_kinds, of_entries, Slots, slots, empty_slots, refused, read, read_text}
+use Rattle.reading.specs.Reading.{of_entries, Slots, Scan, stopped, scanned, empty_slots, read, read_text}
 use Rattle.reading.specs.Scanning.{Ready, Scanned}
 use Rattle.reading.proofs.Sections.{kinds-take}
-use Rattle.reading.proofs.Shape.{entries-length}
 use Rattle.reading.proofs.Judging.{scan-refused, scan-judged}
 use Rattle.files.specs.Files.{read_by, read_numbered}
-use Rattle.files.specs.Steps.{KindsOf, scan_is, check_is, ValuesReady, JudgesSlots, RowsReady, WriteReady, WritesRows, WritesRead, ReadsSlots, ReadsText}
+use Rattle.files.specs.Steps.{KindsOf, slots_of, ValuesReady, JudgesSlots, RowsReady, WriteReady, WritesRows, WritesRead, ReadsSlots, ReadsText}
 use Rattle.files.specs.declared.Fault.{Fault}
-use Rattle.files.specs.declared.Outcome.{Outcome}
-use Rattle.files.specs.declared.Outcome.TheVariants.{Passed, Failed}
-use Rattle.files.specs.declared.TextAnswer.{TextAnswer}
-use Rattle.files.specs.declared.TextAnswer.TheVariants.{Sections, Faulty}
-use Rattle.files.proofs.Entries.{zip_length}
+use Rattle.files.specs.declared.Slot.{Slot}
+use Rattle.files.proofs.Entries.{entries-pairs, entries-lines}
+use Rattle.files.proofs.Slots.{lines-length, start-at, length-at}
 
 -- ---- the kinds by their numbers
 
@@ -36,22 +35,13 @@ module _ (n : ℕ) (ks : List ℕ) (k : KindsOf n ks) where
   pub kinds-length : length ks ≡ row_count (table_of n)
   kinds-length = sym (length-map ks row_kind) ∙ ap length k ∙ kinds-count (table_of n)
 
-  -- the checks over the numbers are those over the kinds
-  pub absent-is : (o : Outcome) (l : List ℕ) (rows : ℕ) → check_is o ≡ check_absent (map row_kind ks) l rows → check_absent (row_kinds (table_of n)) l rows ≡ check_is o
-  absent-is o l rows e = ap (λ (x : List (Option Kind)). check_absent x l rows) (sym k) ∙ sym e
-
-  pub kinds-is : (o : Outcome) (s : List ℕ) (a : Slots) (rows : ℕ) → check_is o ≡ check_kinds (map row_kind ks) s a rows → check_kinds (row_kinds (table_of n)) s a rows ≡ check_is o
-  kinds-is o s a rows e = ap (λ (x : List (Option Kind)). check_kinds x s a rows) (sym k) ∙ sym e
-
-  pub values-ready : (s : List ℕ) (a : Slots) (rows : ℕ) → Ready (table_of n) s a → rows ≤ row_count (table_of n) → ValuesReady ks s a rows
-  values-ready s a rows w l =
+  pub values-ready : (s : List ℕ) (xs : List Slot) (rows : ℕ) → Ready (table_of n) s (slots_of xs) → rows ≤ row_count (table_of n) → ValuesReady ks s xs rows
+  values-ready s xs rows w l =
       record {
         kinds-there = omega (arith, kinds-length);
-        lines-there = omega (arith, w.lines_are);
-        starts-there = omega (arith, w.starts-are);
-        lengths-there = omega (arith, w.lengths-are);
-        within = w.within;
-        printable = w.printable;
+        slots-there = omega (arith, w.lines_are, lines-length xs);
+        within = λ (r : ℕ). rw (start-at xs r, length-at xs r) at (w.within r);
+        printable = λ (r : ℕ). rw (start-at xs r, length-at xs r) at (w.printable r);
       }
 
 -- the first numbers, as many as the table has rows
@@ -119,7 +109,7 @@ lines_fit n c = omega (arith, entries-first (table_of n) c, entries-le (table_of
 
 -- ---- what write_read asks of its parts, and gives
 
-module _ (n c : ℕ) (ks : List ℕ) (k : KindsOf n ks) (a : Slots) (p ls : List ℕ) (w : WriteReady n c a p ls) (rows : ℕ) (e : rows ≡ rows_before (table_of n) c) where
+module _ (n c : ℕ) (ks : List ℕ) (k : KindsOf n ks) (xs : List Slot) (p ls : List ℕ) (w : WriteReady n c xs p ls) (rows : ℕ) (e : rows ≡ rows_before (table_of n) c) where
   first_rows : take rows (map row_kind ks) ≡ row_kinds (take c (table_of n))
   first_rows = ap₂ (λ (m : ℕ) (x : List (Option Kind)). take m x) e k ∙ sym (kinds-take (table_of n) c)
 
@@ -129,87 +119,59 @@ module _ (n c : ℕ) (ks : List ℕ) (k : KindsOf n ks) (a : Slots) (p ls : List
   few : row_count (take c (table_of n)) ≤ row_count (table_of n)
   few = rows-le (table_of n) c
 
-  pub rows-ready : (first : ℕ) → first ≡ of_number 0 first_pair n → RowsReady ks first a rows p ls
+  pub rows-ready : (first : ℕ) → first ≡ of_number 0 first_pair n → RowsReady ks first xs rows p ls
   rows-ready first f =
-      let z = zip_length a.starts a.lengths (w.lengths-are ∙ sym w.starts-are) in
-      let m = entries-many (take c (table_of n)) (zip a.starts a.lengths) (omega (arith, few, z, w.starts-are, w.rows_are)) in
-      let l = entries-many (take c (table_of n)) a.line_numbers (omega (arith, few, w.rows_are)) in
+      let m = entries-many (take c (table_of n)) xs (omega (arith, few, w.rows_are)) in
       record {
         kinds-there = omega (arith, rows_fit, kinds-length n ks k);
-        lines-there = omega (arith, rows_fit, w.rows_are);
-        starts-there = omega (arith, rows_fit, w.starts-are, w.rows_are);
-        lengths-are = w.lengths-are ∙ sym w.starts-are;
+        slots-there = omega (arith, rows_fit, w.rows_are);
         pairs-fit = rw first_rows (omega (arith, m, f, w.pairs-fit));
-        lines_fit = rw first_rows (omega (arith, l, w.lines_fit));
+        lines_fit = rw first_rows (omega (arith, m, w.lines_fit));
       }
 
-  pub rows_written : (first : ℕ) (q l : List ℕ) → first ≡ of_number 0 first_pair n → WritesRows (take rows (map row_kind ks)) first a p q l → WritesRead n c a p q l
+  pub rows_written : (first : ℕ) (q l : List ℕ) → first ≡ of_number 0 first_pair n → WritesRows (take rows (map row_kind ks)) first (slots_of xs) p q l → WritesRead n c (slots_of xs) p q l
   rows_written first q l f x =
-      subst (λ (m : ℕ). WritesRows (row_kinds (take c (table_of n))) m a p q l) f
-      (subst (λ (y : List (Option Kind)). WritesRows y first a p q l) first_rows x)
+      subst (λ (m : ℕ). WritesRows (row_kinds (take c (table_of n))) m (slots_of xs) p q l) f
+      (subst (λ (y : List (Option Kind)). WritesRows y first (slots_of xs) p q l) first_rows x)
 
 -- ---- 4 to 9
 
-module _ (n : ℕ) (s : List ℕ) (b a : Slots) (o : Outcome) (e : b ≡ empty_slots (row_count (table_of n))) (w : Scanned (table_of n) s b a (scan_is o a)) where
-  from_empty : Scanned (table_of n) s (empty_slots (row_count (table_of n))) a (scan_is o a)
-  from_empty = subst (λ (x : Slots). Scanned (table_of n) s x a (scan_is o a)) e w
+module _ (n : ℕ) (s : List ℕ) (b a : Slots) (e : b ≡ empty_slots (row_count (table_of n))) where
+  from_empty : (x : Scan) → Scanned (table_of n) s b a x → Scanned (table_of n) s (empty_slots (row_count (table_of n))) a x
+  from_empty x w = subst (λ (y : Slots). Scanned (table_of n) s y a x) e w
 
-  pub slots-refused : (x : Fault) → o ≡ Failed x → ReadsSlots n s a (Faulty x)
-  slots-refused x q =
-      record {
-        ready = w.still;
-        is = scan-refused (table_of n) (of_number 0 least_sections n) s a (number_of x.kind) x.line (subst (λ (y : Outcome). Scanned (table_of n) s (empty_slots (row_count (table_of n))) a (scan_is y a)) q from_empty);
-      }
+  pub slots-refused : (x : Fault) → Scanned (table_of n) s b a (stopped (number_of x.kind) x.line) → ReadsSlots n s a (Err x)
+  slots-refused x w = record { ready = w.still; is = scan-refused (table_of n) (of_number 0 least_sections n) s a _ _ (from_empty _ w) }
 
-  pub slots-judged : (r : TextAnswer) → o ≡ Passed → JudgesSlots (table_of n) (of_number 0 least_sections n) s a r → ReadsSlots n s a r
-  slots-judged r q j =
-      record {
-        ready = w.still;
-        is = scan-judged (table_of n) (of_number 0 least_sections n) s a (subst (λ (y : Outcome). Scanned (table_of n) s (empty_slots (row_count (table_of n))) a (scan_is y a)) q from_empty) ∙ j.is;
-      }
+  pub slots-judged : (r : Result ℕ Fault) → Scanned (table_of n) s b a (scanned a) → JudgesSlots (table_of n) (of_number 0 least_sections n) s a r → ReadsSlots n s a r
+  slots-judged r w j = record { ready = w.still; is = scan-judged (table_of n) (of_number 0 least_sections n) s a (from_empty _ w) ∙ j.is }
 
 -- ---- 3 to 9
 
 module _ (n : ℕ) (s : List ℕ) where
-  pub text-long : (p ls : List ℕ) → most_bytes < length s → (read_numbered n s ≡ refused 3 0) × (p ≡ p)
+  pub text-long : (p ls : List ℕ) → most_bytes < length s → ReadsText n s (Err (refusal_with FileTooLong n 0)) p p ls
   unfolding read_by
-  text-long p ls l = (rw (lt-leb (length s) most_bytes l), refl)
+  text-long p ls l = (rw (lt-leb (length s) most_bytes l), refl, refl)
 
-  module _ (l : length s ≤ most_bytes) (a : Slots) where
+  module _ (l : length s ≤ most_bytes) (xs : List Slot) where
     by-text : read_numbered n s ≡ read_text (table_of n) (of_number 0 least_sections n) s
     unfolding read_by
     by-text = rw (le-leb (length s) most_bytes l)
 
-    pub text-faulty : (r : TextAnswer) (x : Fault) (p ls : List ℕ) → ReadsSlots n s a r → r ≡ Faulty x → ReadsText n s r p p ls
-    text-faulty r x p ls w e =
-        let v = subst (λ (y : TextAnswer). ReadsSlots n s a y) e w in
-        subst (λ (y : TextAnswer). ReadsText n s y p p ls) (sym e) (by-text ∙ v.is, refl)
+    pub text-faulty : (x : Fault) (p ls : List ℕ) → ReadsSlots n s (slots_of xs) (Err x) → ReadsText n s (Err (refusal_with x.kind n x.line)) p p ls
+    text-faulty x p ls w = (by-text ∙ w.is, refl, refl)
 
-    pub text-ready : (c : ℕ) (p ls : List ℕ) → Ready (table_of n) s a → least_places ≤ length p → most_rows ≤ length ls → WriteReady n c a p ls
+    pub text-ready : (c : ℕ) (p ls : List ℕ) → Ready (table_of n) s (slots_of xs) → least_places ≤ length p → most_rows ≤ length ls → WriteReady n c xs p ls
     text-ready c p ls w h k =
         record {
-          starts-are = w.starts-are ∙ sym w.lines_are;
-          lengths-are = w.lengths-are ∙ sym w.lines_are;
-          rows_are = w.lines_are;
+          rows_are = sym (lines-length xs) ∙ w.lines_are;
           pairs-fit = pairs-fit n c p h;
           lines_fit = omega (arith, lines_fit n c);
         }
 
-    pub text-read : (r : TextAnswer) (c : ℕ) (p q ls : List ℕ) → ReadsSlots n s a r → r ≡ Sections c → WritesRead n c a p q ls → ReadsText n s (Sections c) p q ls
-    text-read r c p q ls x e v =
-        let w = subst (λ (y : TextAnswer). ReadsSlots n s a y) e x in
+    pub text-read : (c : ℕ) (p q ls : List ℕ) → ReadsSlots n s (slots_of xs) (Ok c) → WritesRead n c (slots_of xs) p q ls → ReadsText n s (Ok c) p q ls
+    text-read c p q ls w v =
         let ks = row_kinds (take c (table_of n)) in
-        let ps = of_entries ks (zip a.starts a.lengths) in
-        let z = zip_length a.starts a.lengths (w.ready.lengths-are ∙ sym w.ready.starts-are) in
-        let m : length ps ≡ length (of_entries ks a.line_numbers) = entries-length ks a.line_numbers (zip a.starts a.lengths) (z ∙ w.ready.starts-are ∙ sym w.ready.lines_are) in
+        let ps = of_entries ks (zip (slots_of xs).starts (slots_of xs).lengths) in
+        let m : length ps ≡ length (of_entries ks (slots_of xs).line_numbers) = rw (entries-pairs ks xs, entries-lines ks xs) (simp length-map) in
         (ps, by-text ∙ w.is ∙ ap (λ (l : List ℕ). read c ps l) (sym v.lines ∙ ap (λ (i : ℕ). take i ls) (sym m)), v.pairs)
-
--- ---- slots that are empty at first
-
-take-zeros : (n m : ℕ) → n ≤ m → ◌≡◌ {A = List ℕ} (take n (replicate m 0)) (replicate n 0)
-take-zeros zero m l = refl
-take-zeros (suc n) zero l = absurd (omega arith)
-take-zeros (suc n) (suc m) l = ap (λ (x : List ℕ). 0 ∷ x) (take-zeros n m (omega arith))
-
-pub empty-part : (n k m : ℕ) → n ≡ k → k ≤ m → slots (take n (replicate m 0)) (take n (replicate m 0)) (take n (replicate m 0)) ≡ empty_slots k
-empty-part n k m e l = rw (e, take-zeros k m l)

@@ -1,27 +1,21 @@
 -- One file read alone, by its number (01, Writing): "1, 16 for the file, 11 where it is empty, then 3 to 9 as above".
-use Rattle.std.specs.Prelude.{ℕ, ◌≡◌, Bool, cond, List, map, eqb, leb, length}
-use Rattle.refusals.specs.Answer.{Answer, refusal, acceptance, refusal_of}
+use Rattle.std.specs.Prelude.{ℕ, ◌≡◌, Bool, cond, List, map, eqb, leb, length, Result, Err}
+use Rattle.refusals.specs.Answer.{Answer, refusal, acceptance, answer_is}
 use Rattle.refusals.specs.Refusals.{refusal_with}
+use Rattle.refusals.specs.declared.Refusal.{Refusal}
 use Rattle.refusals.specs.declared.RefusalKind.{RefusalKind}
 use Rattle.tables.specs.File.{first_pair, least_places, of_number, is_file}
 use Rattle.places.specs.Places.{set_pairs, value_at, cleared}
 use Rattle.reading.specs.Reading.{Reading, refused, read}
 use Rattle.files.specs.Files.{read_numbered, axles_of, by_hand_in}
 use Rattle.files.specs.declared.FileAcceptance.{FileAcceptance}
-use Rattle.files.specs.declared.FileAnswer.{FileAnswer}
-use Rattle.files.specs.declared.FileAnswer.TheVariants.{Accepted, Refused}
-
--- what the answer enum says
-abbrev pub answer_is : FileAnswer → Answer FileAcceptance
-answer_is (Refused x) = refusal_of x
-answer_is (Accepted a) = acceptance a
 
 -- "the same places and axle count"; 02, 1/14: "A file read alone gives it likewise"
 abbrev pub accepted : ℕ → Bool → FileAcceptance
 accepted axles byhand = record { axles = axles; byhand = byhand }
 
-abbrev pub refused_as : RefusalKind → ℕ → ℕ → FileAnswer
-refused_as k f l = Refused (refusal_with k f l)
+abbrev pub refused_as : RefusalKind → ℕ → ℕ → Result FileAcceptance Refusal
+refused_as k f l = Err (refusal_with k f l)
 
 -- 11, then 3 to 9, of the file of a number
 unfoldable pub read_given : ℕ → List ℕ → Reading
@@ -50,10 +44,10 @@ unfoldable pub alone_places : ℕ → List ℕ → List ℕ → List ℕ
 alone_places n s p = cond (leb least_places (length p)) (pairs_set n (read_alone n s) (cleared least_places p)) p
 
 -- what is promised where the places are cleared already
-pub record ReadsCleared (n : ℕ) (s p q : List ℕ) (r : FileAnswer) : Type 0 where
+pub record ReadsCleared (n : ℕ) (s p q : List ℕ) (r : Result FileAcceptance Refusal) : Type 0 where
   pub answer : answer_is r ≡ answer_of n s (read_given n s)
   pub places : q ≡ pairs_set n (read_given n s) p
 
-pub record ReadsAlone (n : ℕ) (s p q : List ℕ) (r : FileAnswer) : Type 0 where
+pub record ReadsAlone (n : ℕ) (s p q : List ℕ) (r : Result FileAcceptance Refusal) : Type 0 where
   pub answer : answer_is r ≡ alone_answer n s p
   pub places : q ≡ alone_places n s p

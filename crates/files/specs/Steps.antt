@@ -1,8 +1,9 @@
 -- What the steps of reading one file promise.
-use Rattle.std.specs.Prelude.{ℕ, ◌+◌, ◌*◌, ◌≤◌, ◌≡◌, true, List, map, length, get_or, take}
+use Rattle.std.specs.Prelude.{ℕ, ◌+◌, ◌*◌, ◌≤◌, ◌≡◌, true, List, map, length, get_or, take, Result, Ok, Err}
 use Rattle.std.proofs.Math.Option.{Option}
 use Rattle.lines.specs.Bytes.{all_printable}
 use Rattle.refusals.specs.Refusals.{number_of}
+use Rattle.refusals.specs.declared.Refusal.{Refusal}
 use Rattle.refusals.specs.declared.RefusalKind.{RefusalKind}
 use Rattle.kinds.specs.Kind.{Kind}
 use Rattle.places.specs.Places.{Pair, set_pairs, place_size, value_at}
@@ -12,24 +13,37 @@ use Rattle.orders.specs.AnyOrder.{zip}
 use Rattle.reading.specs.Tables.{most_bytes}
 use Rattle.reading.specs.Scanning.{Ready, Scanned}
 use Rattle.tables.specs.File.{first_pair, least_sections, of_number, table_of}
-use Rattle.reading.specs.Reading.{Slots, Scan, stopped, scanned, Check, passes, fails, Reading, refused, read, read_slots, judge_slots, sections_found, of_entries, read_text, empty_slots}
+use Rattle.reading.specs.Reading.{Slots, slots, Scan, stopped, scanned, Check, passes, fails, Reading, refused, read, read_slots, judge_slots, sections_found, of_entries, read_text, empty_slots}
 use Rattle.files.specs.Files.{read_numbered}
-use Rattle.files.specs.declared.Outcome.{Outcome}
-use Rattle.files.specs.declared.Outcome.TheVariants.{Passed, Failed}
-use Rattle.files.specs.declared.TextAnswer.{TextAnswer}
-use Rattle.files.specs.declared.TextAnswer.TheVariants.{Sections, Faulty}
+use Rattle.files.specs.declared.Fault.{Fault}
+use Rattle.files.specs.declared.Slot.{Slot}
+
+-- what the code's slots hold: each row's line, start and length
+abbrev pub slots_of : List Slot → Slots
+slots_of xs = slots (map (λ (x : Slot). x.line) xs) (map (λ (x : Slot). x.start) xs) (map (λ (x : Slot). x.length) xs)
+
+-- the slot of row r, and its value's place
+abbrev pub slot_at : List Slot → ℕ → Slot
+slot_at xs r = get_or xs r (record { line = 0; start = 0; length = 0 })
+
+abbrev pub place_of : Slot → Pair
+place_of x = (x.start, x.length)
 
 -- the numbers that the code has for the kinds of file n's rows
 abbrev pub KindsOf : ℕ → List ℕ → Type 0
 KindsOf n ks = map row_kind ks ≡ row_kinds (table_of n)
 
+-- a check of a text, or a part of its reading: passed, or the fault
+abbrev pub Outcome : Type 0
+Outcome = Result Unit Fault
+
 abbrev pub failure : RefusalKind → ℕ → Outcome
-failure k l = Failed (record { kind = k; line = l })
+failure k l = Err (record { kind = k; line = l })
 
 -- what the outcome of a scan says, with the slots that it leaves
 abbrev pub scan_is : Outcome → Slots → Scan
-scan_is Passed a = scanned a
-scan_is (Failed x) a = stopped (number_of x.kind) x.line
+scan_is (Ok x) a = scanned a
+scan_is (Err x) a = stopped (number_of x.kind) x.line
 
 -- the text s of file n was scanned, from the slots a to the slots b
 abbrev pub ScansFile : ℕ → List ℕ → Slots → Slots → Outcome → Type 0
@@ -41,47 +55,41 @@ SlotsEmpty n ks s a = KindsOf n ks × (length s ≤ most_bytes) × (a ≡ empty_
 
 -- what the outcome of a check says
 abbrev pub check_is : Outcome → Check
-check_is Passed = passes
-check_is (Failed x) = fails (number_of x.kind) x.line
+check_is (Ok x) = passes
+check_is (Err x) = fails (number_of x.kind) x.line
 
 -- what the answer says, with the slots that the text filled
-abbrev pub slots_read : List Section → TextAnswer → Slots → Reading
-slots_read t (Sections c) a = read_slots t a c
-slots_read t (Faulty x) a = refused (number_of x.kind) x.line
+abbrev pub slots_read : List Section → Result ℕ Fault → Slots → Reading
+slots_read t (Ok c) a = read_slots t a c
+slots_read t (Err x) a = refused (number_of x.kind) x.line
 
--- each of the first rows has a kind number, a line and a value, which is within the text and printable
-pub record ValuesReady (ks s : List ℕ) (a : Slots) (rows : ℕ) : Type 0 where
+-- each of the first rows has a kind number and a slot; the values are within the text and printable
+pub record ValuesReady (ks s : List ℕ) (xs : List Slot) (rows : ℕ) : Type 0 where
   pub kinds-there : rows ≤ length ks
-  pub lines-there : rows ≤ length a.line_numbers
-  pub starts-there : rows ≤ length a.starts
-  pub lengths-there : rows ≤ length a.lengths
-  pub within : (r : ℕ) → get_or a.starts r 0 + get_or a.lengths r 0 ≤ length s
-  pub printable : (r : ℕ) → all_printable (value_at s (get_or a.starts r 0, get_or a.lengths r 0)) ≡ true
+  pub slots-there : rows ≤ length xs
+  pub within : (r : ℕ) → (slot_at xs r).start + (slot_at xs r).length ≤ length s
+  pub printable : (r : ℕ) → all_printable (value_at s (place_of (slot_at xs r))) ≡ true
 
-pub record JudgesSlots (t : List Section) (least : ℕ) (s : List ℕ) (a : Slots) (r : TextAnswer) : Type 0 where
+pub record JudgesSlots (t : List Section) (least : ℕ) (s : List ℕ) (a : Slots) (r : Result ℕ Fault) : Type 0 where
   pub is : judge_slots t least s a (sections_found t a.line_numbers) ≡ slots_read t r a
 
 -- The text s of the file of number n was read: places p before, q after, and in ls the lines of its entries.
 -- By cases of the answer, which has no room for the pairs: they are in the places.
-abbrev pub ReadsText : ℕ → List ℕ → TextAnswer → List ℕ → List ℕ → List ℕ → Type 0
-ReadsText n s (Faulty x) p q ls = (read_numbered n s ≡ refused (number_of x.kind) x.line) × (q ≡ p)
-ReadsText n s (Sections c) p q ls =
+abbrev pub ReadsText : ℕ → List ℕ → Result ℕ Refusal → List ℕ → List ℕ → List ℕ → Type 0
+ReadsText n s (Err x) p q ls = (read_numbered n s ≡ refused (number_of x.kind) x.line) × (x.file ≡ n) × (q ≡ p)
+ReadsText n s (Ok c) p q ls =
     (pairs : List Pair) × (read_numbered n s ≡ read c pairs (take (length pairs) ls)) × (q ≡ set_pairs (of_number 0 first_pair n) pairs p)
 
 -- each of the first rows has a kind number and a slot, and their entries have their place among the pairs and the lines
-pub record RowsReady (ks : List ℕ) (first : ℕ) (a : Slots) (rows : ℕ) (p ls : List ℕ) : Type 0 where
+pub record RowsReady (ks : List ℕ) (first : ℕ) (xs : List Slot) (rows : ℕ) (p ls : List ℕ) : Type 0 where
   pub kinds-there : rows ≤ length ks
-  pub lines-there : rows ≤ length a.line_numbers
-  pub starts-there : rows ≤ length a.starts
-  pub lengths-are : length a.lengths ≡ length a.starts
-  pub pairs-fit : place_size * (first + length (of_entries (take rows (map row_kind ks)) (zip a.starts a.lengths))) ≤ length p
-  pub lines_fit : length (of_entries (take rows (map row_kind ks)) a.line_numbers) ≤ length ls
+  pub slots-there : rows ≤ length xs
+  pub pairs-fit : place_size * (first + length (of_entries (take rows (map row_kind ks)) xs)) ≤ length p
+  pub lines_fit : length (of_entries (take rows (map row_kind ks)) xs) ≤ length ls
 
 -- the entries of the first c sections have their place among the pairs and the lines
-pub record WriteReady (n c : ℕ) (a : Slots) (p ls : List ℕ) : Type 0 where
-  pub starts-are : length a.starts ≡ length a.line_numbers
-  pub lengths-are : length a.lengths ≡ length a.line_numbers
-  pub rows_are : length a.line_numbers ≡ row_count (table_of n)
+pub record WriteReady (n c : ℕ) (xs : List Slot) (p ls : List ℕ) : Type 0 where
+  pub rows_are : length xs ≡ row_count (table_of n)
   pub pairs-fit : place_size * (of_number 0 first_pair n + entries_before (table_of n) c) ≤ length p
   pub lines_fit : entries_before (table_of n) c ≤ length ls
 
@@ -95,6 +103,6 @@ abbrev pub WritesRead : ℕ → ℕ → Slots → List ℕ → List ℕ → List
 WritesRead n c a p q ls = WritesRows (row_kinds (take c (table_of n))) (of_number 0 first_pair n) a p q ls
 
 -- 4 to 9: the text is read from the slots that it leaves
-pub record ReadsSlots (n : ℕ) (s : List ℕ) (a : Slots) (r : TextAnswer) : Type 0 where
+pub record ReadsSlots (n : ℕ) (s : List ℕ) (a : Slots) (r : Result ℕ Fault) : Type 0 where
   pub ready : Ready (table_of n) s a
   pub is : read_text (table_of n) (of_number 0 least_sections n) s ≡ slots_read (table_of n) r a

@@ -3,22 +3,22 @@
 
 ghost use Rattle.std.specs.Prelude.{◌≡◌, map, ◌+◌, ◌≤◌, ◌<◌, length, take, true};
 ghost use Rattle.lines.specs.Bytes.{all_printable};
+ghost use Rattle.refusals.specs.Refusals.{refusal_with};
 ghost use Rattle.places.specs.Places.{value_at};
 ghost use Rattle.tables.specs.File.{table_of, is_file, of_number, least_sections, least_places};
 ghost use Rattle.tables.specs.Value.{values_of, NumberHeld};
 ghost use Rattle.tables.specs.Row.{names as names_of, row_count, most_rows, row_kind};
 ghost use Rattle.tables.specs.Groups.{group_of, Lent};
 ghost use Rattle.reading.specs.Tables.{most_bytes};
-ghost use Rattle.reading.specs.Reading.{slots, sections_found, check_gap, check_absent, check_kinds, kept_row, owner_row};
+ghost use Rattle.reading.specs.Reading.{sections_found, check_gap, check_absent, check_kinds, kept_row, owner_row};
 ghost use Rattle.reading.specs.Scanning.{Took, Ready};
 ghost use Rattle.files.specs.Files.{by_hand_in};
-ghost use Rattle.files.specs.Steps.{KindsOf, ScansFile, SlotsEmpty, ValuesReady, RowsReady, WritesRows, failure, check_is, JudgesSlots, WriteReady, WritesRead, ReadsSlots, ReadsText};
+ghost use Rattle.files.specs.Steps.{KindsOf, slots_of, ScansFile, SlotsEmpty, ValuesReady, RowsReady, WritesRows, failure, check_is, JudgesSlots, WriteReady, WritesRead, ReadsSlots, ReadsText};
 ghost use Rattle.files.specs.Alone.{refused_as, ReadsCleared, ReadsAlone};
 
 use kinds::numbers::KIND_COUNT;
 use lines::{Cursor, LineRead};
 use refusals::{Refusal, RefusalKind};
-use tables::groups::Row;
 use tables::row_kinds::HEADING;
 use tables::{MOST_ROWS, groups, pairs, row_kinds};
 
@@ -26,101 +26,88 @@ use tables::{MOST_ROWS, groups, pairs, row_kinds};
 const MOST_BYTES: usize = 16384;
 
 // What an accepted file says: its axle count, 0 for a file without axles, and whether its idle speed was entered by hand.
-#[derive(Clone, Copy)]
+#[derive(Debug, Clone, Copy, PartialEq, Eq)]
 pub struct FileAcceptance {
     pub axles: u32,
     pub byhand: bool,
 }
 
-#[derive(Clone, Copy)]
-pub enum FileAnswer {
-    Accepted(FileAcceptance),
-    Refused(Refusal),
-}
-
-// A text that was read: how many sections it has, or the kind of its refusal with the line.
-#[derive(Clone, Copy)]
-pub enum TextAnswer {
-    Sections(usize),
-    Faulty(Fault),
-}
-
+// Why a text is refused: the kind, and the line.
 #[derive(Clone, Copy)]
 pub struct Fault {
     pub kind: RefusalKind,
     pub line: u32,
 }
 
-// A check of a text.
-#[derive(Clone, Copy)]
-enum Outcome {
-    Passed,
-    Failed(Fault),
+impl Fault {
+    // The refusal of the file of this number for this fault.
+    pub fn in_file(self, file: u32) -> Refusal
+        ensures { result ≡ refusal_with self.kind file self.line }
+    {
+        Refusal {
+            kind: self.kind,
+            file,
+            line: self.line,
+        }
+    }
 }
 
+// What a scan leaves of a row: the number of its line, 0 where it was not found; start and length of its value.
+#[derive(Clone, Copy)]
+struct Slot {
+    line: u32,
+    start: u32,
+    length: u32,
+}
+
+const EMPTY: Slot = Slot {
+    line: 0,
+    start: 0,
+    length: 0,
+};
+
 // A row that has no line yet takes this one, with its value's place.
-fn take_row(
-    numbers: &mut [u32],
-    starts: &mut [u32],
-    lengths: &mut [u32],
-    row: usize,
-    line: usize,
-    start: usize,
-    size: usize,
-) -> bool
-    requires { (length starts.old ≡ length numbers.old) × (length lengths.old ≡ length numbers.old)
-        × (line ≤ most_bytes) × (start + size ≤ most_bytes) }
-    ensures { Took (slots numbers.old starts.old lengths.old)
-        (slots numbers.new starts.new lengths.new) row line start size result }
+fn take_row(slots: &mut [Slot], row: usize, line: usize, start: usize, size: usize) -> bool
+    requires { (line ≤ most_bytes) × (start + size ≤ most_bytes) }
+    ensures { Took (slots_of slots.old) (slots_of slots.new) row line start size result }
 {
-    if numbers.len() <= row {
+    if slots.len() <= row || slots[row].line != 0 {
         return false;
     }
-    if numbers[row] != 0 {
-        return false;
-    }
-    numbers[row] = line as u32;
-    starts[row] = start as u32;
-    lengths[row] = size as u32;
+    slots[row] = Slot {
+        line: line as u32,
+        start: start as u32,
+        length: size as u32,
+    };
     true
 }
 
-fn failed(kind: RefusalKind, line: usize) -> Outcome
+fn failed(kind: RefusalKind, line: usize) -> Result<(), Fault>
     requires { line ≤ most_bytes }
     ensures { result ≡ failure kind line }
 {
-    Outcome::Failed(Fault {
-        kind: kind,
+    Err(Fault {
+        kind,
         line: line as u32,
     })
 }
 
-// All lines of the text, into the rows of the file's table: the first with 4, 5 or 6. The names of the file's entries are
-// lent, with their sizes and tags.
-fn scan_lines(
-    file: u32,
-    names: &[Row],
-    sizes: &[u8],
-    tags: &[u8],
-    text: &[u8],
-    numbers: &mut [u32],
-    starts: &mut [u32],
-    lengths: &mut [u32],
-) -> Outcome
-    requires { Lent (names_of (group_of file)) names.now sizes.now tags.now
-        × Ready (table_of file) text.now (slots numbers.old starts.old lengths.old) }
-    ensures { ScansFile file text.now
-        (slots numbers.old starts.old lengths.old)
-        (slots numbers.new starts.new lengths.new) result }
+// All lines of the text, into the rows of the file's table: the first with 4, 5 or 6.
+fn scan_lines(file: u32, text: &[u8], slots: &mut [Slot]) -> Result<(), Fault>
+    requires { Ready (table_of file) text.now (slots_of slots.old) }
+    ensures { ScansFile file text.now (slots_of slots.old) (slots_of slots.new) result }
 {
+    let group = groups::group_of(file);
+    // Before the first heading: the number that `find_section` answers for no section too, so an Option would be no plainer.
     let none = tables::section_count(file);
     let mut c = Cursor::new();
     let mut cur = none;
     let mut place = tables::section_place(file, none);
+    // No condition ends it: each kind of line goes on or returns from its own arm.
     loop {
         match c.read_line(text) {
             LineRead::End => {
-                return Outcome::Passed;
+                return Ok(());
             }
             LineRead::Bad { line } => {
                 return failed(RefusalKind::LineForm, line);
@@ -129,7 +116,7 @@ fn scan_lines(
                 let section = tables::find_section(file, &text[start..end]);
                 let found = tables::section_place(file, section);
                 let line = next.line;
-                if !take_row(numbers, starts, lengths, found.before, line, 0, 0) {
+                if !take_row(slots, found.before, line, 0, 0) {
                     return failed(RefusalKind::HeadingNotExpected, line);
                 }
                 cur = section;
@@ -146,17 +133,9 @@ fn scan_lines(
                 if none <= cur {
                     return failed(RefusalKind::LineForm, line);
                 }
-                let row = tables::find_row(
-                    file,
-                    cur,
-                    place,
-                    names,
-                    sizes,
-                    tags,
-                    &text[start..equals],
-                );
+                let row = tables::find_row(file, cur, place, group, &text[start..equals]);
                 let from = equals + 1;
-                if !take_row(numbers, starts, lengths, row, line, from, end - from) {
+                if !take_row(slots, row, line, from, end - from) {
                     return failed(RefusalKind::EntryNotExpected, line);
                 }
                 c = next;
@@ -165,115 +144,32 @@ fn scan_lines(
     }
 }
 
-// All lines of the text, with the names of the file's group laid out for them.
-fn scan_text(
-    file: u32,
-    text: &[u8],
-    numbers: &mut [u32],
-    starts: &mut [u32],
-    lengths: &mut [u32],
-) -> Outcome
-    requires { Ready (table_of file) text.now (slots numbers.old starts.old lengths.old) }
-    ensures { ScansFile file text.now
-        (slots numbers.old starts.old lengths.old)
-        (slots numbers.new starts.new lengths.new) result }
-{
-    match file {
-        tables::ACC => scan_lines(
-            file,
-            &groups::old_booking_rows(),
-            &groups::old_booking_lengths(),
-            &groups::old_booking_tags(),
-            text,
-            numbers,
-            starts,
-            lengths,
-        ),
-        tables::DRIFT => scan_lines(
-            file,
-            &groups::tester_rows(),
-            &groups::tester_lengths(),
-            &groups::tester_tags(),
-            text,
-            numbers,
-            starts,
-            lengths,
-        ),
-        tables::SUSPENSION => scan_lines(
-            file,
-            &groups::tester_rows(),
-            &groups::tester_lengths(),
-            &groups::tester_tags(),
-            text,
-            numbers,
-            starts,
-            lengths,
-        ),
-        tables::GAS => scan_lines(
-            file,
-            &groups::gas_rows(),
-            &groups::gas_lengths(),
-            &groups::gas_tags(),
-            text,
-            numbers,
-            starts,
-            lengths,
-        ),
-        tables::OPACITY => scan_lines(
-            file,
-            &groups::opacity_rows(),
-            &groups::opacity_lengths(),
-            &groups::opacity_tags(),
-            text,
-            numbers,
-            starts,
-            lengths,
-        ),
-        _ => scan_lines(
-            file,
-            &groups::new_booking_rows(),
-            &groups::new_booking_lengths(),
-            &groups::new_booking_tags(),
-            text,
-            numbers,
-            starts,
-            lengths,
-        ),
-    }
-}
-
 // How many sections were found, up to the first that was not.
-fn sections_found(file: u32, numbers: &[u32]) -> usize
-    requires { length numbers.now ≡ row_count (table_of file) }
-    ensures { result ≡ sections_found (table_of file) numbers.now }
+fn sections_found(file: u32, slots: &[Slot]) -> usize
+    requires { length slots.now ≡ row_count (table_of file) }
+    ensures { result ≡ sections_found (table_of file) (slots_of slots.now).line_numbers }
 {
     let n = tables::section_count(file);
-    let mut c = 0;
-    while c < n {
-        let row = tables::rows_before(file, c);
-        if numbers[row] == 0 {
+    for c in 0..n {
+        if slots[tables::rows_before(file, c)].line == 0 {
             return c;
         }
-        c += 1;
     }
-    c
+    n
 }
 
 // 7: a line of a section after one that was not found.
-fn check_gap(numbers: &[u32], rows: usize) -> Outcome
-    ensures { check_is result ≡ check_gap numbers.now rows }
+fn check_gap(slots: &[Slot], rows: usize) -> Result<(), Fault>
+    requires { rows ≤ length slots.now }
+    ensures { check_is result ≡ check_gap (slots_of slots.now).line_numbers rows }
 {
-    let mut r = rows;
-    while r < numbers.len() {
-        if 0 < numbers[r] {
-            return Outcome::Failed(Fault {
-                kind: RefusalKind::SectionAbsent,
-                line: 0,
-            });
-        }
-        r += 1;
+    if slots[rows..].iter().any(|slot| 0 < slot.line) {
+        return Err(Fault {
+            kind: RefusalKind::SectionAbsent,
+            line: 0,
+        });
     }
-    Outcome::Passed
+    Ok(())
 }
 
 // The row of the heading that a row stands under.
@@ -281,140 +177,98 @@ fn owner_row(kinds: &[u8], row: usize) -> usize
     requires { row < length kinds.now }
     ensures { (result ≡ owner_row (map row_kind kinds.now) row) × (result ≤ row) }
 {
-    let mut r = row;
-    while 0 < r {
+    for r in (1..=row).rev() {
         if KIND_COUNT <= kinds[r] {
             return r;
         }
-        r -= 1;
     }
-    r
+    0
 }
 
 // 8: the first row that was not found.
-fn check_absent(kinds: &[u8], numbers: &[u32], rows: usize) -> Outcome
-    requires { (rows ≤ length kinds.now) × (rows ≤ length numbers.now) }
-    ensures { check_is result ≡ check_absent (map row_kind kinds.now) numbers.now rows }
+fn check_absent(kinds: &[u8], slots: &[Slot], rows: usize) -> Result<(), Fault>
+    requires { (rows ≤ length kinds.now) × (rows ≤ length slots.now) }
+    ensures { check_is result ≡ check_absent (map row_kind kinds.now) (slots_of slots.now).line_numbers rows }
 {
-    let mut r = 0;
-    while r < rows {
-        if numbers[r] == 0 {
-            let heading = owner_row(kinds, r);
-            return Outcome::Failed(Fault {
+    for r in 0..rows {
+        if slots[r].line == 0 {
+            return Err(Fault {
                 kind: RefusalKind::EntryAbsent,
-                line: numbers[heading],
+                line: slots[owner_row(kinds, r)].line,
             });
         }
-        r += 1;
     }
-    Outcome::Passed
+    Ok(())
 }
 
 // Whether the value of a row is empty or of its kind.
-fn row_kept(kind: u8, text: &[u8], start: u32, size: u32) -> bool
-    requires { (start + size ≤ length text.now) × (all_printable (value_at text.now (start, size)) ≡ true) }
-    ensures { result ≡ kept_row (row_kind kind) (value_at text.now (start, size)) }
+fn row_kept(kind: u8, text: &[u8], slot: Slot) -> bool
+    requires { (slot.start + slot.length ≤ length text.now)
+        × (all_printable (value_at text.now (slot.start, slot.length)) ≡ true) }
+    ensures { result ≡ kept_row (row_kind kind) (value_at text.now (slot.start, slot.length)) }
 {
-    if size == 0 {
+    if slot.length == 0 || KIND_COUNT <= kind {
         return true;
     }
-    if KIND_COUNT <= kind {
-        return true;
-    }
-    let a = start as usize;
-    let e = a + (size as usize);
-    kinds::printable_kind_ok(kind, &text[a..e])
+    let start = slot.start as usize;
+    let end = start + slot.length as usize;
+    kinds::printable_kind_ok(kind, &text[start..end])
 }
 
 // 9: the first row whose value is of the wrong kind.
-fn check_kinds(
-    kinds: &[u8],
-    text: &[u8],
-    numbers: &[u32],
-    starts: &[u32],
-    lengths: &[u32],
-    rows: usize,
-) -> Outcome
-    requires { ValuesReady kinds.now text.now (slots numbers.now starts.now lengths.now) rows }
-    ensures { check_is result ≡ check_kinds (map row_kind kinds.now) text.now
-        (slots numbers.now starts.now lengths.now) rows }
+fn check_kinds(kinds: &[u8], text: &[u8], slots: &[Slot], rows: usize) -> Result<(), Fault>
+    requires { ValuesReady kinds.now text.now slots.now rows }
+    ensures { check_is result ≡ check_kinds (map row_kind kinds.now) text.now (slots_of slots.now) rows }
 {
-    let mut r = 0;
-    while r < rows {
-        if !row_kept(kinds[r], text, starts[r], lengths[r]) {
-            return Outcome::Failed(Fault {
+    for r in 0..rows {
+        if !row_kept(kinds[r], text, slots[r]) {
+            return Err(Fault {
                 kind: RefusalKind::WrongKind,
-                line: numbers[r],
+                line: slots[r].line,
             });
         }
-        r += 1;
     }
-    Outcome::Passed
+    Ok(())
 }
 
 // 7, 8, 9, of a text that was scanned.
-fn judge_slots(
-    file: u32,
-    kinds: &[u8],
-    text: &[u8],
-    numbers: &[u32],
-    starts: &[u32],
-    lengths: &[u32],
-) -> TextAnswer
-    requires { KindsOf file kinds.now
-        × Ready (table_of file) text.now (slots numbers.now starts.now lengths.now) }
-    ensures { JudgesSlots (table_of file) (of_number 0 least_sections file) text.now
-        (slots numbers.now starts.now lengths.now) result }
+fn judge_slots(file: u32, kinds: &[u8], text: &[u8], slots: &[Slot]) -> Result<usize, Fault>
+    requires { KindsOf file kinds.now × Ready (table_of file) text.now (slots_of slots.now) }
+    ensures { JudgesSlots (table_of file) (of_number 0 least_sections file) text.now (slots_of slots.now) result }
 {
-    let count = sections_found(file, numbers);
+    let count = sections_found(file, slots);
     let rows = tables::rows_before(file, count);
     if count < tables::least_sections(file) {
-        return TextAnswer::Faulty(Fault {
+        return Err(Fault {
             kind: RefusalKind::SectionAbsent,
             line: 0,
         });
     }
-    if let Outcome::Failed(x) = check_gap(numbers, rows) {
-        return TextAnswer::Faulty(x);
-    }
-    if let Outcome::Failed(x) = check_absent(kinds, numbers, rows) {
-        return TextAnswer::Faulty(x);
-    }
-    if let Outcome::Failed(x) = check_kinds(kinds, text, numbers, starts, lengths, rows) {
-        return TextAnswer::Faulty(x);
-    }
-    TextAnswer::Sections(count)
+    check_gap(slots, rows)?;
+    check_absent(kinds, slots, rows)?;
+    check_kinds(kinds, text, slots, rows)?;
+    Ok(count)
 }
 
 // The pairs of the entries among the first rows, from a first pair on, and their lines.
 fn write_rows(
     kinds: &[u8],
     first: usize,
-    numbers: &[u32],
-    starts: &[u32],
-    lengths: &[u32],
+    slots: &[Slot],
     rows: usize,
     places: &mut [u32],
     lines: &mut [u32],
 )
-    requires { RowsReady kinds.now first (slots numbers.now starts.now lengths.now) rows
-        places.old lines.old }
-    ensures { WritesRows (take rows (map row_kind kinds.now)) first
-        (slots numbers.now starts.now lengths.now)
-        places.old places.new lines.new }
+    requires { RowsReady kinds.now first slots.now rows places.old lines.old }
+    ensures { WritesRows (take rows (map row_kind kinds.now)) first (slots_of slots.now) places.old places.new lines.new }
 {
-    let mut pair = first;
     let mut e = 0;
-    let mut r = 0;
-    while r < rows {
-        if KIND_COUNT <= kinds[r] {
-            r += 1;
-        } else {
-            places::set_pair(places, pair, starts[r], lengths[r]);
-            lines[e] = numbers[r];
-            pair += 1;
+    for r in 0..rows {
+        if kinds[r] < KIND_COUNT {
+            let slot = slots[r];
+            places::set_pair(places, first + e, slot.start, slot.length);
+            lines[e] = slot.line;
             e += 1;
-            r += 1;
         }
     }
 }
@@ -424,40 +278,25 @@ fn write_read(
     file: u32,
     kinds: &[u8],
     sections: usize,
-    numbers: &[u32],
-    starts: &[u32],
-    lengths: &[u32],
+    slots: &[Slot],
     places: &mut [u32],
     lines: &mut [u32],
 )
-    requires { KindsOf file kinds.now
-        × WriteReady file sections (slots numbers.now starts.now lengths.now) places.old lines.old }
-    ensures { WritesRead file sections
-        (slots numbers.now starts.now lengths.now)
-        places.old places.new lines.new }
+    requires { KindsOf file kinds.now × WriteReady file sections slots.now places.old lines.old }
+    ensures { WritesRead file sections (slots_of slots.now) places.old places.new lines.new }
 {
     let rows = tables::rows_before(file, sections);
     let first = tables::first_pair(file);
-    write_rows(kinds, first, numbers, starts, lengths, rows, places, lines);
+    write_rows(kinds, first, slots, rows, places, lines);
 }
 
 // 4 to 9, into slots that are empty.
-fn read_slots(
-    file: u32,
-    kinds: &[u8],
-    text: &[u8],
-    numbers: &mut [u32],
-    starts: &mut [u32],
-    lengths: &mut [u32],
-) -> TextAnswer
-    requires { SlotsEmpty file kinds.now text.now (slots numbers.old starts.old lengths.old) }
-    ensures { ReadsSlots file text.now
-        (slots numbers.new starts.new lengths.new) result }
+fn read_slots(file: u32, kinds: &[u8], text: &[u8], slots: &mut [Slot]) -> Result<usize, Fault>
+    requires { SlotsEmpty file kinds.now text.now (slots_of slots.old) }
+    ensures { ReadsSlots file text.now (slots_of slots.new) result }
 {
-    if let Outcome::Failed(x) = scan_text(file, text, numbers, starts, lengths) {
-        return TextAnswer::Faulty(x);
-    }
-    judge_slots(file, kinds, text, numbers, starts, lengths)
+    scan_lines(file, text, slots)?;
+    judge_slots(file, kinds, text, slots)
 }
 
 // 4 to 9, into slots that are empty; the pairs and lines of what was read.
@@ -465,63 +304,50 @@ fn read_into(
     file: u32,
     kinds: &[u8],
     text: &[u8],
-    numbers: &mut [u32],
-    starts: &mut [u32],
-    lengths: &mut [u32],
+    slots: &mut [Slot],
     places: &mut [u32],
     lines: &mut [u32],
-) -> TextAnswer
+) -> Result<usize, Refusal>
     requires { (least_places ≤ length places.old) × (most_rows ≤ length lines.old)
-        × SlotsEmpty file kinds.now text.now (slots numbers.old starts.old lengths.old) }
+        × SlotsEmpty file kinds.now text.now (slots_of slots.old) }
     ensures { ReadsText file text.now result
         places.old places.new lines.new }
 {
-    let answer = read_slots(file, kinds, text, numbers, starts, lengths);
-    if let TextAnswer::Sections(count) = answer {
-        write_read(file, kinds, count, numbers, starts, lengths, places, lines);
-    }
-    answer
+    let count = read_slots(file, kinds, text, slots).map_err(|x| x.in_file(file))?;
+    write_read(file, kinds, count, slots, places, lines);
+    Ok(count)
 }
 
 // 3 to 9 of one file: its pairs into the places, the lines of its entries, in entry order, into `lines`. Refused, the
 // places stay. Left open is what `lines` holds after a refusal, and past the lines of the entries.
-pub fn read_text(file: u32, text: &[u8], places: &mut [u32], lines: &mut [u32]) -> TextAnswer
+pub fn read_text(
+    file: u32,
+    text: &[u8],
+    places: &mut [u32],
+    lines: &mut [u32],
+) -> Result<usize, Refusal>
     requires { (least_places ≤ length places.old) × (most_rows ≤ length lines.old) }
     ensures { ReadsText file text.now result
         places.old places.new lines.new }
 {
     if MOST_BYTES < text.len() {
-        return TextAnswer::Faulty(Fault {
+        return Err(Refusal {
             kind: RefusalKind::FileTooLong,
+            file,
             line: 0,
         });
     }
-    let mut numbers = [0u32; MOST_ROWS];
-    let mut starts = [0u32; MOST_ROWS];
-    let mut lengths = [0u32; MOST_ROWS];
+    let mut slots = [EMPTY; MOST_ROWS];
     let mut kinds = [HEADING; MOST_ROWS];
     row_kinds::write_kinds(file, &mut kinds);
     let n = tables::row_count(file);
-    read_into(
-        file,
-        &kinds[..n],
-        text,
-        &mut numbers[..n],
-        &mut starts[..n],
-        &mut lengths[..n],
-        places,
-        lines,
-    )
+    read_into(file, &kinds[..n], text, &mut slots[..n], places, lines)
 }
 
-fn refused(kind: RefusalKind, file: u32, line: u32) -> FileAnswer
+fn refused(kind: RefusalKind, file: u32, line: u32) -> Result<FileAcceptance, Refusal>
     ensures { result ≡ refused_as kind file line }
 {
-    FileAnswer::Refused(Refusal {
-        kind: kind,
-        file: file,
-        line: line,
-    })
+    Err(Refusal { kind, file, line })
 }
 
 // Whether the idle speed of a file whose pairs are in the places was entered by hand (02, 1/14). Only gas has one.
@@ -536,33 +362,25 @@ pub fn is_by_hand(file: u32, axles: usize, text: &[u8], places: &[u32]) -> bool
 }
 
 // One file alone, whose places are cleared: 11, then 3 to 9.
-fn read_cleared(file: u32, text: &[u8], places: &mut [u32]) -> FileAnswer
+fn read_cleared(file: u32, text: &[u8], places: &mut [u32]) -> Result<FileAcceptance, Refusal>
     requires { (least_places ≤ length places.old) × (is_file file ≡ true) }
     ensures { ReadsCleared file text.now places.old places.new result }
 {
-    if text.len() == 0 {
+    if text.is_empty() {
         return refused(RefusalKind::SliceNotAsDue, file, 0);
     }
     let mut lines = [0u32; MOST_ROWS];
-    match read_text(file, text, places, &mut lines) {
-        TextAnswer::Faulty(x) => {
-            let kind = x.kind;
-            let line = x.line;
-            refused(kind, file, line)
-        }
-        TextAnswer::Sections(count) => {
-            let axles = count - tables::fixed_section_count(file);
-            let byhand = is_by_hand(file, axles, text, places);
-            FileAnswer::Accepted(FileAcceptance {
-                axles: axles as u32,
-                byhand: byhand,
-            })
-        }
-    }
+    let count = read_text(file, text, places, &mut lines)?;
+    let axles = count - tables::fixed_section_count(file);
+    let byhand = is_by_hand(file, axles, text, places);
+    Ok(FileAcceptance {
+        axles: axles as u32,
+        byhand,
+    })
 }
 
 // One file read alone (01, Writing): 1, 16, 11, then 3 to 9.
-pub fn read_alone(file: u32, text: &[u8], places: &mut [u32]) -> FileAnswer
+pub fn read_alone(file: u32, text: &[u8], places: &mut [u32]) -> Result<FileAcceptance, Refusal>
     ensures { ReadsAlone file text.now places.old places.new result }
 {
     let least = tables::least_places();

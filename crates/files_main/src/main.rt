@@ -6,182 +6,94 @@
 // PLACES numbers are lent, each of which holds 7, and OUTPUT bytes, each of which holds AA hex.
 #![tactic(auto)]
 
-ghost use Rattle.std.specs.Prelude.{◌≤◌, length};
+ghost use Rattle.std.specs.Prelude.{◌-◌, ◌≤◌, length};
 
-use files::FileAnswer;
+use files::FileAcceptance;
 use refusals::Refusal;
 use std::io;
 use std::io::{BufWriter, Read, Write};
-use writing::WriteAnswer;
+use writing::WriteAcceptance;
 
-// Where the next byte 00 from `at` on is, or the end.
-fn part_end(input: &[u8], at: usize) -> usize
-    requires { at ≤ length input.now }
-    ensures { (at ≤ result) × (result ≤ length input.now) }
+// As many numbers as a caller lends at least for the places, with two for each pair.
+const LEAST_PLACES: usize = 388;
+
+const MOST_PLACES: usize = 420;
+
+const MOST_OUTPUT: usize = 4096;
+
+// The bytes before the first byte 00, or all, and those after it.
+fn split_part(input: &[u8]) -> (&[u8], &[u8])
+    ensures { length result.1.now ≤ length input.now - 1 }
 {
-    let mut i = at;
-    while i < input.len() {
-        if input[i] == 0 {
-            return i;
-        }
-        i += 1;
-    }
-    i
-}
-
-// The place after a byte 00 at `end`, or the end.
-fn after(input: &[u8], end: usize) -> usize
-    requires { end ≤ length input.now }
-    ensures { (end ≤ result) × (result ≤ length input.now) }
-{
-    if end < input.len() {
-        end + 1
-    } else {
-        input.len()
+    match input.iter().position(|b| *b == 0) {
+        Some(end) => (&input[..end], &input[end + 1..]),
+        None => (input, &[]),
     }
 }
 
-// A decimal digit behind n; the largest number where that is too large.
-fn with_digit(n: u32, digit: u8) -> u32 {
-    let m = n as u64 * 10 + digit as u64;
-    if m < 4294967296 { m as u32 } else { 4294967295 }
-}
-
-// The number that the digits of a word of a line spell, words being counted from 0; 0 where there are none.
-fn number_at(line: &[u8], word: usize) -> u32 {
-    let mut n = 0;
-    let mut w = 0;
-    let mut i = 0;
-    while i < line.len() {
-        if line[i] == b' ' {
-            w += 1;
-            i += 1;
-        } else if w == word {
-            n = next_number(n, line[i]);
-            i += 1;
-        } else {
-            i += 1;
-        }
-    }
-    n
-}
-
-// Whether a line has a word of this number, words being counted from 0.
-fn has_word(line: &[u8], word: usize) -> bool {
-    let mut w = 0;
-    let mut i = 0;
-    while i < line.len() {
-        if w == word {
-            return true;
-        }
-        if line[i] == b' ' {
-            w += 1;
-            i += 1;
-        } else {
-            i += 1;
-        }
-    }
-    false
-}
-
+// A number with one more byte of its word: a decimal digit goes behind it; the largest where that is too large.
 fn next_number(n: u32, b: u8) -> u32 {
     match b {
-        b'0'..=b'9' => with_digit(n, b - b'0'),
+        b'0'..=b'9' => n.saturating_mul(10).saturating_add(u32::from(b - b'0')),
         _ => n,
     }
+}
+
+// The word of a line with this number, words being counted from 0.
+fn word_at(line: &[u8], word: usize) -> Option<&[u8]> {
+    line.split(|b| *b == b' ').nth(word)
+}
+
+// The number that the digits of a word spell; 0 where there are none.
+fn number_at(line: &[u8], word: usize) -> u32 {
+    let Some(bytes) = word_at(line, word) else {
+        return 0;
+    };
+    bytes.iter().fold(0, |n, b| next_number(n, *b))
 }
 
 // The number of a word as a size, at most `most`.
 fn size_at(line: &[u8], word: usize, most: usize) -> usize
     ensures { result ≤ most }
 {
-    let n = number_at(line, word) as usize;
-    if n < most { n } else { most }
-}
-
-fn print_number(out: &mut impl Write, n: u32) -> io::Result<()> {
-    write!(out, " {n}")
+    most.min(number_at(line, word) as usize)
 }
 
 fn show_refusal(out: &mut impl Write, refusal: Refusal) -> io::Result<()> {
-    out.write_all(b"refused")?;
-    let kind = refusal.kind;
-    print_number(out, refusals::refusal_number(kind))?;
-    print_number(out, refusal.file)?;
-    print_number(out, refusal.line)?;
-    out.write_all(b"\n")
+    let number = refusals::refusal_number(refusal.kind);
+    writeln!(out, "refused {number} {} {}", refusal.file, refusal.line)
 }
 
-fn show_file_answer(out: &mut impl Write, answer: FileAnswer) -> io::Result<()> {
+fn show_file_answer(
+    out: &mut impl Write,
+    answer: Result<FileAcceptance, Refusal>,
+) -> io::Result<()> {
     match answer {
-        FileAnswer::Accepted(acceptance) => {
-            out.write_all(b"accepted")?;
-            print_number(out, acceptance.axles)?;
-            if acceptance.byhand {
-                out.write_all(b" by hand")?;
-            }
-            out.write_all(b"\n")
+        Ok(acceptance) => {
+            let mark = if acceptance.byhand { " by hand" } else { "" };
+            writeln!(out, "accepted {}{mark}", acceptance.axles)
         }
-        FileAnswer::Refused(refusal) => show_refusal(out, refusal),
+        Err(refusal) => show_refusal(out, refusal),
     }
-}
-
-fn is_unused(start: u32, size: u32) -> bool {
-    if start == 0 { size == 0 } else { false }
-}
-
-fn show_pair(out: &mut impl Write, k: usize, start: u32, size: u32) -> io::Result<()> {
-    if is_unused(start, size) {
-        return Ok(());
-    }
-    write!(out, " {k}:{start}+{size}")
 }
 
 // The pairs that are not 0, each behind its number.
 fn show_pairs(out: &mut impl Write, places: &[u32]) -> io::Result<()>
     requires { 388 ≤ length places.now }
 {
-    let mut k = 0;
-    while k < 194 {
-        show_pair(
-            out,
-            k,
-            places::start_of(places, k),
-            places::length_of(places, k),
-        )?;
-        k += 1;
+    for k in 0..LEAST_PLACES / 2 {
+        let start = places::start_of(places, k);
+        let size = places::length_of(places, k);
+        if start != 0 || size != 0 {
+            write!(out, " {k}:{start}+{size}")?;
+        }
     }
     Ok(())
 }
 
-// How many numbers from `from` on hold 7, as before.
-fn kept_numbers(places: &[u32], from: usize) -> usize {
-    let mut kept = 0;
-    let mut i = from;
-    while i < places.len() {
-        if places[i] == 7 {
-            kept += 1;
-            i += 1;
-        } else {
-            i += 1;
-        }
-    }
-    kept
-}
-
-// How many bytes from `from` on hold AA hex, as before.
-fn kept_bytes(output: &[u8], from: usize) -> usize {
-    let mut kept = 0;
-    let mut i = from;
-    while i < output.len() {
-        if output[i] == 170 {
-            kept += 1;
-            i += 1;
-        } else {
-            i += 1;
-        }
-    }
-    kept
+// How many of these hold what they were lent with.
+fn kept<T: Copy + PartialEq>(lent: &[T], filling: T) -> usize {
+    lent.iter().filter(|x| **x == filling).count()
 }
 
 fn show_kept(out: &mut impl Write, n: usize) -> io::Result<()> {
@@ -189,13 +101,13 @@ fn show_kept(out: &mut impl Write, n: usize) -> io::Result<()> {
 }
 
 fn show_places(out: &mut impl Write, places: &[u32]) -> io::Result<()> {
-    if places.len() < 388 {
-        return show_kept(out, kept_numbers(places, 0));
+    if places.len() < LEAST_PLACES {
+        return show_kept(out, kept(places, 7));
     }
     out.write_all(b"pairs")?;
     show_pairs(out, places)?;
     out.write_all(b"\n")?;
-    show_kept(out, kept_numbers(places, 388))
+    show_kept(out, kept(&places[LEAST_PLACES..], 7))
 }
 
 fn read_lent(out: &mut impl Write, file: u32, text: &[u8], places: &mut [u32]) -> io::Result<()> {
@@ -205,8 +117,8 @@ fn read_lent(out: &mut impl Write, file: u32, text: &[u8], places: &mut [u32]) -
 }
 
 fn show_read(out: &mut impl Write, command: &[u8], text: &[u8]) -> io::Result<()> {
-    let mut places = [7u32; 420];
-    let n = size_at(command, 2, 420);
+    let mut places = [7u32; MOST_PLACES];
+    let n = size_at(command, 2, MOST_PLACES);
     read_lent(out, number_at(command, 1), text, &mut places[..n])
 }
 
@@ -222,26 +134,25 @@ fn show_written(
     if output.len() < length {
         return Ok(());
     }
-    out.write_all(&output[..length])?;
-    let answer = files::read_alone(file, &output[..length], places);
+    let (written, later) = output.split_at(length);
+    out.write_all(written)?;
+    let answer = files::read_alone(file, written, places);
     show_file_answer(out, answer)?;
-    show_kept(out, kept_bytes(output, length))
+    show_kept(out, kept(later, 170))
 }
 
 fn show_write_answer(
     out: &mut impl Write,
     file: u32,
-    answer: WriteAnswer,
+    answer: Result<WriteAcceptance, Refusal>,
     output: &[u8],
     places: &mut [u32],
 ) -> io::Result<()> {
     match answer {
-        WriteAnswer::Written(acceptance) => {
-            show_written(out, file, acceptance.length as usize, output, places)
-        }
-        WriteAnswer::Refused(refusal) => {
+        Ok(acceptance) => show_written(out, file, acceptance.length as usize, output, places),
+        Err(refusal) => {
             show_refusal(out, refusal)?;
-            show_kept(out, kept_bytes(output, 0))
+            show_kept(out, kept(output, 170))
         }
     }
 }
@@ -250,7 +161,7 @@ fn show_write_answer(
 fn change_pair(command: &[u8], word: usize, places: &mut [u32])
     requires { word ≤ 50 }
 {
-    let k = size_at(command, word, 420);
+    let k = size_at(command, word, MOST_PLACES);
     if 2 * k + 1 < places.len() {
         let start = number_at(command, word + 1);
         places::set_pair(places, k, start, number_at(command, word + 2));
@@ -258,13 +169,14 @@ fn change_pair(command: &[u8], word: usize, places: &mut [u32])
 }
 
 fn change_pairs(command: &[u8], places: &mut [u32]) {
-    let mut word = 5;
-    while word < 50 {
-        if !has_word(command, word) {
+    // A blank at the end begins no word.
+    let command = command.strip_suffix(b" ").unwrap_or(command);
+    for pair in 0..15 {
+        let word = 5 + 3 * pair;
+        if word_at(command, word).is_none() {
             return;
         }
         change_pair(command, word, places);
-        word += 3;
     }
 }
 
@@ -276,45 +188,39 @@ fn write_lent(
     output: &mut [u8],
 ) -> io::Result<()> {
     let file = number_at(command, 1);
-    files::read_alone(file, text, places);
+    let _ = files::read_alone(file, text, places);
     change_pairs(command, places);
     let answer = writing::write_file(text, places, file, number_at(command, 3), output);
     show_write_answer(out, file, answer, output, places)
 }
 
 fn show_write(out: &mut impl Write, command: &[u8], text: &[u8]) -> io::Result<()> {
-    let mut places = [7u32; 420];
-    let mut output = [170u8; 4096];
-    let n = size_at(command, 2, 420);
-    let m = size_at(command, 4, 4096);
+    let mut places = [7u32; MOST_PLACES];
+    let mut output = [170u8; MOST_OUTPUT];
+    let n = size_at(command, 2, MOST_PLACES);
+    let m = size_at(command, 4, MOST_OUTPUT);
     write_lent(out, command, text, &mut places[..n], &mut output[..m])
 }
 
-fn first_byte(command: &[u8]) -> u8 {
-    if command.len() == 0 { 0 } else { command[0] }
-}
-
 fn show_case(out: &mut impl Write, command: &[u8], text: &[u8]) -> io::Result<()> {
-    match first_byte(command) {
-        b'r' => show_read(out, command, text),
-        b'w' => show_write(out, command, text),
+    match command.first() {
+        Some(b'r') => show_read(out, command, text),
+        Some(b'w') => show_write(out, command, text),
         _ => Ok(()),
     }
 }
 
 fn show_all(out: &mut impl Write, input: &[u8]) -> io::Result<()> {
-    let mut at = 0;
-    while at < input.len() {
-        let title = part_end(input, at);
+    let mut rest = input;
+    while !rest.is_empty() {
+        let (title, behind) = split_part(rest);
+        let (command, behind) = split_part(behind);
+        let (text, others) = split_part(behind);
         out.write_all(b"-- ")?;
-        out.write_all(&input[at..title])?;
+        out.write_all(title)?;
         out.write_all(b"\n")?;
-        let from = after(input, title);
-        let command = part_end(input, from);
-        let text = after(input, command);
-        let end = part_end(input, text);
-        show_case(out, &input[from..command], &input[text..end])?;
-        at = end + 1;
+        show_case(out, command, text)?;
+        rest = others;
     }
     Ok(())
 }

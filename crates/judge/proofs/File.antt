@@ -18,8 +18,9 @@ use Rattle.sets.specs.Records.{is_given}
 use Rattle.sets.specs.Judge.{FileRead, not_read, judge_file}
 use Rattle.files.proofs.ByHand.{unread-by-hand}
 use Rattle.judge.specs.Steps.{file_numbered, no_figures, FileReady, JudgesFile, text_judged, file_judged}
-use Rattle.judge.specs.declared.Step.{Step}
-use Rattle.judge.specs.declared.Step.TheVariants.{Stop, Go}
+use Rattle.std.specs.Prelude.{Result, Ok, Err}
+use Rattle.refusals.specs.declared.Refusal.{Refusal}
+use Rattle.sets.specs.declared.Figures.{Figures}
 use Rattle.judge.proofs.Numbers.{by-file}
 
 module _ (file : ℕ) (stated : Stated) (b : Booking) (s t p : List ℕ) (d : FileReady file b s p) where
@@ -42,13 +43,13 @@ module _ (file : ℕ) (stated : Stated) (b : Booking) (s t p : List ℕ) (d : Fi
 
   -- 11
   pub file-wrong : (r : Bool) → r ≡ of_number true (λ f. slice_right f stated b (is_given t)) file → r ≡ false
-      → JudgesFile f (file_judged file stated s t p) (Stop (refusal_with SliceNotAsDue file 0)) p p
+      → JudgesFile f (file_judged file stated s t p) (Err (refusal_with SliceNotAsDue file 0)) p p
   file-wrong r e q = (chain false (is_read f a (is_given t)) (right_is r false e q) refl ∙ ap (λ (m : ℕ). refusal 11 m 0) d.number, refl)
 
   module _ (r : Bool) (e : r ≡ of_number true (λ f. slice_right f stated b (is_given t)) file) (q : r ≡ true) (u : Bool) (eu : u ≡ of_number (is_given t) (λ f. is_read f b (is_given t)) file) where
-    pub file-unread : u ≡ false → JudgesFile f (file_judged file stated s t p) (Go no_figures) p p
+    pub file-unread : u ≡ false → JudgesFile f (file_judged file stated s t p) (Ok no_figures) p p
     unfolding set_pairs is_marked
     file-unread k = (not_read, chain true false (right_is r true e q) (read_is u false eu k), rw (unread-by-hand f) refl, refl)
 
-    pub file-read : u ≡ true → (y : Step) (v : List ℕ) → JudgesFile f (text_judged file s t p) y p v → JudgesFile f (file_judged file stated s t p) y p v
+    pub file-read : u ≡ true → (y : Result Figures Refusal) (v : List ℕ) → JudgesFile f (text_judged file s t p) y p v → JudgesFile f (file_judged file stated s t p) y p v
     file-read k y v w = subst (λ (x : Answer FileRead). JudgesFile f x y p v) (sym (chain true true (right_is r true e q) (read_is u true eu k))) w

@@ -11,7 +11,7 @@ use Rattle.refusals.specs.Answer.{Answer, acceptance, refusal_of, require, follo
 use Rattle.refusals.specs.declared.Refusal.{Refusal}
 use Rattle.places.specs.Places.{place_size, set_pairs, pairs_at, value_at, Within}
 use Rattle.places.proofs.Laws.{set-length, drop-pairs}
-use Rattle.tables.specs.File.{File, ac2, acc, drift, suspension, gas, opacity, files, has_axles, file_number, room, first_pair, least_places, identification_number}
+use Rattle.tables.specs.File.{File, ac2, acc, drift, suspension, gas, opacity, files, has_axles, file_number, room, first_pair, least_places, identification_number, of_number}
 use Rattle.tables.proofs.Axles.{entries-most}
 use Rattle.files.proofs.Texts.{few-axles, rooms-fit, own-pairs}
 use Rattle.due.specs.Booking.{booking_in}
@@ -24,29 +24,14 @@ use Rattle.tables.proofs.Values.{gas-count}
 use Rattle.serial.specs.Reading.{read_identification}
 use Rattle.sets.specs.Records.{Slices, is_given}
 use Rattle.sets.specs.Judge.{FileRead, SetRead, not_read, judge_booking, judge_fields, judge_file, judge_identification, file_given, identification_step, set_read, Slice, file_slice, identification_slice, later_slices, each_accepted, judge_slices, set_files, acceptance_with}
-use Rattle.sets.specs.declared.SetAnswer.{SetAnswer}
-use Rattle.sets.specs.declared.SetAnswer.TheVariants.{Accepted, Refused}
+use Rattle.std.specs.Prelude.{Result, Ok, Err}
+use Rattle.sets.specs.declared.Acceptance.{Acceptance}
 use Rattle.sets.proofs.File.{FilePassed, Passed, file-sound, booking-file}
 use Rattle.sets.proofs.Set.{each-sound}
-use Rattle.judge.specs.Steps.{IsNumber, figures_of, figures_in, IsBooking, FileReady, JudgesFile, JudgesBooking, Asked, Next, identification_judged, JudgesIdentification, IdentificationReady, later_files, JudgesSlices, JudgesLater}
+use Rattle.judge.specs.Steps.{IsNumber, figures_of, IsBooking, FileReady, JudgesFile, JudgesBooking, identification_judged, JudgesIdentification, IdentificationReady, later_files, JudgesSlices, JudgesLater}
 use Rattle.sets.specs.declared.Figures.{Figures}
 use Rattle.judge.specs.declared.Booked.{Booked}
-use Rattle.judge.specs.declared.Step.{Step}
-use Rattle.judge.specs.declared.Step.TheVariants.{Stop, Go}
-use Rattle.judge.specs.declared.BookingStep.{BookingStep}
-use Rattle.judge.specs.declared.BookingStep.TheVariants as B
 use Rattle.judge.proofs.Text.{booking-kept, new-pairs}
-
--- ---- after a refused slice and after an accepted one
-
-pub asked-go : (P : Type 0) (b : Step) (k : Figures) → b ≡ Go k → Asked b P → P
-asked-go P b k e h = subst (λ (b : Step). Asked b P) e h
-
-pub next-stop : (P : Type 0) (b : Step) (x : Refusal) (p : List ℕ) → b ≡ Stop x → Next b (Stop x) p p P
-next-stop P b x p e = subst (λ (b : Step). Next b (Stop x) p p P) (sym e) (refl, refl)
-
-pub next-go : (P : Type 0) (b : Step) (k : Figures) → b ≡ Go k → (r : Step) (p q : List ℕ) → P → Next b r p q P
-next-go P b k e r p q h = subst (λ (b : Step). Next b r p q P) (sym e) h
 
 -- ---- a file that passed
 
@@ -75,42 +60,30 @@ module _ (stated : Stated) (S : Slices) (p : List ℕ) where
   abbrev whole : Answer SetRead
   whole = each_accepted stated S a later_slices x
 
-  -- the slices before cs were accepted: what is left to judge, the places, and what is known of what was kept
-  pub record Going (K : Type 0) (cs : List Slice) (w q : List ℕ) : Type 0 where
+  -- the slices before cs were accepted: what is left to judge, and the places
+  pub record Going (cs : List Slice) (w q : List ℕ) : Type 0 where
     pub held : Held ac2 0 text q
     pub book : new_values text q ≡ a
     pub rest : whole ≡ each_accepted stated S a cs x
     pub places : q ≡ w
-    pub size : length q ≡ length p
-    pub kept : K
-
-  abbrev Beyond : List ℕ → Type 0
-  Beyond q = drop least_places q ≡ drop least_places p
-
-  -- after a step: refused, or the slices before cs accepted
-  abbrev pub After : Type 0 → List Slice → Step → List ℕ → List ℕ → Type 0
-  After K cs (Stop e) w q = (whole ≡ refusal_of e) × Beyond q
-  After K cs (Go y) w q = Going K cs w q × Beyond q
+    pub beyond : drop least_places q ≡ drop least_places p
 
   -- a file was judged beside AC2's values
-  abbrev pub JudgesNext : File → Step → List ℕ → List ℕ → Type 0
+  abbrev pub JudgesNext : File → Result Figures Refusal → List ℕ → List ℕ → Type 0
   JudgesNext f r q v = JudgesFile f (judge_file f stated (new_values text q) (S.file f)) r q v
 
-  abbrev pub FiguresAs : File → Step → Type 0
-  FiguresAs f r = figures_in r ≡ figures_of f (file_given stated S a f)
+  abbrev pub FiguresAs : File → Figures → Type 0
+  FiguresAs f y = y ≡ figures_of f (file_given stated S a f)
 
   abbrev pub filled : File → List ℕ → List ℕ
   filled f w = set_pairs (first_pair f) (file_given stated S a f).pairs w
 
-  pub at_first : Held ac2 0 text p → Going (Unit {0}) later_slices p p
-  at_first h = record { held = h; book = refl; rest = refl; places = refl; size = refl; kept = tt }
+  at_first : Held ac2 0 text p → Going later_slices p p
+  at_first h = record { held = h; book = refl; rest = refl; places = refl; beyond = refl }
 
-  module _ (f : File) (l : 2 ≤ file_number f) (K : Type 0) (cs : List Slice) (w q : List ℕ) where
-    on-file : Going K (file_slice f ∷ cs) w q → Beyond q → (r : Step) (v : List ℕ) → JudgesNext f r q v → After (K × FiguresAs f r) cs r (filled f w) v
-    on-file h k (Stop e) v j =
-        let s : judge_file f stated a (S.file f) ≡ refusal_of e = ap (λ (b : List (List ℕ)). judge_file f stated b (S.file f)) (sym h.book) ∙ j.0 in
-        (h.rest ∙ ap (λ (y : Answer FileRead). followed y (λ g. each_accepted stated S a cs x)) s, j.1 ∙ k)
-    on-file h k (Go y) v j =
+  module _ (f : File) (l : 2 ≤ file_number f) (cs : List Slice) (w q : List ℕ) (h : Going (file_slice f ∷ cs) w q) where
+    file_went : (y : Figures) (v : List ℕ) → JudgesNext f (Ok y) q v → Going cs (filled f w) v × FiguresAs f y
+    file_went y v j =
         let g : FileRead = j.0 in
         let s : judge_file f stated a (S.file f) ≡ acceptance g = ap (λ (b : List (List ℕ)). judge_file f stated b (S.file f)) (sym h.book) ∙ j.1 in
         let e : g ≡ file_given stated S a f = sym (ap (given_by not_read) s) in
@@ -121,27 +94,19 @@ module _ (stated : Stated) (S : Slices) (p : List ℕ) where
             book = ap (map (value_at text)) same ∙ h.book;
             rest = h.rest ∙ ap (λ (y : Answer FileRead). followed y (λ g. each_accepted stated S a cs x)) s;
             places = j.3 ∙ ap (λ (u : List ℕ). set_pairs (first_pair f) g.pairs u) h.places ∙ ap (λ (z : FileRead). set_pairs (first_pair f) z.pairs w) e;
-            size = ap length j.3 ∙ set-length (first_pair f) g.pairs q ∙ h.size;
-            kept = (h.kept, j.2 ∙ ap (figures_of f) e);
+            beyond = ap (drop least_places) j.3 ∙ drop-pairs least_places (first_pair f) g.pairs q fit ∙ h.beyond;
           },
-          ap (drop least_places) j.3 ∙ drop-pairs least_places (first_pair f) g.pairs q fit ∙ k,
+          j.2 ∙ ap (figures_of f) e,
         )
 
-    pub next-file : (before : Step) → After K (file_slice f ∷ cs) before w q → (r : Step) (v : List ℕ) → Next before r q v (JudgesNext f r q v) → After (K × FiguresAs f r) cs r (filled f w) v
-    next-file (Stop e) h r v n =
-        subst (λ (y : Step). After (K × FiguresAs f y) cs y (filled f w) v) (sym n.0) (h.0, ap (drop least_places) n.1 ∙ h.1)
-    next-file (Go y) h r v n = on-file h.0 h.1 r v n
-
-  pub first-file : (f : File) → 2 ≤ file_number f → (K : Type 0) (cs : List Slice) (w : List ℕ) → Going K (file_slice f ∷ cs) w p → (r : Step) (v : List ℕ) → JudgesNext f r p v → After (K × FiguresAs f r) cs r (filled f w) v
-  first-file f l K cs w h r v j = on-file f l K cs w p h refl r v j
+    file_stopped : (e : Refusal) (v : List ℕ) → JudgesNext f (Err e) q v → JudgesSlices later_files whole (Err e) p v
+    file_stopped e v j =
+        let s : judge_file f stated a (S.file f) ≡ refusal_of e = ap (λ (b : List (List ℕ)). judge_file f stated b (S.file f)) (sym h.book) ∙ j.0 in
+        (h.rest ∙ ap (λ (y : Answer FileRead). followed y (λ g. each_accepted stated S a cs x)) s, j.1 ∙ h.beyond)
 
   -- what the next file asks
-  pub going-ready : (file : ℕ) (b : Booking) → IsNumber file → 2 ≤ file → IsBooking b text p → {K : Type 0} {cs : List Slice} {w q : List ℕ} → Going K cs w q → FileReady file b text q
-  going-ready file b n l e h = record { number = n; later = l; held = h.held; booking = e ∙ ap booking_in (sym h.book) }
-
-  pub next-ready : (file : ℕ) (b : Booking) → IsNumber file → 2 ≤ file → IsBooking b text p → (K : Type 0) (cs : List Slice) (before : Step) (w q : List ℕ) → After K cs before w q → Asked before (FileReady file b text q)
-  next-ready file b n l e K cs (Stop x) w q h = tt
-  next-ready file b n l e K cs (Go y) w q h = going-ready file b n l e h.0
+  file_ready : (file : ℕ) (b : Booking) → IsNumber file → 2 ≤ file → IsBooking b text p → {cs : List Slice} {w q : List ℕ} → Going cs w q → FileReady file b text q
+  file_ready file b n l e h = record { number = n; later = l; held = h.held; booking = e ∙ ap booking_in (sym h.book) }
 
   -- ---- slice 6
 
@@ -158,10 +123,9 @@ module _ (stated : Stated) (S : Slices) (p : List ℕ) where
   abbrev pub IdentificationKnown : List ℕ → Type 0
   IdentificationKnown q = IdentificationReady (S.file gas) q × (identification_judged (S.file gas) S.identification q ≡ identification_step stated S a)
 
-  gas-known : (K : Type 0) (cs : List Slice) (w q : List ℕ) → Going K (file_slice gas ∷ cs) w q → (r : Step) (v : List ℕ) → JudgesNext gas r q v → Asked r (IdentificationKnown v)
+  gas_known : (cs : List Slice) (w q : List ℕ) → Going (file_slice gas ∷ cs) w q → (y : Figures) (v : List ℕ) → JudgesNext gas (Ok y) q v → IdentificationKnown v
   unfolding is_read
-  gas-known K cs w q h (Stop e) v j = tt
-  gas-known K cs w q h (Go y) v j = (λ e. (given (lt-ltb 0 (length (S.file gas)) e)).0, by-test (is_given (S.file gas)) (λ e. (given e).1) none)
+  gas_known cs w q h y v j = (λ e. (given (lt-ltb 0 (length (S.file gas)) e)).0, by-test (is_given (S.file gas)) (λ e. (given e).1) none)
     where
       g : FileRead
       g = j.0
@@ -186,65 +150,109 @@ module _ (stated : Stated) (S : Slices) (p : List ℕ) where
       none : is_given (S.file gas) ≡ false → identification_judged (S.file gas) S.identification v ≡ identification_step stated S a
       none e = rw e (no-values (values_of gas 0 (S.file gas) v) (file_given stated S a gas).values S.identification)
 
-  pub identification-known : (K : Type 0) (cs : List Slice) (before : Step) (w q : List ℕ) → After K (file_slice gas ∷ cs) before w q → (r : Step) (v : List ℕ)
-      → Next before r q v (JudgesNext gas r q v) → Asked r (IdentificationKnown v)
-  identification-known K cs (Stop e) w q h r v n = subst (λ (y : Step). Asked y (IdentificationKnown v)) (sym n.0) tt
-  identification-known K cs (Go y) w q h r v n = gas-known K cs w q h.0 r v n
+  module _ (cs : List Slice) (w q : List ℕ) (h : Going (identification_slice ∷ cs) w q) (k : IdentificationKnown q) where
+    identification_went : JudgesIdentification (identification_judged (S.file gas) S.identification q) (Ok tt) → Going cs w q
+    identification_went n = record {
+      held = h.held;
+      book = h.book;
+      rest = h.rest ∙ ap (λ (z : Answer (List ℕ)). followed z (λ v. each_accepted stated S a cs x)) (sym k.1 ∙ n.1);
+      places = h.places;
+      beyond = h.beyond;
+    }
 
-  pub identification-ready : (before : Step) (q : List ℕ) → Asked before (IdentificationKnown q) → Asked before (IdentificationReady (S.file gas) q)
-  identification-ready (Stop e) q h = tt
-  identification-ready (Go y) q h = h.0
+    identification_stopped : (e : Refusal) → JudgesIdentification (identification_judged (S.file gas) S.identification q) (Err e) → JudgesSlices later_files whole (Err e) p q
+    identification_stopped e n = (h.rest ∙ ap (λ (z : Answer (List ℕ)). followed z (λ v. each_accepted stated S a cs x)) (sym k.1 ∙ n), h.beyond)
 
-  pub next-identification : (K : Type 0) (cs : List Slice) (before : Step) (w q : List ℕ) → After K (identification_slice ∷ cs) before w q → Asked before (IdentificationKnown q) → (r : Step)
-      → Next before r q q (JudgesIdentification (identification_judged (S.file gas) S.identification q) r) → After K cs r w q
-  next-identification K cs (Stop e) w q h k r n = subst (λ (y : Step). After K cs y w q) (sym n.0) h
-  next-identification K cs (Go y) w q h k (Stop e) n =
-      (h.0.rest ∙ ap (λ (z : Answer (List ℕ)). followed z (λ v. each_accepted stated S a cs x)) (sym k.1 ∙ n), h.1)
-  next-identification K cs (Go y) w q h k (Go z) n = (
-    record {
-      held = h.0.held;
-      book = h.0.book;
-      rest = h.0.rest ∙ ap (λ (z : Answer (List ℕ)). followed z (λ v. each_accepted stated S a cs x)) (sym k.1 ∙ n.1);
-      places = h.0.places;
-      size = h.0.size;
-      kept = h.0.kept;
-    },
-    h.1,
-  )
+  -- ---- one slice after another: what each asks, and what a refused one leaves
 
-  -- ---- the ways out
+  module _ (b : Booking) (h : Held ac2 0 text p) (eb : IsBooking b text p) where
+    abbrev left : List Slice
+    left = file_slice opacity ∷ []
 
-  pub later-refused : (K : Type 0) (r : Step) (w q : List ℕ) → After K [] r w q → (e : Refusal) → r ≡ Stop e → JudgesSlices later_files whole (Refused e) p q
-  later-refused K r w q h e s = subst (λ (y : Step). After K [] y w q) s h
+    pub acc-ready : FileReady 2 b text p
+    unfolding of_number
+    acc-ready = file_ready 2 b refl (omega arith) eb (at_first h)
 
-  pub later-size : (K : Type 0) (r : Step) (w q : List ℕ) → After K [] r w q → (y : Figures) → r ≡ Go y → length q ≡ length p
-  later-size K r w q h y s = (subst (λ (y : Step). After K [] y w q) s h).0.size
+    abbrev later : List Slice
+    later = file_slice drift ∷ file_slice suspension ∷ file_slice gas ∷ identification_slice ∷ left
 
-  module _ (o d u g r : Step) where
-    abbrev pub AllFigures : Type 0
-    AllFigures = ((((Unit {0} × FiguresAs acc o) × FiguresAs drift d) × FiguresAs suspension u) × FiguresAs gas g) × FiguresAs opacity r
+    pub acc-stopped : (e : Refusal) (v : List ℕ) → JudgesNext acc (Err e) p v → JudgesSlices later_files whole (Err e) p v
+    acc-stopped = file_stopped acc (omega arith) later p p (at_first h)
 
-    abbrev all_filled : List ℕ
-    all_filled = filled opacity (filled gas (filled suspension (filled drift (filled acc p))))
+    module _ (o : Figures) (p1 : List ℕ) (jo : JudgesNext acc (Ok o) p p1) where
+      g1 : Going later (filled acc p) p1
+      g1 = (file_went acc (omega arith) later p p (at_first h) o p1 jo).0
 
-    pub later-accepted : (q : List ℕ) → After AllFigures [] r all_filled q → (y : Figures) → r ≡ Go y
-        → JudgesSlices later_files whole (Accepted (acceptance_with (figures_in d) (figures_in u) (figures_in g) y)) p q
-    later-accepted q h y s =
-        let k = (subst (λ (z : Step). After AllFigures [] z all_filled q) s h).0 in
-        (x, k.rest, rw (k.kept.0.0.0.1, k.kept.0.0.1, k.kept.0.1, sym (ap figures_in s) ∙ k.kept.1) refl, k.places)
+      pub drift-ready : FileReady 3 b text p1
+      unfolding of_number
+      drift-ready = file_ready 3 b refl (omega arith) eb g1
+
+      pub drift-stopped : (e : Refusal) (v : List ℕ) → JudgesNext drift (Err e) p1 v → JudgesSlices later_files whole (Err e) p v
+      drift-stopped = file_stopped drift (omega arith) _ _ p1 g1
+
+      module _ (d : Figures) (p2 : List ℕ) (jd : JudgesNext drift (Ok d) p1 p2) where
+        g2 : Going (file_slice suspension ∷ file_slice gas ∷ identification_slice ∷ left) (filled drift (filled acc p)) p2 × FiguresAs drift d
+        g2 = file_went drift (omega arith) _ _ p1 g1 d p2 jd
+
+        pub suspension-ready : FileReady 4 b text p2
+        unfolding of_number
+        suspension-ready = file_ready 4 b refl (omega arith) eb g2.0
+
+        pub suspension-stopped : (e : Refusal) (v : List ℕ) → JudgesNext suspension (Err e) p2 v → JudgesSlices later_files whole (Err e) p v
+        suspension-stopped = file_stopped suspension (omega arith) _ _ p2 g2.0
+
+        module _ (u : Figures) (p3 : List ℕ) (ju : JudgesNext suspension (Ok u) p2 p3) where
+          g3 : Going (file_slice gas ∷ identification_slice ∷ left) (filled suspension (filled drift (filled acc p))) p3 × FiguresAs suspension u
+          g3 = file_went suspension (omega arith) _ _ p2 g2.0 u p3 ju
+
+          pub gas-ready : FileReady 5 b text p3
+          unfolding of_number
+          gas-ready = file_ready 5 b refl (omega arith) eb g3.0
+
+          pub gas-stopped : (e : Refusal) (v : List ℕ) → JudgesNext gas (Err e) p3 v → JudgesSlices later_files whole (Err e) p v
+          gas-stopped = file_stopped gas (omega arith) _ _ p3 g3.0
+
+          module _ (g : Figures) (p4 : List ℕ) (jg : JudgesNext gas (Ok g) p3 p4) where
+            g4 : Going (identification_slice ∷ left) (filled gas (filled suspension (filled drift (filled acc p)))) p4 × FiguresAs gas g
+            g4 = file_went gas (omega arith) _ _ p3 g3.0 g p4 jg
+
+            known : IdentificationKnown p4
+            known = gas_known _ _ p3 g3.0 g p4 jg
+
+            pub identification-ready : IdentificationReady (S.file gas) p4
+            identification-ready = known.0
+
+            pub identification-stopped : (e : Refusal) → JudgesIdentification (identification_judged (S.file gas) S.identification p4) (Err e) → JudgesSlices later_files whole (Err e) p p4
+            identification-stopped = identification_stopped left _ p4 g4.0 known
+
+            module _ (ji : JudgesIdentification (identification_judged (S.file gas) S.identification p4) (Ok tt)) where
+              g5 : Going left (filled gas (filled suspension (filled drift (filled acc p)))) p4
+              g5 = identification_went left _ p4 g4.0 known ji
+
+              pub opacity-ready : FileReady 7 b text p4
+              unfolding of_number
+              opacity-ready = file_ready 7 b refl (omega arith) eb g5
+
+              pub opacity-stopped : (e : Refusal) (v : List ℕ) → JudgesNext opacity (Err e) p4 v → JudgesSlices later_files whole (Err e) p v
+              opacity-stopped = file_stopped opacity (omega arith) _ _ p4 g5
+
+              pub all-accepted : (y : Figures) (q : List ℕ) → JudgesNext opacity (Ok y) p4 q → JudgesSlices later_files whole (Ok (acceptance_with d u g y)) p q
+              all-accepted y q jy =
+                  let k = file_went opacity (omega arith) [] _ p4 g5 y q jy in
+                  (x, k.0.rest, rw (g2.1, g3.1, g4.1, k.1) refl, k.0.places)
 
 -- ---- AC2, and all slices
 
-module _ (stated : Stated) (S : Slices) (p q : List ℕ) (l : least_places ≤ length p) (r : BookingStep) (j : JudgesBooking (judge_booking (S.file ac2)) r p q) where
-  pub slices-stop : (e : Refusal) → r ≡ B.Stop e → JudgesSlices files (judge_slices stated S) (Refused e) p q
+module _ (stated : Stated) (S : Slices) (p q : List ℕ) (l : least_places ≤ length p) (r : Result Booked Refusal) (j : JudgesBooking (judge_booking (S.file ac2)) r p q) where
+  pub slices-stop : (e : Refusal) → r ≡ Err e → JudgesSlices files (judge_slices stated S) (Err e) p q
   unfolding judge_slices
   slices-stop e s =
-      let h : JudgesBooking (judge_booking (S.file ac2)) (B.Stop e) p q = subst (λ (y : BookingStep). JudgesBooking (judge_booking (S.file ac2)) y p q) s j in
+      let h : JudgesBooking (judge_booking (S.file ac2)) (Err e) p q = subst (λ (y : Result Booked Refusal). JudgesBooking (judge_booking (S.file ac2)) y p q) s j in
       (ap (λ (y : Answer FileRead). followed y (λ b. each_accepted stated S b.values later_slices (set_read stated S b.values))) h.0, h.1)
 
-  module _ (y : Booked) (s : r ≡ B.Go y) where
-    abbrev h : JudgesBooking (judge_booking (S.file ac2)) (B.Go y) p q
-    h = subst (λ (y : BookingStep). JudgesBooking (judge_booking (S.file ac2)) y p q) s j
+  module _ (y : Booked) (s : r ≡ Ok y) where
+    abbrev h : JudgesBooking (judge_booking (S.file ac2)) (Ok y) p q
+    h = subst (λ (y : Result Booked Refusal). JudgesBooking (judge_booking (S.file ac2)) y p q) s j
 
     abbrev b : FileRead
     b = h.0
@@ -274,9 +282,9 @@ module _ (stated : Stated) (S : Slices) (p q : List ℕ) (l : least_places ≤ l
         ap (λ (y : Answer FileRead). followed y (λ b. each_accepted stated S b.values later_slices (set_read stated S b.values))) h.1
         ∙ ap (λ (v : List (List ℕ)). each_accepted stated S v later_slices (set_read stated S v)) (sym values)
 
-    pub slices-judged : (z : SetAnswer) (v : List ℕ) → JudgesLater stated S q v z → JudgesSlices files (judge_slices stated S) z p v
-    slices-judged (Refused e) v k = (whole_is ∙ k.0, k.1 ∙ ap (drop least_places) h.4 ∙ drop-pairs least_places (first_pair ac2) b.pairs p fit)
-    slices-judged (Accepted y) v k =
+    pub slices-judged : (z : Result Acceptance Refusal) (v : List ℕ) → JudgesLater stated S q v z → JudgesSlices files (judge_slices stated S) z p v
+    slices-judged (Err e) v k = (whole_is ∙ k.0, k.1 ∙ ap (drop least_places) h.4 ∙ drop-pairs least_places (first_pair ac2) b.pairs p fit)
+    slices-judged (Ok y) v k =
         let a : List (List ℕ) = new_values (S.file ac2) q in
         let e : k.0.file ac2 ≡ b
         = sym (ap (λ (x : SetRead). x.file ac2) (each-sound stated S a later_slices (set_read stated S a) k.0 k.1).0)

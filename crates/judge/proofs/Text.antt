@@ -4,7 +4,7 @@ use native.Mathlib.Omega.{arith}
 use mathlib.Core.Path.{◌≡◌, ap, ap₂, sym, subst, ◌∙◌}
 use mathlib.Core.List.{List, map}
 use lib.ListN.{length, take, drop}
-use Rattle.refusals.specs.Refusals.{number_of, refusal_with}
+use Rattle.refusals.specs.Refusals.{number_of}
 use Rattle.refusals.specs.Answer.{refusal, acceptance}
 use Rattle.refusals.specs.declared.Refusal.{Refusal}
 use Rattle.places.specs.Places.{Pair, set_pairs, pairs_at, value_at, Within}
@@ -17,9 +17,6 @@ use Rattle.reading.proofs.Tables.{tables-distinct}
 use Rattle.reading.proofs.Theorem.{sound}
 use Rattle.files.specs.Files.{read_file, axles_of}
 use Rattle.files.specs.Steps.{ReadsText}
-use Rattle.files.specs.declared.Fault.{Fault}
-use Rattle.files.specs.declared.TextAnswer.{TextAnswer}
-use Rattle.files.specs.declared.TextAnswer.TheVariants.{Sections, Faulty}
 use Rattle.files.proofs.Alone.{count-in}
 use Rattle.files.proofs.Theorem as T
 use Rattle.files.proofs.Texts.{few-axles, pairs-fit, read-numbered, text-read, text-is, text-set, text-pairs, text-held}
@@ -31,9 +28,7 @@ use Rattle.tables.proofs.Values.{new-count}
 use Rattle.sets.specs.Judge.{file_read, file_checks, first_failed, checked_file, judge_reading, judge_text}
 use Rattle.judge.specs.Steps.{file_numbered, IsNumber, figures_of, IsBooking, FileReady, ValuesReady, values_step, JudgesValues, JudgesFile, text_judged, JudgesBooking}
 use Rattle.sets.specs.declared.Figures.{Figures}
-use Rattle.judge.specs.declared.Step.{Step}
-use Rattle.judge.specs.declared.Step.TheVariants.{Stop, Go}
-use Rattle.judge.specs.declared.BookingStep.TheVariants as B
+use Rattle.std.specs.Prelude.{Result, Ok, Err}
 use Rattle.judge.proofs.Numbers.{by-file, new-number}
 
 -- ---- AC2's pairs
@@ -56,23 +51,21 @@ new-pairs n p = ap (λ (k : ℕ). pairs_at p (first_pair ac2) k) (new-count n �
 
 -- ---- what was read
 
-module _ (file : ℕ) (number : IsNumber file) (t p q ls : List ℕ) (r : TextAnswer) (w : ReadsText file t r p q ls) where
+module _ (file : ℕ) (number : IsNumber file) (t p q ls : List ℕ) (r : Result ℕ Refusal) (w : ReadsText file t r p q ls) where
   abbrev f : File
   f = file_numbered file
 
   -- 3 to 9
-  pub text-faulty : (booking : List (List ℕ) → List (List ℕ)) (x : Fault) → r ≡ Faulty x
-      → JudgesFile f (judge_text f booking t) (Stop (refusal_with x.kind file x.line)) p q
+  pub text-faulty : (booking : List (List ℕ) → List (List ℕ)) (x : Refusal) → ReadsText file t (Err x) p q ls → JudgesFile f (judge_text f booking t) (Err x) p q
   unfolding judge_text
-  text-faulty booking x e =
-      let v = subst (λ (y : TextAnswer). ReadsText file t y p q ls) e w in (
-        ap (judge_reading f booking t) (read-numbered f file t (sym number) ∙ v.0) ∙ ap (λ (m : ℕ). refusal (number_of x.kind) m x.line) number,
-        ap (drop least_places) v.1,
-      )
+  text-faulty booking x v = (
+    ap (judge_reading f booking t) (read-numbered f file t (sym number) ∙ v.0) ∙ ap (λ (m : ℕ). refusal (number_of x.kind) m x.line) (number ∙ sym v.1),
+    ap (drop least_places) v.2,
+  )
 
-  module _ (enough : least_places ≤ length p) (c : ℕ) (e : r ≡ Sections c) where
-    abbrev v : ReadsText file t (Sections c) p q ls
-    v = subst (λ (y : TextAnswer). ReadsText file t y p q ls) e w
+  module _ (enough : least_places ≤ length p) (c : ℕ) (e : r ≡ Ok c) where
+    abbrev v : ReadsText file t (Ok c) p q ls
+    v = subst (λ (y : Result ℕ Refusal). ReadsText file t y p q ls) e w
 
     abbrev ps : List Pair
     ps = v.0
@@ -98,7 +91,7 @@ module _ (file : ℕ) (number : IsNumber file) (t p q ls : List ℕ) (r : TextAn
         let i = (sound (all_sections f) (least_sections f) t (tables-distinct f) c ps _ (T.by-inv (all_sections f) (least_sections f) t c ps _ was_read).1).is in
         record {
           number = number;
-          least = omega (arith, (count-in file t p q ls r c w e).0, by-file file number 0 (λ f. length (fixed_sections f)));
+          least = omega (arith, (count-in file t p q ls c v).0, by-file file number 0 (λ f. length (fixed_sections f)));
           most = i.most;
           sections-are = x.counted.sections-are;
           few = few-axles (has_axles f) (axles_of f c) x.counted.count;
@@ -116,10 +109,10 @@ module _ (file : ℕ) (number : IsNumber file) (t p q ls : List ℕ) (r : TextAn
         ∙ ap (λ (y : List Pair). checked_file f (file_read f t c y) (take (length (entries f (axles_of f c))) ls) (first_failed (file_checks f (new_values s q) (map (value_at t) y) (axles_of f c)))) (sym own)
 
     module _ (booking : List (List ℕ) → List (List ℕ)) (s : List ℕ) (eb : booking (map (value_at t) ps) ≡ new_values s q) where
-      stopped : (y : Refusal) → JudgesValues f c s t q ls (Stop y) → JudgesFile f (judge_text f booking t) (Stop y) p q
+      stopped : (y : Refusal) → JudgesValues f c s t q ls (Err y) → JudgesFile f (judge_text f booking t) (Err y) p q
       stopped y j = (step booking s eb ∙ j, ap (drop least_places) set ∙ drop-pairs least_places (first_pair f) ps p (pairs-fit f t c ps x))
 
-      went : (y : Figures) → JudgesValues f c s t q ls (Go y) → (judge_text f booking t ≡ acceptance (file_read f t c ps)) × (y ≡ figures_of f (file_read f t c ps))
+      went : (y : Figures) → JudgesValues f c s t q ls (Ok y) → (judge_text f booking t ≡ acceptance (file_read f t c ps)) × (y ≡ figures_of f (file_read f t c ps))
       went y j = (
         step booking s eb ∙ j.0 ∙ ap (λ (z : List Pair). acceptance (file_read f t c z)) own,
         j.1 ∙ ap (λ (z : List Pair). figures_of f (file_read f t c z)) own,
@@ -134,19 +127,19 @@ module _ (file : ℕ) (number : IsNumber file) (t p q ls : List ℕ) (r : TextAn
       pub later-ready : most_rows ≤ length ls → ValuesReady file c b s t q ls
       later-ready l = text-ready b s (held.0, subst (Within s) (sym same) d.held.1) (d.booking ∙ ap (λ (y : List Pair). booking_in (map (value_at s) y)) (sym same)) l
 
-      pub later-judged : (y : Step) → JudgesValues f c s t q ls y → JudgesFile f (text_judged file s t p) y p q
-      later-judged (Stop y) j = stopped (λ own. new_values s p) s (ap (map (value_at s)) (sym same)) y j
-      later-judged (Go y) j = let h = went (λ own. new_values s p) s (ap (map (value_at s)) (sym same)) y j in (file_read f t c ps, h.0, h.1, set)
+      pub later-judged : (y : Result Figures Refusal) → JudgesValues f c s t q ls y → JudgesFile f (text_judged file s t p) y p q
+      later-judged (Err y) j = stopped (λ own. new_values s p) s (ap (map (value_at s)) (sym same)) y j
+      later-judged (Ok y) j = let h = went (λ own. new_values s p) s (ap (map (value_at s)) (sym same)) y j in (file_read f t c ps, h.0, h.1, set)
 
 -- ---- AC2
 
-module _ (t p q ls : List ℕ) (r : TextAnswer) (w : ReadsText 1 t r p q ls) where
-  pub booking-faulty : (x : Fault) → r ≡ Faulty x → JudgesBooking (judge_text ac2 (λ own. own) t) (B.Stop (refusal_with x.kind 1 x.line)) p q
-  booking-faulty x e =
-      subst (λ (f : File). JudgesFile f (judge_text f (λ own. own) t) (Stop (refusal_with x.kind 1 x.line)) p q) new-number
-      (text-faulty 1 (ap file_number new-number) t p q ls r w (λ own. own) x e)
+module _ (t p q ls : List ℕ) (r : Result ℕ Refusal) (w : ReadsText 1 t r p q ls) where
+  pub booking-faulty : (x : Refusal) → ReadsText 1 t (Err x) p q ls → JudgesBooking (judge_text ac2 (λ own. own) t) (Err x) p q
+  booking-faulty x v =
+      subst (λ (f : File). JudgesFile f (judge_text f (λ own. own) t) (Err x) p q) new-number
+      (text-faulty 1 (ap file_number new-number) t p q ls r w (λ own. own) x v)
 
-  module _ (enough : least_places ≤ length p) (c : ℕ) (e : r ≡ Sections c) where
+  module _ (enough : least_places ≤ length p) (c : ℕ) (e : r ≡ Ok c) where
     number : IsNumber 1
     number = ap file_number new-number
 
@@ -165,12 +158,12 @@ module _ (t p q ls : List ℕ) (r : TextAnswer) (w : ReadsText 1 t r p q ls) whe
     booking-values : map (value_at t) pairs ≡ new_values t q
     booking-values = ap (map (value_at t)) (sym now-own)
 
-    pub booking-stopped : (y : Refusal) → JudgesValues (file_numbered 1) c t t q ls (Stop y) → JudgesBooking (judge_text ac2 (λ own. own) t) (B.Stop y) p q
+    pub booking-stopped : (y : Refusal) → JudgesValues (file_numbered 1) c t t q ls (Err y) → JudgesBooking (judge_text ac2 (λ own. own) t) (Err y) p q
     booking-stopped y j =
-        subst (λ (f : File). JudgesFile f (judge_text f (λ own. own) t) (Stop y) p q) new-number (stopped 1 number t p q ls r w enough c e (λ own. own) t booking-values y j)
+        subst (λ (f : File). JudgesFile f (judge_text f (λ own. own) t) (Err y) p q) new-number (stopped 1 number t p q ls r w enough c e (λ own. own) t booking-values y j)
 
-    pub booking-went : (b : Booking) → IsBooking b t q → (y : Figures) → JudgesValues (file_numbered 1) c t t q ls (Go y)
-        → JudgesBooking (judge_text ac2 (λ own. own) t) (B.Go (record { booking = b; figures = y })) p q
+    pub booking-went : (b : Booking) → IsBooking b t q → (y : Figures) → JudgesValues (file_numbered 1) c t t q ls (Ok y)
+        → JudgesBooking (judge_text ac2 (λ own. own) t) (Ok (record { booking = b; figures = y })) p q
     booking-went b eb y j =
         let h : (judge_text ac2 (λ own. own) t ≡ acceptance (file_read ac2 t c pairs)) × (y ≡ figures_of ac2 (file_read ac2 t c pairs))
         = subst (λ (f : File). (judge_text f (λ own. own) t ≡ acceptance (file_read f t c pairs)) × (y ≡ figures_of f (file_read f t c pairs))) new-number

@@ -25,18 +25,16 @@ use Rattle.due.specs.declared.Booking.{Booking}
 use Rattle.due.specs.declared.Conditions.{Conditions}
 use Rattle.due.proofs.Entries.{conditions-file}
 use Rattle.due.proofs.FirstNotAsDue.{first-at-values}
-use Rattle.rules.specs.Rule.{first_broken}
+use Rattle.rules.specs.Rule.{RuleCheck, first_broken}
 use Rattle.rules.specs.Rules.{rules_of, first_broken_at}
 use Rattle.tables.specs.Value.{pairs_of, values_of, Held, NumberHeld}
 use Rattle.due.specs.Values.{new_values}
 use Rattle.rules.specs.declared.BrokenRule.{BrokenRule}
-use Rattle.rules.specs.declared.RuleCheck.{RuleCheck}
-use Rattle.rules.specs.declared.RuleCheck.TheVariants.{Kept, Broken}
 use Rattle.tables.proofs.Values.{held_number, fixed_held}
 use Rattle.sets.specs.Judge.{check_rule, checked_file, first_failed, figures_from}
 use Rattle.judge.specs.Steps.{file_numbered, IsNumber, ValuesReady, read_at, values_step, JudgesValues}
 use Rattle.sets.specs.declared.Figures as K
-use Rattle.judge.specs.declared.Step.TheVariants.{Stop, Go}
+use Rattle.std.specs.Prelude.{Ok, Err}
 use Rattle.judge.proofs.Numbers.{by-file, table, few-entries}
 
 module _ (file c : ℕ) (b : Booking) (s t p ls : List ℕ) (w : ValuesReady file c b s t p ls) where
@@ -117,23 +115,23 @@ module _ (file c : ℕ) (b : Booking) (s t p ls : List ℕ) (w : ValuesReady fil
     many : length vs ≡ size
     many = values_length t p (first_pair f) size
 
-    pub values-due : e < count → (l : ℕ) → l ≡ get_or (take count ls) e 0 → JudgesValues f c s t p ls (Stop (refusal_with NotAsDue file l))
+    pub values-due : e < count → (l : ℕ) → l ≡ get_or (take count ls) e 0 → JudgesValues f c s t p ls (Err (refusal_with NotAsDue file l))
     values-due i l el =
         due-failed (lt-ltb (first_not_as_due f conditions vs) (length vs) (omega (arith, many, ec, h, i)))
         ∙ ap₂ (λ (x y : ℕ). refusal 10 x y) w.number (sym (el ∙ ap₂ (λ (x y : ℕ). get_or (take x ls) y 0) ec h))
 
-    module _ (i : count ≤ e) (m : ℕ) (em : m ≡ n) (r : RuleCheck) (er : r ≡ of_number Kept (λ f. first_broken_at f m s t p) file) where
+    module _ (i : count ≤ e) (m : ℕ) (em : m ≡ n) (r : RuleCheck) (er : r ≡ of_number (Ok tt) (λ f. first_broken_at f m s t p) file) where
       rule-is : first_broken f (rules_of f (new_values s p) vs n) ≡ r
-      rule-is = sym (er ∙ by-file file w.number Kept (λ f. first_broken_at f m s t p) ∙ ap (λ (k : ℕ). first_broken_at f k s t p) em)
+      rule-is = sym (er ∙ by-file file w.number (Ok tt) (λ f. first_broken_at f m s t p) ∙ ap (λ (k : ℕ). first_broken_at f k s t p) em)
 
       judged : (x : RuleCheck) → r ≡ x → values_step f c s t p ls ≡ checked_file f (read_at f c t p) (take size ls) (first_failed (check_rule x ∷ []))
       judged x q =
           due-passed (le-ltb (first_not_as_due f conditions vs) (length vs) (omega (arith, many, ec, h, i)))
           ∙ ap (λ (y : RuleCheck). checked_file f (read_at f c t p) (take size ls) (first_failed (check_rule y ∷ []))) (rule-is ∙ q)
 
-      pub values-broken : (x : BrokenRule) → r ≡ Broken x → (l : ℕ) → l ≡ get_or (take count ls) x.entry 0 → JudgesValues f c s t p ls (Stop (refusal_with x.kind file l))
+      pub values-broken : (x : BrokenRule) → r ≡ Err x → (l : ℕ) → l ≡ get_or (take count ls) x.entry 0 → JudgesValues f c s t p ls (Err (refusal_with x.kind file l))
       values-broken x q l el =
-          judged (Broken x) q ∙ ap₂ (λ (y z : ℕ). refusal (number_of x.kind) y z) w.number (sym (el ∙ ap (λ (y : ℕ). get_or (take y ls) x.entry 0) ec))
+          judged (Err x) q ∙ ap₂ (λ (y z : ℕ). refusal (number_of x.kind) y z) w.number (sym (el ∙ ap (λ (y : ℕ). get_or (take y ls) x.entry 0) ec))
 
-      pub values-pass : r ≡ Kept → (y : K.Figures) → y ≡ figures_from f m (values_of f m t p) → JudgesValues f c s t p ls (Go y)
-      values-pass q y ey = (judged Kept q, ey ∙ ap (λ (k : ℕ). figures_from f k (values_of f k t p)) em)
+      pub values-pass : r ≡ Ok tt → (y : K.Figures) → y ≡ figures_from f m (values_of f m t p) → JudgesValues f c s t p ls (Ok y)
+      values-pass q y ey = (judged (Ok tt) q, ey ∙ ap (λ (k : ℕ). figures_from f k (values_of f k t p)) em)

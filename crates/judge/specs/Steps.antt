@@ -1,7 +1,8 @@
 -- What the steps of judging a set promise. Each is said by cases of the code's answer: the pairs, which it has no room for, are in the places.
-use Rattle.std.specs.Prelude.{ℕ, ◌≤◌, ◌<◌, ◌≡◌, false, List, [], ◌∷◌, length, take, drop}
+use Rattle.std.specs.Prelude.{ℕ, ◌≤◌, ◌<◌, ◌≡◌, false, List, [], ◌∷◌, length, take, drop, Result, Ok, Err}
 use Rattle.refusals.specs.Answer.{Answer, acceptance, refusal_of}
 use Rattle.refusals.specs.Refusals.{refusal_with}
+use Rattle.refusals.specs.declared.Refusal.{Refusal}
 use Rattle.refusals.specs.declared.RefusalKind.{RefusalKind}
 use Rattle.places.specs.Places.{set_pairs}
 use Rattle.tables.specs.File.{File, ac2, acc, drift, suspension, gas, opacity, file_number, most_axles, sections, all_sections, fixed_sections, entries, first_pair, least_places, of_number, identification_number}
@@ -15,13 +16,8 @@ use Rattle.rules.specs.declared.Stated.{Stated}
 use Rattle.sets.specs.Records.{Slices, is_given}
 use Rattle.sets.specs.Judge.{figures_from, acceptance_of, FileRead, SetRead, file_read, checked_file, first_failed, file_checks, judge_text, judge_file, judge_identification, set_read, later_slices, each_accepted, set_files}
 use Rattle.sets.specs.declared.Acceptance.{Acceptance}
-use Rattle.sets.specs.declared.SetAnswer.{SetAnswer}
-use Rattle.sets.specs.declared.SetAnswer.TheVariants.{Accepted, Refused}
 use Rattle.sets.specs.declared.Figures.{Figures}
-use Rattle.judge.specs.declared.Step.{Step}
-use Rattle.judge.specs.declared.Step.TheVariants.{Stop, Go}
-use Rattle.judge.specs.declared.BookingStep.{BookingStep}
-use Rattle.judge.specs.declared.BookingStep.TheVariants as B
+use Rattle.judge.specs.declared.Booked.{Booked}
 
 -- the file of a number; AC2 for a number that no file has
 abbrev pub file_numbered : ℕ → File
@@ -37,11 +33,6 @@ figures_of f g = figures_from f g.axles g.values
 
 abbrev pub no_figures : Figures
 no_figures = record { axles = 0; mark = false; byhand = false }
-
--- by a step; after a refusal nothing
-abbrev pub figures_in : Step → Figures
-figures_in (Stop x) = no_figures
-figures_in (Go y) = y
 
 -- ---- one file
 
@@ -79,14 +70,14 @@ values_step f c s t p ls =
     checked_file f (read_at f c t p) (take (length (entries f (axles_of f c))) ls)
     (first_failed (file_checks f (new_values s p) (values_of f (axles_of f c) t p) (axles_of f c)))
 
-abbrev pub JudgesValues : File → ℕ → List ℕ → List ℕ → List ℕ → List ℕ → Step → Type 0
-JudgesValues f c s t p ls (Stop x) = values_step f c s t p ls ≡ refusal_of x
-JudgesValues f c s t p ls (Go y) = (values_step f c s t p ls ≡ acceptance (read_at f c t p)) × (y ≡ figures_of f (read_at f c t p))
+abbrev pub JudgesValues : File → ℕ → List ℕ → List ℕ → List ℕ → List ℕ → Result Figures Refusal → Type 0
+JudgesValues f c s t p ls (Err x) = values_step f c s t p ls ≡ refusal_of x
+JudgesValues f c s t p ls (Ok y) = (values_step f c s t p ls ≡ acceptance (read_at f c t p)) × (y ≡ figures_of f (read_at f c t p))
 
 -- a file was judged, by the definition with a; places p before, q after. After a refusal only those past the pairs are promised.
-abbrev pub JudgesFile : File → Answer FileRead → Step → List ℕ → List ℕ → Type 0
-JudgesFile f a (Stop x) p q = (a ≡ refusal_of x) × (drop least_places q ≡ drop least_places p)
-JudgesFile f a (Go y) p q = (g : FileRead) × (a ≡ acceptance g) × (y ≡ figures_of f g) × (q ≡ set_pairs (first_pair f) g.pairs p)
+abbrev pub JudgesFile : File → Answer FileRead → Result Figures Refusal → List ℕ → List ℕ → Type 0
+JudgesFile f a (Err x) p q = (a ≡ refusal_of x) × (drop least_places q ≡ drop least_places p)
+JudgesFile f a (Ok y) p q = (g : FileRead) × (a ≡ acceptance g) × (y ≡ figures_of f g) × (q ≡ set_pairs (first_pair f) g.pairs p)
 
 -- 3 to 9, then the checks, of a file after AC2; and 11 before them
 abbrev pub text_judged : ℕ → List ℕ → List ℕ → List ℕ → Answer FileRead
@@ -96,38 +87,28 @@ abbrev pub file_judged : ℕ → Stated → List ℕ → List ℕ → List ℕ �
 file_judged file stated s t p = judge_file (file_numbered file) stated (new_values s p) t
 
 -- AC2 was judged: its figures, and what its values say
-abbrev pub JudgesBooking : Answer FileRead → BookingStep → List ℕ → List ℕ → Type 0
-JudgesBooking a (B.Stop x) p q = (a ≡ refusal_of x) × (drop least_places q ≡ drop least_places p)
-JudgesBooking a (B.Go y) p q =
+abbrev pub JudgesBooking : Answer FileRead → Result Booked Refusal → List ℕ → List ℕ → Type 0
+JudgesBooking a (Err x) p q = (a ≡ refusal_of x) × (drop least_places q ≡ drop least_places p)
+JudgesBooking a (Ok y) p q =
     (g : FileRead) × (a ≡ acceptance g) × (y.figures ≡ figures_of ac2 g) × (y.booking ≡ booking_in g.values) × (q ≡ set_pairs (first_pair ac2) g.pairs p)
 
--- ---- one slice after another
+-- ---- slice 6
 
--- what is asked where the slices before were accepted
-abbrev pub Asked : Step → Type 0 → Type 0
-Asked (Stop x) P = Unit {0}
-Asked (Go y) P = P
-
--- after a refused slice nothing is done; after an accepted one P
-abbrev pub Next : Step → Step → List ℕ → List ℕ → Type 0 → Type 0
-Next (Stop x) r p q P = (r ≡ Stop x) × (q ≡ p)
-Next (Go y) r p q P = P
-
--- slice 6: what it gives is the address, which a step has no room for
+-- what it gives is the address, which the code's answer has no room for
 abbrev pub identification_judged : List ℕ → List ℕ → List ℕ → Answer (List ℕ)
 identification_judged g i p = judge_identification (is_given g) (values_of gas 0 g p) i
 
-abbrev pub JudgesIdentification : Answer (List ℕ) → Step → Type 0
-JudgesIdentification a (Stop x) = a ≡ refusal_of x
-JudgesIdentification a (Go y) = (v : List ℕ) × (a ≡ acceptance v)
+abbrev pub JudgesIdentification : Answer (List ℕ) → Result Unit Refusal → Type 0
+JudgesIdentification a (Err x) = a ≡ refusal_of x
+JudgesIdentification a (Ok y) = (v : List ℕ) × (a ≡ acceptance v)
 
 -- gas, where it is given, has its pairs within its text g
 abbrev pub IdentificationReady : List ℕ → List ℕ → Type 0
 IdentificationReady g p = 0 < length g → Held gas 0 g p
 
 -- a refusal of slice 6
-abbrev pub identification_refused : RefusalKind → Step
-identification_refused k = Stop (refusal_with k identification_number 0)
+abbrev pub identification_refused : RefusalKind → Result Unit Refusal
+identification_refused k = Err (refusal_with k identification_number 0)
 
 -- ---- the set
 
@@ -139,11 +120,11 @@ abbrev pub acceptance_in : SetRead → Acceptance
 acceptance_in x = acceptance_of (λ f. (x.file f).axles) (λ f. (x.file f).values)
 
 -- slices were judged, by the definition with a, among them the files fs; places p before, q after
-abbrev pub JudgesSlices : List File → Answer SetRead → SetAnswer → List ℕ → List ℕ → Type 0
-JudgesSlices fs a (Refused x) p q = (a ≡ refusal_of x) × (drop least_places q ≡ drop least_places p)
-JudgesSlices fs a (Accepted y) p q = (x : SetRead) × (a ≡ acceptance x) × (y ≡ acceptance_in x) × (q ≡ set_files fs x p)
+abbrev pub JudgesSlices : List File → Answer SetRead → Result Acceptance Refusal → List ℕ → List ℕ → Type 0
+JudgesSlices fs a (Err x) p q = (a ≡ refusal_of x) × (drop least_places q ≡ drop least_places p)
+JudgesSlices fs a (Ok y) p q = (x : SetRead) × (a ≡ acceptance x) × (y ≡ acceptance_in x) × (q ≡ set_files fs x p)
 
 -- the slices after AC2, whose pairs are in p
-abbrev pub JudgesLater : Stated → Slices → List ℕ → List ℕ → SetAnswer → Type 0
+abbrev pub JudgesLater : Stated → Slices → List ℕ → List ℕ → Result Acceptance Refusal → Type 0
 JudgesLater stated s p q r =
     JudgesSlices later_files (each_accepted stated s (new_values (s.file ac2) p) later_slices (set_read stated s (new_values (s.file ac2) p))) r p q

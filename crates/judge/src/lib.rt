@@ -7,15 +7,13 @@ ghost use Rattle.tables.specs.Row.{most_rows};
 ghost use Rattle.tables.specs.Value.{values_of, Held, NumberHeld};
 ghost use Rattle.sets.specs.Records.{caller_of, slices_of};
 ghost use Rattle.sets.specs.Judge.{figures_from, acceptance_with, judge_text, judge_booking, judge_slices};
-ghost use Rattle.judge.specs.Steps.{file_numbered, IsNumber, figures_in, IsBooking, FileReady, ValuesReady, JudgesValues, JudgesFile, text_judged, file_judged, JudgesBooking, Asked, Next, identification_judged, JudgesIdentification, IdentificationReady, identification_refused, JudgesSlices, JudgesLater};
+ghost use Rattle.judge.specs.Steps.{file_numbered, IsNumber, IsBooking, FileReady, ValuesReady, JudgesValues, JudgesFile, text_judged, file_judged, JudgesBooking, identification_judged, JudgesIdentification, IdentificationReady, identification_refused, JudgesSlices, JudgesLater};
 ghost use Rattle.judge.specs.Judged.{SetJudged};
 
 use due::Booking;
-use files::TextAnswer;
 use refusals::{Refusal, RefusalKind};
-use rules::{RuleCheck, Stated};
-use serial::IdentificationRead;
-use sets::{Acceptance, Figures, SetAnswer};
+use rules::Stated;
+use sets::{Acceptance, Figures};
 use tables::{AC2, ACC, DRIFT, GAS, IDENTIFICATION, MOST_ROWS, OPACITY, SUSPENSION};
 
 // Of a file that is not read, and of slice 6.
@@ -25,24 +23,11 @@ const NO_FIGURES: Figures = Figures {
     byhand: false,
 };
 
-// A slice that was judged.
-#[derive(Clone, Copy)]
-enum Step {
-    Stop(Refusal),
-    Go(Figures),
-}
-
 // AC2 that passed: what its values say, for all slices after it, and its figures.
 #[derive(Clone, Copy)]
 struct Booked {
     booking: Booking,
     figures: Figures,
-}
-
-#[derive(Clone, Copy)]
-enum BookingStep {
-    Stop(Refusal),
-    Go(Booked),
 }
 
 // The line of an entry; 0 where there is none.
@@ -62,8 +47,8 @@ fn figures_of(file: u32, axles: usize, text: &[u8], places: &[u32]) -> Figures
     let byhand = files::is_by_hand(file, axles, text, places);
     Figures {
         axles: axles as u32,
-        mark: mark,
-        byhand: byhand,
+        mark,
+        byhand,
     }
 }
 
@@ -76,7 +61,7 @@ fn judge_values(
     text: &[u8],
     places: &[u32],
     lines: &[u32],
-) -> Step
+) -> Result<Figures, Refusal>
     requires { ValuesReady file sections b booking.now text.now places.now lines.now }
     ensures { JudgesValues (file_numbered file) sections booking.now text.now
         places.now lines.now result }
@@ -86,7 +71,7 @@ fn judge_values(
     let first = tables::first_pair(file);
     let entry = due::first_not_as_due(file, first, count, conditions, places);
     if entry < count {
-        return Step::Stop(Refusal {
+        return Err(Refusal {
             kind: RefusalKind::NotAsDue,
             file: file,
             line: line_of(&lines[..count], entry),
@@ -94,55 +79,34 @@ fn judge_values(
     }
     let axles = sections - tables::fixed_section_count(file);
     match rules::first_broken(file, axles, b, booking, text, places) {
-        RuleCheck::Broken(x) => {
-            let kind = x.kind;
-            let broken = x.entry;
-            Step::Stop(Refusal {
-                kind: kind,
-                file: file,
-                line: line_of(&lines[..count], broken),
-            })
-        }
-        RuleCheck::Kept => Step::Go(figures_of(file, axles, text, places)),
+        Err(x) => Err(Refusal {
+            kind: x.kind,
+            file,
+            line: line_of(&lines[..count], x.entry),
+        }),
+        Ok(()) => Ok(figures_of(file, axles, text, places)),
     }
 }
 
 // AC2's text: 3 to 9, then the values, by what they say themselves.
-fn judge_booking_text(text: &[u8], places: &mut [u32], lines: &mut [u32]) -> BookingStep
+fn judge_booking_text(text: &[u8], places: &mut [u32], lines: &mut [u32]) -> Result<Booked, Refusal>
     requires { (least_places ≤ length places.old) × (most_rows ≤ length lines.old) }
     ensures { JudgesBooking (judge_text booking_file (λ own. own) text.now) result
         places.old places.new }
 {
-    match files::read_text(AC2, text, places, lines) {
-        TextAnswer::Faulty(x) => {
-            let kind = x.kind;
-            let line = x.line;
-            BookingStep::Stop(Refusal {
-                kind: kind,
-                file: AC2,
-                line: line,
-            })
-        }
-        TextAnswer::Sections(sections) => {
-            let booking = due::booking_of(text, places);
-            match judge_values(AC2, sections, booking, text, text, places, lines) {
-                Step::Stop(x) => BookingStep::Stop(x),
-                Step::Go(figures) => BookingStep::Go(Booked {
-                    booking: booking,
-                    figures: figures,
-                }),
-            }
-        }
-    }
+    let sections = files::read_text(AC2, text, places, lines)?;
+    let booking = due::booking_of(text, places);
+    let figures = judge_values(AC2, sections, booking, text, text, places, lines)?;
+    Ok(Booked { booking, figures })
 }
 
 // AC2: 11, then the rest.
-fn judge_booking(text: &[u8], places: &mut [u32]) -> BookingStep
+fn judge_booking(text: &[u8], places: &mut [u32]) -> Result<Booked, Refusal>
     requires { least_places ≤ length places.old }
     ensures { JudgesBooking (judge_booking text.now) result places.old places.new }
 {
     if text.len() == 0 {
-        return BookingStep::Stop(Refusal {
+        return Err(Refusal {
             kind: RefusalKind::SliceNotAsDue,
             file: AC2,
             line: 0,
@@ -160,26 +124,14 @@ fn judge_text(
     text: &[u8],
     places: &mut [u32],
     lines: &mut [u32],
-) -> Step
+) -> Result<Figures, Refusal>
     requires { FileReady file b booking.now places.old × (most_rows ≤ length lines.old) }
     ensures { JudgesFile (file_numbered file)
         (text_judged file booking.now text.now places.old) result
         places.old places.new }
 {
-    match files::read_text(file, text, places, lines) {
-        TextAnswer::Faulty(x) => {
-            let kind = x.kind;
-            let line = x.line;
-            Step::Stop(Refusal {
-                kind: kind,
-                file: file,
-                line: line,
-            })
-        }
-        TextAnswer::Sections(sections) => judge_values(
-            file, sections, b, booking, text, places, lines,
-        ),
-    }
+    let sections = files::read_text(file, text, places, lines)?;
+    judge_values(file, sections, b, booking, text, places, lines)
 }
 
 // A file after AC2: 11, then, where it is read, the rest.
@@ -190,7 +142,7 @@ fn judge_file(
     booking: &[u8],
     text: &[u8],
     places: &mut [u32],
-) -> Step
+) -> Result<Figures, Refusal>
     requires { FileReady file b booking.now places.old }
     ensures { JudgesFile (file_numbered file)
         (file_judged file stated booking.now text.now places.old) result
@@ -198,119 +150,74 @@ fn judge_file(
 {
     let given = 0 < text.len();
     if !rules::slice_right(file, stated, b, given) {
-        return Step::Stop(Refusal {
+        return Err(Refusal {
             kind: RefusalKind::SliceNotAsDue,
-            file: file,
+            file,
             line: 0,
         });
     }
     if !rules::is_read(file, b, given) {
-        return Step::Go(NO_FIGURES);
+        return Ok(NO_FIGURES);
     }
     let mut lines = [0u32; MOST_ROWS];
     judge_text(file, b, booking, text, places, &mut lines)
 }
 
-// A file after other slices: where one of them was refused, that refusal stands.
-fn judge_next(
-    before: Step,
-    file: u32,
-    stated: Stated,
-    b: Booking,
-    booking: &[u8],
-    text: &[u8],
-    places: &mut [u32],
-) -> Step
-    requires { Asked before (FileReady file b booking.now places.old) }
-    ensures { Next before result places.old places.new
-        (JudgesFile (file_numbered file)
-        (file_judged file stated booking.now text.now places.old) result
-        places.old places.new) }
-{
-    match before {
-        Step::Stop(x) => Step::Stop(x),
-        Step::Go(_k) => judge_file(file, stated, b, booking, text, places),
-    }
-}
-
-fn refuse_identification(kind: RefusalKind) -> Step
+fn refuse_identification(kind: RefusalKind) -> Result<(), Refusal>
     ensures { result ≡ identification_refused kind }
 {
-    Step::Stop(Refusal {
-        kind: kind,
+    Err(Refusal {
+        kind,
         file: IDENTIFICATION,
         line: 0,
     })
 }
 
 // Slice 6: 11, 14, 15. It has no figures.
-fn judge_identification(gas: &[u8], identification: &[u8], places: &[u32]) -> Step
+fn judge_identification(gas: &[u8], identification: &[u8], places: &[u32]) -> Result<(), Refusal>
     requires { IdentificationReady gas.now places.now }
     ensures { JudgesIdentification
         (identification_judged gas.now identification.now places.now) result }
 {
     let given = 0 < identification.len();
-    let passed = Step::Go(NO_FIGURES);
     if !rules::identification_right(gas, places, given) {
         return refuse_identification(RefusalKind::SliceNotAsDue);
     }
     if !given {
-        return passed;
+        return Ok(());
     }
     match serial::read_identification(identification) {
-        IdentificationRead::Malformed => refuse_identification(RefusalKind::IdentificationForm),
-        IdentificationRead::Fields(ends) => {
+        None => refuse_identification(RefusalKind::IdentificationForm),
+        Some(ends) => {
             if !rules::same_fields(identification, ends, gas, places) {
                 return refuse_identification(RefusalKind::IdentificationDiffers);
             }
-            passed
+            Ok(())
         }
     }
 }
 
-// Slice 6 after other slices.
-fn identification_next(before: Step, gas: &[u8], identification: &[u8], places: &[u32]) -> Step
-    requires { Asked before (IdentificationReady gas.now places.now) }
-    ensures { Next before result places.now places.now
-        (JudgesIdentification
-        (identification_judged gas.now identification.now places.now) result) }
-{
-    match before {
-        Step::Stop(x) => Step::Stop(x),
-        Step::Go(_k) => judge_identification(gas, identification, places),
-    }
-}
-
-// The figures of a step; after a refusal none.
-fn figures_in(step: Step) -> Figures
-    ensures { result ≡ figures_in step }
-{
-    match step {
-        Step::Stop(_x) => NO_FIGURES,
-        Step::Go(k) => k,
-    }
-}
-
 // The acceptance, from the figures of the result files.
-fn acceptance_with(drift: Step, suspension: Step, gas: Step, opacity: Step) -> Acceptance
-    ensures { result ≡ acceptance_with (figures_in drift) (figures_in suspension) (figures_in gas) (figures_in opacity) }
+fn acceptance_with(
+    drift: Figures,
+    suspension: Figures,
+    gas: Figures,
+    opacity: Figures,
+) -> Acceptance
+    ensures { result ≡ acceptance_with drift suspension gas opacity }
 {
-    let d = figures_in(drift);
-    let u = figures_in(suspension);
-    let g = figures_in(gas);
-    let y = figures_in(opacity);
     Acceptance {
-        driftaxles: d.axles,
-        suspensionaxles: u.axles,
-        driftmark: d.mark,
-        suspensionmark: u.mark,
-        gasmark: g.mark,
-        gasbyhand: g.byhand,
-        opacitymark: y.mark,
+        driftaxles: drift.axles,
+        suspensionaxles: suspension.axles,
+        driftmark: drift.mark,
+        suspensionmark: suspension.mark,
+        gasmark: gas.mark,
+        gasbyhand: gas.byhand,
+        opacitymark: opacity.mark,
     }
 }
 
-// The slices after AC2, whose pairs are in the places; b is what it says. After a refusal the others are passed over.
+// The slices after AC2, whose pairs are in the places; b is what it says. The first refusal is the set's.
 fn judge_later(
     stated: Stated,
     b: Booking,
@@ -322,22 +229,19 @@ fn judge_later(
     identification: &[u8],
     opacity: &[u8],
     places: &mut [u32],
-) -> SetAnswer
+) -> Result<Acceptance, Refusal>
     requires { Held booking_file 0 ac2.now places.old × IsBooking b ac2.now places.old }
     ensures { JudgesLater stated (slices_of ac2.now acc.now drift.now
         suspension.now gas.now identification.now opacity.now)
         places.old places.new result }
 {
-    let o = judge_file(ACC, stated, b, ac2, acc, places);
-    let d = judge_next(o, DRIFT, stated, b, ac2, drift, places);
-    let u = judge_next(d, SUSPENSION, stated, b, ac2, suspension, places);
-    let g = judge_next(u, GAS, stated, b, ac2, gas, places);
-    let i = identification_next(g, gas, identification, places);
-    let y = judge_next(i, OPACITY, stated, b, ac2, opacity, places);
-    match y {
-        Step::Stop(x) => SetAnswer::Refused(x),
-        Step::Go(_k) => SetAnswer::Accepted(acceptance_with(d, u, g, y)),
-    }
+    judge_file(ACC, stated, b, ac2, acc, places)?;
+    let d = judge_file(DRIFT, stated, b, ac2, drift, places)?;
+    let u = judge_file(SUSPENSION, stated, b, ac2, suspension, places)?;
+    let g = judge_file(GAS, stated, b, ac2, gas, places)?;
+    judge_identification(gas, identification, places)?;
+    let y = judge_file(OPACITY, stated, b, ac2, opacity, places)?;
+    Ok(acceptance_with(d, u, g, y))
 }
 
 // All slices: AC2, then the others by what it says.
@@ -351,28 +255,26 @@ fn judge_slices(
     identification: &[u8],
     opacity: &[u8],
     places: &mut [u32],
-) -> SetAnswer
+) -> Result<Acceptance, Refusal>
     requires { least_places ≤ length places.old }
     ensures { JudgesSlices files (judge_slices stated
         (slices_of ac2.now acc.now drift.now
         suspension.now gas.now identification.now opacity.now)) result
         places.old places.new }
 {
-    match judge_booking(ac2, places) {
-        BookingStep::Stop(x) => SetAnswer::Refused(x),
-        BookingStep::Go(booked) => judge_later(
-            stated,
-            booked.booking,
-            ac2,
-            acc,
-            drift,
-            suspension,
-            gas,
-            identification,
-            opacity,
-            places,
-        ),
-    }
+    let booked = judge_booking(ac2, places)?;
+    judge_later(
+        stated,
+        booked.booking,
+        ac2,
+        acc,
+        drift,
+        suspension,
+        gas,
+        identification,
+        opacity,
+        places,
+    )
 }
 
 // A whole set, for the stem of its files: 1, 2, then slices 1 to 7. The places hold its pairs where it is accepted;
@@ -387,14 +289,14 @@ pub fn judge_set(
     identification: &[u8],
     opacity: &[u8],
     places: &mut [u32],
-) -> SetAnswer
+) -> Result<Acceptance, Refusal>
     ensures { SetJudged (caller_of stem.now) (slices_of ac2.now acc.now drift.now
         suspension.now gas.now identification.now opacity.now)
         places.old places.new result }
 {
     let least = tables::least_places();
     if places.len() < least {
-        return SetAnswer::Refused(Refusal {
+        return Err(Refusal {
             kind: RefusalKind::PlacesTooShort,
             file: 0,
             line: 0,
@@ -402,7 +304,7 @@ pub fn judge_set(
     }
     places::clear(places, least);
     if !rules::good_stem(stem) {
-        return SetAnswer::Refused(Refusal {
+        return Err(Refusal {
             kind: RefusalKind::StemForm,
             file: 0,
             line: 0,
@@ -419,7 +321,7 @@ pub fn judge_set(
         opacity,
         places,
     );
-    if let SetAnswer::Refused(_x) = answer {
+    if answer.is_err() {
         places::clear(places, least);
     }
     answer

@@ -3,134 +3,56 @@
 // slices and how many places are lent, and then the bytes of these nine. Each place holds 7 before.
 #![tactic(auto)]
 
-ghost use Rattle.std.specs.Prelude.{◌+◌, ◌*◌, ◌≤◌, ◌<◌, length};
+ghost use Rattle.std.specs.Prelude.{◌+◌, ◌≤◌, length, IfSome};
 
-use sets::{Acceptance, SetAnswer};
+use refusals::Refusal;
+use sets::Acceptance;
 use std::io;
 use std::io::{BufWriter, Read, Write};
 
-fn wide(x: u8) -> usize
-    ensures { result < 256 }
-{
-    x as usize
+// How many bytes the ten numbers take.
+const HEADER_SIZE: usize = 40;
+
+// As many places as are lent at most.
+const MOST_PLACES: usize = 400;
+
+// A stored set.
+#[derive(Clone, Copy)]
+struct Case<'a> {
+    title: &'a [u8],
+    stem: &'a [u8],
+    ac2: &'a [u8],
+    acc: &'a [u8],
+    drift: &'a [u8],
+    suspension: &'a [u8],
+    gas: &'a [u8],
+    identification: &'a [u8],
+    opacity: &'a [u8],
+    places: usize,
 }
 
 // The number at `at`.
-fn number(input: &[u8], at: usize) -> usize
-    requires { at + 4 ≤ length input.now }
-    ensures { result < 4294967296 }
+fn number(header: &[u8; HEADER_SIZE], at: usize) -> usize
+    requires { at + 4 ≤ 40 }
 {
-    let a = wide(input[at]);
-    let b = wide(input[at + 1]);
-    let c = wide(input[at + 2]);
-    let d = wide(input[at + 3]);
-    a + b * 256 + c * 65536 + d * 16777216
+    u32::from_le_bytes([header[at], header[at + 1], header[at + 2], header[at + 3]]) as usize
 }
 
-fn print_number(out: &mut impl Write, n: u32) -> io::Result<()> {
-    write!(out, " {n}")
-}
-
-fn print_mark(out: &mut impl Write, mark: bool) -> io::Result<()> {
-    if mark {
-        out.write_all(b" 1")
-    } else {
-        out.write_all(b" 0")
-    }
-}
-
-fn print_accepted(out: &mut impl Write, a: Acceptance) -> io::Result<()> {
-    out.write_all(b"A")?;
-    print_number(out, a.driftaxles)?;
-    print_number(out, a.suspensionaxles)?;
-    print_mark(out, a.driftmark)?;
-    print_mark(out, a.suspensionmark)?;
-    print_mark(out, a.gasmark)?;
-    print_mark(out, a.opacitymark)?;
-    print_mark(out, a.gasbyhand)
-}
-
-fn print_refused(out: &mut impl Write, x: refusals::Refusal) -> io::Result<()> {
-    let kind = x.kind;
-    out.write_all(b"R")?;
-    print_number(out, refusals::refusal_number(kind))?;
-    print_number(out, x.file)?;
-    print_number(out, x.line)
-}
-
-fn print_places(out: &mut impl Write, places: &[u32]) -> io::Result<()> {
-    out.write_all(b" |")?;
-    for place in places {
-        print_number(out, *place)?;
-    }
-    out.write_all(b"\n")
-}
-
-fn print_answer(out: &mut impl Write, answer: SetAnswer) -> io::Result<()> {
-    match answer {
-        SetAnswer::Accepted(a) => print_accepted(out, a),
-        SetAnswer::Refused(x) => print_refused(out, x),
-    }
-}
-
-// The set whose stem is the first `stem` bytes, its first slice the next ones up to `ac2`, and so on.
-fn judge_lent(
-    out: &mut impl Write,
-    parts: &[u8],
-    stem: usize,
-    ac2: usize,
-    acc: usize,
-    drift: usize,
-    suspension: usize,
-    gas: usize,
-    identification: usize,
-    places: &mut [u32],
-) -> io::Result<()>
-    requires { (stem ≤ ac2) × (ac2 ≤ acc) × (acc ≤ drift) × (drift ≤ suspension) × (suspension ≤ gas)
-        × (gas ≤ identification) × (identification ≤ length parts.now) }
+// The set that this header announces, and what follows it; none where the input is broken off.
+fn read_case<'a>(header: &[u8; HEADER_SIZE], input: &'a [u8]) -> Option<(Case<'a>, &'a [u8])>
+    ensures { IfSome result (λ r. length r.1.now ≤ length input.now) }
 {
-    let answer = judge::judge_set(
-        &parts[..stem],
-        &parts[stem..ac2],
-        &parts[ac2..acc],
-        &parts[acc..drift],
-        &parts[drift..suspension],
-        &parts[suspension..gas],
-        &parts[gas..identification],
-        &parts[identification..],
-        places,
-    );
-    print_answer(out, answer)?;
-    print_places(out, places)
-}
-
-// How many places are lent: n, and at most 400.
-fn lent(n: usize) -> usize
-    ensures { result ≤ 400 }
-{
-    if n < 400 { n } else { 400 }
-}
-
-fn judge_parts(
-    out: &mut impl Write,
-    parts: &[u8],
-    stem: usize,
-    ac2: usize,
-    acc: usize,
-    drift: usize,
-    suspension: usize,
-    gas: usize,
-    identification: usize,
-    places: usize,
-) -> io::Result<()>
-    requires { (stem ≤ ac2) × (ac2 ≤ acc) × (acc ≤ drift) × (drift ≤ suspension) × (suspension ≤ gas)
-        × (gas ≤ identification) × (identification ≤ length parts.now) }
-{
-    let mut numbers = [7u32; 400];
-    let n = lent(places);
-    judge_lent(
-        out,
-        parts,
+    let (title, input) = input.split_at_checked(number(header, 0))?;
+    let (stem, input) = input.split_at_checked(number(header, 4))?;
+    let (ac2, input) = input.split_at_checked(number(header, 8))?;
+    let (acc, input) = input.split_at_checked(number(header, 12))?;
+    let (drift, input) = input.split_at_checked(number(header, 16))?;
+    let (suspension, input) = input.split_at_checked(number(header, 20))?;
+    let (gas, input) = input.split_at_checked(number(header, 24))?;
+    let (identification, input) = input.split_at_checked(number(header, 28))?;
+    let (opacity, input) = input.split_at_checked(number(header, 32))?;
+    let case = Case {
+        title,
         stem,
         ac2,
         acc,
@@ -138,61 +60,67 @@ fn judge_parts(
         suspension,
         gas,
         identification,
-        &mut numbers[..n],
-    )
-}
-
-fn print_title(out: &mut impl Write, title: &[u8]) -> io::Result<()> {
-    out.write_all(title)?;
-    out.write_all(b": ")
-}
-
-// One set from `at` on; the place after it, or the end where the input is broken off, and whether the answer could be
-// written.
-fn judge_case(out: &mut impl Write, input: &[u8], at: usize) -> (usize, io::Result<()>)
-    requires { at < length input.now }
-    ensures { (at < result.0) × (result.0 ≤ length input.now) }
-{
-    if input.len() - at < 40 {
-        return (input.len(), Ok(()));
-    }
-    let title = at + 40;
-    let from = title + number(input, at);
-    let stem = number(input, at + 4);
-    let ac2 = stem + number(input, at + 8);
-    let acc = ac2 + number(input, at + 12);
-    let drift = acc + number(input, at + 16);
-    let suspension = drift + number(input, at + 20);
-    let gas = suspension + number(input, at + 24);
-    let identification = gas + number(input, at + 28);
-    let end = from + identification + number(input, at + 32);
-    if input.len() < end {
-        return (input.len(), Ok(()));
-    }
-    let written = match print_title(out, &input[title..from]) {
-        Err(error) => Err(error),
-        Ok(()) => judge_parts(
-            out,
-            &input[from..end],
-            stem,
-            ac2,
-            acc,
-            drift,
-            suspension,
-            gas,
-            identification,
-            number(input, at + 36),
-        ),
+        opacity,
+        places: number(header, 36),
     };
-    (end, written)
+    Some((case, input))
+}
+
+fn print_answer(out: &mut impl Write, answer: Result<Acceptance, Refusal>) -> io::Result<()> {
+    match answer {
+        Ok(a) => write!(
+            out,
+            "A {} {} {} {} {} {} {}",
+            a.driftaxles,
+            a.suspensionaxles,
+            u8::from(a.driftmark),
+            u8::from(a.suspensionmark),
+            u8::from(a.gasmark),
+            u8::from(a.opacitymark),
+            u8::from(a.gasbyhand),
+        ),
+        Err(x) => write!(
+            out,
+            "R {} {} {}",
+            refusals::refusal_number(x.kind),
+            x.file,
+            x.line,
+        ),
+    }
+}
+
+fn judge_case(out: &mut impl Write, case: Case<'_>) -> io::Result<()> {
+    let mut numbers = [7u32; MOST_PLACES];
+    let places = &mut numbers[..case.places.min(MOST_PLACES)];
+    let answer = judge::judge_set(
+        case.stem,
+        case.ac2,
+        case.acc,
+        case.drift,
+        case.suspension,
+        case.gas,
+        case.identification,
+        case.opacity,
+        places,
+    );
+    out.write_all(case.title)?;
+    out.write_all(b": ")?;
+    print_answer(out, answer)?;
+    out.write_all(b" |")?;
+    for place in places {
+        write!(out, " {place}")?;
+    }
+    out.write_all(b"\n")
 }
 
 fn judge_all(out: &mut impl Write, input: &[u8]) -> io::Result<()> {
-    let mut at = 0;
-    while at < input.len() {
-        let (next, written) = judge_case(out, input, at);
-        written?;
-        at = next;
+    let mut input = input;
+    while let Some((header, rest)) = input.split_first_chunk::<HEADER_SIZE>() {
+        let Some((case, rest)) = read_case(header, rest) else {
+            return Ok(());
+        };
+        judge_case(out, case)?;
+        input = rest;
     }
     Ok(())
 }

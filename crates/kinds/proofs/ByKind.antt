@@ -1,17 +1,22 @@
--- The shapes of the kinds and their words, by one computed test over all kinds each. Assumes nothing.
-use Prim.Native.Nat.{ℕ, zero, suc, ◌+◌, ◌<◌, ◌≤◌}
+-- The shapes of the kinds and their words. Assumes nothing.
+use Prim.Native.Nat.{ℕ, zero, suc, ◌+◌, ◌-◌, ◌<◌, ◌≤◌, zero-le}
 use native.Mathlib.Omega.{arith}
 use mathlib.Core.Path.{◌≡◌, refl, ap, sym, ◌∙◌}
+use mathlib.Core.Bool.{Bool, true}
 use mathlib.Core.List.{List, [], ◌∷◌, map}
-use lib.Dec.{ltb}
-use lib.ListN.{length, get_or, take, drop, length-take, length-drop, get_or-eq_default}
+use mathlib.Core.Logic.{inl, inr}
+use Rattle.std.proofs.lemmas.Bool.{cases_lt}
+use Rattle.std.proofs.lemmas.List.{get_or-replicate}
+use lib.Dec.{leb, ltb, lit≤}
+use lib.ListN.{length, get_or, take, drop, replicate, get_or-eq_default}
 use lib.Seq.{get_or-take, get_or-drop}
-use borrow.Author.Tests.{ltb-true, ltb-false}
+use borrow.Author.Tests.{leb-true, ltb-true, ltb-false}
+use Rattle.std.specs.List.{list_all}
+use Rattle.lines.proofs.Bools.{and_left, and_right}
 use Rattle.kinds.specs.Kind.{words, vehicle_types, categories, yes_no, petrol_directives, brake_controls, links, gas_links, counter_links, outcomes, Kind, S, C, N, NByHand, Fixed, FixedByHand, D, H, Deriva, DataPrimaImm, AnnoPrimaImm, PosAssiStaz, Targa, TempAmbiente, NoKind, Word, kind_of, numbered}
 use Rattle.kinds.specs.Value.{width}
-use Rattle.kinds.specs.Shapes.{form_number, decimals_of, words_in, shape_of, listed}
-use Rattle.kinds.specs.declared.shapes.Shape.{Shape}
-use Rattle.kinds.proofs.Laws.{by-test, kind_count}
+use Rattle.kinds.specs.Shapes.{form_number, decimals_of, words_in, shape_of}
+use Rattle.kinds.proofs.Laws.{by-test, kind_count, NoneAfter, past_after}
 
 -- what a function says of the element at a place
 pub map_at : {A B : Type 0} (f : A → B) (xs : List A) (n : ℕ) (a : A) (b : B) → n < length xs → get_or (map f xs) n b ≡ f (get_or xs n a)
@@ -30,58 +35,11 @@ past-kinds n h = get_or-eq_default numbered NoKind h
 
 -- ---- shapes
 
-abbrev numbers_of : Kind → List ℕ
-numbers_of k = form_number k ∷ width k ∷ decimals_of k ∷ length (words_in k) ∷ []
-
-abbrev shape_from : List ℕ → Shape
-shape_from ns = record { form = get_or ns 0 0; most = get_or ns 1 0; decimals = get_or ns 2 0; words = get_or ns 3 0 }
-
-pub shape_at : (n : ℕ) → n < kind_count → shape_from (get_or (map numbers_of numbered) n []) ≡ shape_of (kind_of n)
-unfolding shape_of
-shape_at n h = ap shape_from (of-kind numbers_of n [] h)
-
-pub no-shape : (n : ℕ) → kind_count ≤ n → shape_from (0 ∷ 0 ∷ 0 ∷ 0 ∷ []) ≡ shape_of (kind_of n)
+pub no-shape : (n : ℕ) → kind_count ≤ n → record { form = 0; most = 0; decimals = 0; words = 0 } ≡ shape_of (kind_of n)
 unfolding shape_of form_number decimals_of words_in width
 no-shape n h = rw (past-kinds n h)
 
 -- ---- words
-
--- where the words of a kind begin among those of all lists
-unfoldable pub first_word : Kind → ℕ
-first_word (Word vehicle_types) = 0
-first_word (Word categories) = 3
-first_word (Word yes_no) = 20
-first_word (Word petrol_directives) = 22
-first_word (Word brake_controls) = 26
-first_word (Word links) = 30
-first_word (Word gas_links) = 32
-first_word (Word counter_links) = 35
-first_word (Word outcomes) = 37
-first_word (S w) = 0
-first_word (C w) = 0
-first_word (N w) = 0
-first_word (NByHand w) = 0
-first_word (Fixed d w) = 0
-first_word (FixedByHand d w) = 0
-first_word D = 0
-first_word H = 0
-first_word Deriva = 0
-first_word DataPrimaImm = 0
-first_word AnnoPrimaImm = 0
-first_word PosAssiStaz = 0
-first_word Targa = 0
-first_word TempAmbiente = 0
-first_word NoKind = 0
-
-abbrev there : Kind → List (List ℕ)
-there k = take (length (words_in k)) (drop (first_word k) listed)
-
-all_there : map there numbered ≡ map words_in numbered
-unfolding numbered words_in listed words first_word
-all_there = refl
-
-words-there : (n : ℕ) → n < kind_count → there (kind_of n) ≡ words_in (kind_of n)
-words-there n h = sym (of-kind there n [] h) ∙ ap (λ (l : List (List (List ℕ))). get_or l n []) all_there ∙ of-kind words_in n [] h
 
 -- only a kind has words
 pub is-kind : (n k : ℕ) → k < length (words_in (kind_of n)) → n < kind_count
@@ -91,13 +49,66 @@ is-kind n k h =
     (λ e. ltb-true n kind_count e)
     (λ e. let z : k < 0 = rw (past-kinds n (ltb-false n kind_count e)) at h in absurd (omega arith))
 
--- word k of a kind, among those of all lists
-module _ (n k : ℕ) (h : k < length (words_in (kind_of n))) where
-  pub word-within : first_word (kind_of n) + k < length listed
-  word-within = omega (arith, simp (length-take, length-drop) at (ap length (words-there n (is-kind n k h))))
+-- the n kinds from number a on, where they have no words
+none-in : (a n k : ℕ) → take n (drop a (map words_in numbered)) ≡ replicate n [] → a ≤ k → k < a + n → a + n ≤ kind_count → words_in (kind_of k) ≡ []
+none-in a n k e l m h =
+    let ws = map words_in numbered in
+    let j : a + (k - a) ≡ k = omega arith in
+    sym (of-kind words_in k [] (omega arith))
+    ∙ ap (λ i. get_or ws i []) (sym j)
+    ∙ sym (get_or-drop a ws (k - a) [])
+    ∙ sym (get_or-take n (drop a ws) (k - a) [] (omega arith))
+    ∙ ap (λ l. get_or l (k - a) []) e
+    ∙ get_or-replicate n (k - a) [] [] (omega arith)
 
-  pub word-there : get_or listed (first_word (kind_of n) + k) [] ≡ get_or (words_in (kind_of n)) k []
-  word-there =
-      let l = words_in (kind_of n) in
-      sym (get_or-drop (first_word (kind_of n)) listed k []) ∙ sym (get_or-take (length l) (drop (first_word (kind_of n)) listed) k [] h)
-      ∙ ap (λ (w : List (List ℕ)). get_or w k []) (words-there n (is-kind n k h))
+-- only the kinds of numbers 20 to 27 and 33 have words
+pub no-words : (k : ℕ) → NoneAfter 20 8 k → (k ≡ 33 → ⊥) → words_in (kind_of k) ≡ []
+unfolding numbered words_in
+no-words k n h = elim (cases_lt k 20) [
+  | inl l ↦ none-in 0 20 k refl zero-le l (lit≤ tt)
+  | inr g ↦
+      let m : 28 ≤ k = past_after 20 8 k g n in
+      elim (cases_lt k 33) [
+        | inl l ↦ none-in 28 5 k refl m l (lit≤ tt)
+        | inr a ↦ let ne : (k ≡ 33 → ⊥) = h in rw (past-kinds k (omega arith))
+      ]
+]
+
+abbrev short : List ℕ → Bool
+short w = leb (length w) 14
+
+short_words : (x : Kind) → list_all short (words_in x) ≡ true
+unfolding words_in words
+short_words (Word vehicle_types) = refl
+short_words (Word categories) = refl
+short_words (Word yes_no) = refl
+short_words (Word petrol_directives) = refl
+short_words (Word brake_controls) = refl
+short_words (Word links) = refl
+short_words (Word gas_links) = refl
+short_words (Word counter_links) = refl
+short_words (Word outcomes) = refl
+short_words (S w) = refl
+short_words (C w) = refl
+short_words (N w) = refl
+short_words (NByHand w) = refl
+short_words (Fixed d w) = refl
+short_words (FixedByHand d w) = refl
+short_words D = refl
+short_words H = refl
+short_words Deriva = refl
+short_words DataPrimaImm = refl
+short_words AnnoPrimaImm = refl
+short_words PosAssiStaz = refl
+short_words Targa = refl
+short_words TempAmbiente = refl
+short_words NoKind = refl
+
+-- no word is longer than the longest of all lists
+pub word-short : (n k : ℕ) → length (get_or (words_in (kind_of n)) k []) ≤ 14
+word-short n k = at (words_in (kind_of n)) k (short_words (kind_of n))
+  where
+    at : (ws : List (List ℕ)) (k : ℕ) → list_all short ws ≡ true → length (get_or ws k []) ≤ 14
+    at [] k e = zero-le
+    at (w ∷ ws) zero e = leb-true (length w) 14 (and_left (short w) (list_all short ws) e)
+    at (w ∷ ws) (suc k) e = at ws k (and_right (short w) (list_all short ws) e)

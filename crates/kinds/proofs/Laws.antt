@@ -6,24 +6,33 @@ use Prim.Native.Nat.{ℕ, zero, suc, ◌+◌, ◌-◌, ◌*◌, ◌<◌, ◌≤�
 use native.Mathlib.Omega.{arith}
 use native.Mathlib.Nat.{pow-suc, pow-le-pow_right, le_of_suc-le-suc, le_refl, add-zero}
 use native.Mathlib.Numerals.{add-one}
-use borrow.Author.Tests.{leb-true, eqb-true, le-leb, lt-leb, eq-eqb, ne_eqb}
+use borrow.Author.Tests.{leb-true, eqb-true, lt-leb, eq-eqb, ne_eqb}
 use lib.Dec.{leb, eqb, lit<}
 use lib.ListN.{length, get_or, take, drop, length-take, length-drop, drop_of_length-le, get_or-eq_default}
 use lib.Seq.{drop-cons, take_all}
+use Rattle.std.specs.Char.{is_ascii_digit}
+use Rattle.std.specs.List.{list_all}
 use Rattle.lines.specs.Bytes.{all_printable, same_bytes}
 use Rattle.lines.proofs.Bools.{clash, and_left, and_right, and-false}
 use Rattle.lines.proofs.Bytes.{same-is, same_refl}
 use Rattle.kinds.specs.Digits.{is_digit, all_digits, number, number_from}
-use Rattle.kinds.specs.Value.{is_s_or_n, all_s_or_n, is_fixed, are_digits, point_place, is_word_at, word_index, words_of, numbered_lists, starts_with, is_string, is_exact, is_number, kind_ok}
+use Rattle.kinds.specs.Value.{is_s_or_n, all_s_or_n, is_fixed, are_digits, point_place, is_word_at, word_index, is_string, is_exact, is_number, kind_ok}
 use Rattle.kinds.specs.Kind.{Kind, S, C, NoKind, kind_of, numbered}
+
+-- every digit of a list is one, in std's words
+pub list_digits : (s : List ℕ) → list_all (λ c. is_ascii_digit c) s ≡ all_digits s
+unfolding all_digits
+list_digits [] = refl
+list_digits (c ∷ t) = ap (λ b. is_digit c && b) (list_digits t)
+
+pub list_letters : (s : List ℕ) → list_all (λ c. is_s_or_n c) s ≡ all_s_or_n s
+unfolding all_s_or_n
+list_letters [] = refl
+list_letters (c ∷ t) = ap (λ b. is_s_or_n c && b) (list_letters t)
 
 pub all-step : (s : List ℕ) (i : ℕ) → i < length s → all_digits (drop i s) ≡ (is_digit (get_or s i 0) && all_digits (drop (i + 1) s))
 unfolding all_digits
 all-step s i h = rw (add-one, drop-cons s i 0)
-
-pub letters-step : (s : List ℕ) (i : ℕ) → i < length s → all_s_or_n (drop i s) ≡ (is_s_or_n (get_or s i 0) && all_s_or_n (drop (i + 1) s))
-unfolding all_s_or_n
-letters-step s i h = rw (add-one, drop-cons s i 0)
 
 pub number_step : (s : List ℕ) (i n : ℕ) → i < length s → number_from n (drop i s) ≡ number_from (n * 10 + (get_or s i 0 - 48)) (drop (i + 1) s)
 unfolding number_from
@@ -46,10 +55,6 @@ module _ (n i : ℕ) (h : n < 10 ^ i) where
 
   pub small : i < 9 → n < 100000000
   small l = let p : 10 ^ i ≤ 10 ^ 8 = pow-le-pow_right (lit< tt) (le_of_suc-le-suc l) in omega arith
-
--- a number of at most m digits is below 10 ^ m
-pub below : (m : ℕ) (l : List ℕ) {n : ℕ} → length l ≤ m → n < 10 ^ length l → n < 10 ^ m
-below m l h e = let p : 10 ^ length l ≤ 10 ^ m = pow-le-pow_right (lit< tt) h in omega arith
 
 -- parts of digits are digits
 pub all_drop : (n : ℕ) (s : List ℕ) → all_digits s ≡ true → all_digits (drop n s) ≡ true
@@ -81,10 +86,6 @@ module _ (n : ℕ) (v : List ℕ) (e : are_digits n v ≡ true) where
   pub digits-all : all_digits v ≡ true
   unfolding are_digits
   digits-all = and_right (eqb (length v) n) (all_digits v) e
-
-  -- what `number_at` asks of a part of them
-  pub part-inside : (at count : ℕ) → at + count ≤ n → count ≤ 9 → (at + count ≤ length v) × (count ≤ 9) × (all_digits v ≡ true)
-  part-inside at count h k = (rw digits-length h, k, digits-all)
 
   pub digits-drop : (k : ℕ) → are_digits (n - k) (drop k v) ≡ true
   unfolding are_digits
@@ -132,13 +133,6 @@ pub past_after : (m n k : ℕ) → m ≤ k → NoneAfter m n k → m + n ≤ k
 past_after m zero k l t = omega arith
 past_after m (suc n) k l t = let h : m + n ≤ k = past_after m n k l t.0 in let d : k ≡ m + n → ⊥ = t.1 in omega arith
 
--- past a list's end there is no word
-pub no_word : (ws : List (List ℕ)) (k : ℕ) (v : List ℕ) → length ws ≤ k → is_word_at ws k v ≡ false
-unfolding is_word_at
-no_word [] k v h = refl
-no_word (w ∷ ws) zero v h = absurd (omega arith)
-no_word (w ∷ ws) (suc k) v h = no_word ws k v (le_of_suc-le-suc h)
-
 -- the words from place k on, one at a time
 pub index-step : (ws : List (List ℕ)) (k : ℕ) (v : List ℕ) → k < length ws
     → word_index (drop k ws) v ≡ cond (is_word_at ws k v) 0 (suc (word_index (drop (suc k) ws) v))
@@ -158,22 +152,6 @@ module _ (ws : List (List ℕ)) (k : ℕ) (v : List ℕ) where
   unfolding word_index
   index-end h = rw (drop_of_length-le ws h) (add-zero k)
 
--- an arm of a `match` on the place of a word
-pub word_at : (ws : List (List ℕ)) (n : ℕ) (v : List ℕ) {k : ℕ} {r : Bool} → k ≡ n → r ≡ is_word_at ws n v → r ≡ is_word_at ws k v
-word_at ws n v e h = h ∙ ap (λ (j : ℕ). is_word_at ws j v) (sym e)
-
--- an arm of a `match` on the number of a list
-pub list_at : (n : ℕ) {list : ℕ} (k : ℕ) (v : List ℕ) {r : Bool} → list ≡ n → r ≡ is_word_at (words_of n) k v → r ≡ is_word_at (words_of list) k v
-list_at n k v e h = h ∙ ap (λ (j : ℕ). is_word_at (words_of j) k v) (sym e)
-
-pub no-list : (n : ℕ) → 9 ≤ n → words_of n ≡ []
-unfolding words_of numbered_lists
-no-list n h = get_or-eq_default numbered_lists [] h
-
-pub starts-long : (c : ℕ) (v : List ℕ) → starts_with c v ≡ true → 1 ≤ length v
-unfolding starts_with
-starts-long c v e = leb-true 1 (length v) (and_left _ _ e)
-
 -- what a number of N w is known to be
 module _ (w : ℕ) (v : List ℕ) (e : is_number w v ≡ true) where
   pub number-long : 1 ≤ length v
@@ -188,22 +166,9 @@ module _ (w : ℕ) (v : List ℕ) (e : is_number w v ≡ true) where
   unfolding is_number
   number-all = and_right (leb (length v) w) (all_digits v) (and_right (leb 1 (length v)) _ e)
 
--- an arm of a `match` on the number of a kind
-pub kind_at : (n : ℕ) (v : List ℕ) {kind : ℕ} {r : Bool} → kind ≡ n → r ≡ kind_ok (kind_of n) v → r ≡ kind_ok (kind_of kind) v
-kind_at n v e h = h ∙ ap (λ (k : ℕ). kind_ok (kind_of k) v) (sym e)
-
 pub and-true : (b : Bool) → (b && true) ≡ b
 and-true true = refl
 and-true false = refl
-
--- of a filled value of printable bytes S and C ask for the length alone
-pub string-length : (w : ℕ) (v : List ℕ) → 1 ≤ length v → all_printable v ≡ true → leb (length v) w ≡ is_string w v
-unfolding is_string
-string-length w v h p = simp (le-leb 1 (length v) h, p) (sym (and-true (leb (length v) w)))
-
-pub exact-length : (w : ℕ) (v : List ℕ) → 1 ≤ length v → all_printable v ≡ true → eqb (length v) w ≡ is_exact w v
-unfolding is_exact
-exact-length w v h p = simp (le-leb 1 (length v) h, p) (sym (and-true (eqb (length v) w)))
 
 -- what holds of every S and C holds of the kinds of the first numbers
 by-text : (P : Kind → Type 0) → ((w : ℕ) → P (S w)) → ((w : ℕ) → P (C w)) → (k : ℕ) → k ≤ 6 → P (kind_of k)

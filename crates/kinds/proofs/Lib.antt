@@ -3,3 +3,4 @@ pub mod Values
 pub mod Readings
 pub mod Samples
 pub mod ByKind
+pub mod Found

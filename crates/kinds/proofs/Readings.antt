@@ -10,31 +10,29 @@ use lib.IntN.{ℤ, pos, negsuc, neg_ℤ, nat_abs}
 use lib.Signed.{◌≤ℤ◌, le_z_yes}
 use lib.ListN.{length, get_or, take, drop, length-take, length-drop, take-append-drop}
 use lib.Seq.{take_all, drop-drop}
+use Rattle.std.specs.Prelude.{Option, Some, None}
 use Rattle.lines.proofs.Bools.{and_left, and_right}
 use Rattle.lines.proofs.Bytes.{same-is}
 use Rattle.kinds.specs.Kind.{N, D, Deriva, Revs, DataPrimaImm}
 use Rattle.kinds.specs.Digits.{is_digit, all_digits, number, number_from}
 use Rattle.kinds.specs.Value.{is_number, is_fixed, point_place, is_year, is_gregorian, is_day, is_first_date, is_first_day, starts_with, is_drift, bare, are_digits, day_of, month_of, year_of, kind_ok}
 use Rattle.kinds.specs.Meaning.{number_read, hundredths, signed, drift, drift_read, revs, revs_read, day_number, day_read}
-use Rattle.kinds.specs.declared.NumberRead.TheVariants as NumberRead
-use Rattle.kinds.specs.declared.DriftRead.{DriftRead}
-use Rattle.kinds.specs.declared.RevsRead.TheVariants as RevsRead
 use Rattle.kinds.proofs.Laws.{digit, digit_at, part-digits, digits-length, digits-all, digits-drop, same_number, FixedPoint, fixed-point, number-long, number_short, number-all, by-test}
 
 module _ (v : List ℕ) where
-  pub number-reads : (w : ℕ) → w ≤ 9 → kind_ok (N w) v ≡ true → number_read v ≡ NumberRead.Of (number v)
+  pub number-reads : (w : ℕ) → w ≤ 9 → kind_ok (N w) v ≡ true → number_read v ≡ Some (number v)
   unfolding kind_ok number_read is_number
   number-reads w h e = rw (le-leb 1 (length v) (number-long w v e), le-leb (length v) 9 (omega (arith, number_short w v e)), number-all w v e)
 
-  pub drift-reads : kind_ok Deriva v ≡ true → drift_read v ≡ DriftRead.Of (drift v)
+  pub drift-reads : kind_ok Deriva v ≡ true → drift_read v ≡ Some (drift v)
   unfolding kind_ok drift_read
   drift-reads e = rw e
 
-  pub revs-reads : kind_ok Revs v ≡ true → revs_read v ≡ RevsRead.Of (revs v)
+  pub revs-reads : kind_ok Revs v ≡ true → revs_read v ≡ Some (revs v)
   unfolding kind_ok revs_read
   revs-reads e = rw e
 
-  pub first-day-reads : kind_ok DataPrimaImm v ≡ true → day_read v ≡ NumberRead.Of (day_number v)
+  pub first-day-reads : kind_ok DataPrimaImm v ≡ true → day_read v ≡ Some (day_number v)
   unfolding kind_ok day_read
   first-day-reads e = rw e
 
@@ -47,7 +45,7 @@ digits-bare v e =
 
 -- 02, 1/14: a measured speed and the same one entered by hand have one number, and are told apart
 pub speeds-read : (v : List ℕ) → is_number 5 v ≡ true
-    → (revs_read v ≡ RevsRead.Of (record { number = number v; byhand = false })) × (revs_read (35 ∷ v) ≡ RevsRead.Of (record { number = number v; byhand = true }))
+    → (revs_read v ≡ Some (record { number = number v; byhand = false })) × (revs_read (35 ∷ v) ≡ Some (record { number = number v; byhand = true }))
 unfolding revs_read bare revs starts_with
 speeds-read v e = (rw (digits-bare v e, e) refl, rw (le-leb 1 (length (35 ∷ v)) (omega arith), e) refl)
 
@@ -65,7 +63,7 @@ unfolding kind_ok is_day is_first_day
 day-first-day v e =
     rw (and_left (are_digits 8 v) _ e) (gregorian-first (day_of v) (month_of v) (year_of v) (and_right (are_digits 8 v) _ e))
 
-pub day-reads : (v : List ℕ) → kind_ok D v ≡ true → day_read v ≡ NumberRead.Of (day_number v)
+pub day-reads : (v : List ℕ) → kind_ok D v ≡ true → day_read v ≡ Some (day_number v)
 day-reads v e = first-day-reads v (day-first-day v e)
 
 -- at most two digits are at most 99
@@ -129,9 +127,9 @@ abs-signed true (suc n) = refl
 abs-signed false n = refl
 
 -- 01, Kinds of value: "`-0.00` means 0": of no hundredths the sign does not count
-pub drift-zero : (v : List ℕ) → kind_ok Deriva v ≡ true → hundredths (cond (starts_with 45 v) (drop 1 v) v) ≡ 0 → drift_read v ≡ DriftRead.Of (pos 0)
+pub drift-zero : (v : List ℕ) → kind_ok Deriva v ≡ true → hundredths (cond (starts_with 45 v) (drop 1 v) v) ≡ 0 → drift_read v ≡ Some (pos 0)
 unfolding drift signed
-drift-zero v e z = drift-reads v e ∙ ap DriftRead.Of (by-test (starts_with 45 v) (λ h. rw (h, rw h at z) refl) (λ h. rw (h, rw h at z) refl))
+drift-zero v e z = drift-reads v e ∙ ap Some (by-test (starts_with 45 v) (λ h. rw (h, rw h at z) refl) (λ h. rw (h, rw h at z) refl))
 
 -- the size of a drift
 pub drift-size : (v : List ℕ) → kind_ok Deriva v ≡ true → nat_abs (drift v) ≤ 9999
@@ -142,12 +140,12 @@ drift-size v e =
     (λ h. rw (h, abs-signed false (hundredths v)) (hundredths-most v (rw h at e)))
 
 -- what a reader answered
-abbrev hundredths_of : DriftRead → ℤ
-hundredths_of (DriftRead.Of z) = z
-hundredths_of DriftRead.Wrong = pos 0
+abbrev hundredths_of : Option ℤ → ℤ
+hundredths_of (Some z) = z
+hundredths_of None = pos 0
 
 -- a drift that reads
-pub drift-read-size : (v : List ℕ) (z : ℤ) → drift_read v ≡ DriftRead.Of z → nat_abs z ≤ 9999
+pub drift-read-size : (v : List ℕ) (z : ℤ) → drift_read v ≡ Some z → nat_abs z ≤ 9999
 unfolding drift_read kind_ok
 drift-read-size v z e =
     by-test (is_drift v)
@@ -155,7 +153,7 @@ drift-read-size v z e =
     (λ h. rw (sym (ap hundredths_of (rw h at e))) (zero-le))
 
 -- a drift that reads is -9999 to 9999
-pub drift-ends : (v : List ℕ) (z : ℤ) → drift_read v ≡ DriftRead.Of z → (neg_ℤ (pos 9999) ≤ℤ z) × (z ≤ℤ pos 9999)
+pub drift-ends : (v : List ℕ) (z : ℤ) → drift_read v ≡ Some z → (neg_ℤ (pos 9999) ≤ℤ z) × (z ≤ℤ pos 9999)
 drift-ends v z e = ends z (drift-read-size v z e)
   where
     ends : (z : ℤ) → nat_abs z ≤ 9999 → (neg_ℤ (pos 9999) ≤ℤ z) × (z ≤ℤ pos 9999)

@@ -1,6 +1,7 @@
 -- Samples of 01, Established samples and Kinds of value, and of 02, by computation. Assumes nothing.
 use mathlib.Core.Path.{◌≡◌, refl}
 use mathlib.Core.Bool.{true, false}
+use Rattle.std.specs.Prelude.{Some}
 use Rattle.lines.specs.Bytes.{all_printable}
 use lib.IntN.{pos, neg_ℤ}
 use Rattle.lines.specs.Text.{bytes}
@@ -8,16 +9,14 @@ use Rattle.kinds.specs.Kind.{D, H, Deriva, Revs, DataPrimaImm, Targa, TempAmbien
 use Rattle.kinds.specs.Digits.{all_digits, number_from}
 use Rattle.kinds.specs.Value.{is_number, is_fixed, is_leap, days_in, is_year, is_gregorian, are_digits, is_day, is_time, starts_with, is_drift, bare, is_temperature, is_string, is_plate, is_first_date, is_first_day, kind_ok}
 use Rattle.kinds.specs.Meaning.{hundredths, signed, drift, drift_read, revs, revs_read}
-use Rattle.kinds.specs.declared.DriftRead.TheVariants as DriftRead
-use Rattle.kinds.specs.declared.RevsRead.TheVariants as RevsRead
 
 -- `-5.00` is -500; `99.99` is 9999; `100.00` no Deriva
 module _ where
-  pub drift-minus : drift_read (bytes "-5.00") ≡ DriftRead.Of (neg_ℤ (pos 500))
+  pub drift-minus : drift_read (bytes "-5.00") ≡ Some (neg_ℤ (pos 500))
   unfolding drift_read is_drift drift starts_with is_fixed hundredths signed all_digits number_from
   drift-minus = refl
 
-  pub drift-most : drift_read (bytes "99.99") ≡ DriftRead.Of (pos 9999)
+  pub drift-most : drift_read (bytes "99.99") ≡ Some (pos 9999)
   unfolding drift_read is_drift drift starts_with is_fixed hundredths signed all_digits number_from
   drift-most = refl
 
@@ -26,7 +25,7 @@ module _ where
   drift-three = refl
 
   -- 01, Kinds of value: "`-0.00` means 0"
-  pub drift-minus-zero : drift_read (bytes "-0.00") ≡ DriftRead.Of (pos 0)
+  pub drift-minus-zero : drift_read (bytes "-0.00") ≡ Some (pos 0)
   unfolding drift_read is_drift drift starts_with is_fixed hundredths signed all_digits number_from
   drift-minus-zero = refl
 
@@ -57,11 +56,11 @@ unfolding kind_ok bare starts_with is_number all_digits
 revs-by-hand = refl
 
 -- 02, 1/14: `00850` and `#00850` are the same speed, the second entered by hand
-pub revs-measured : revs_read (bytes "00850") ≡ RevsRead.Of (record { number = 850; byhand = false })
+pub revs-measured : revs_read (bytes "00850") ≡ Some (record { number = 850; byhand = false })
 unfolding revs_read revs bare starts_with is_number all_digits number_from
 revs-measured = refl
 
-pub revs-typed : revs_read (bytes "#00850") ≡ RevsRead.Of (record { number = 850; byhand = true })
+pub revs-typed : revs_read (bytes "#00850") ≡ Some (record { number = 850; byhand = true })
 unfolding revs_read revs bare starts_with is_number all_digits number_from
 revs-typed = refl
 

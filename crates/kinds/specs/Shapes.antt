@@ -1,6 +1,6 @@
 -- What a filled value of a kind must look like, in numbers, and the words of a kind (01, Kinds of value; 02, 2/14).
-use Rattle.std.specs.Prelude.{ℕ, ◌-◌, List, [], ◌++◌, length, replicate}
-use Rattle.kinds.specs.Kind.{words, vehicle_types, categories, yes_no, petrol_directives, brake_controls, links, gas_links, counter_links, outcomes, Kind, S, C, N, NByHand, Fixed, FixedByHand, D, H, Deriva, DataPrimaImm, AnnoPrimaImm, PosAssiStaz, Targa, TempAmbiente, NoKind, Word}
+use Rattle.std.specs.Prelude.{ℕ, List, [], length}
+use Rattle.kinds.specs.Kind.{words, Kind, S, C, N, NByHand, Fixed, FixedByHand, D, H, Deriva, DataPrimaImm, AnnoPrimaImm, PosAssiStaz, Targa, TempAmbiente, NoKind, Word}
 use Rattle.kinds.specs.Value.{width}
 use Rattle.kinds.specs.declared.shapes.Shape.{Shape}
 
@@ -63,12 +63,3 @@ words_in (Word l) = words l
 
 unfoldable pub shape_of : Kind → Shape
 shape_of k = record { form = form_number k; most = width k; decimals = decimals_of k; words = length (words_in k) }
-
--- the words of all lists one after another, as the code lays them out
-unfoldable pub listed : List (List ℕ)
-listed =
-    words vehicle_types ++ (words categories ++ (words yes_no ++ (words petrol_directives ++ (words brake_controls ++ (words links ++ (words gas_links ++ (words counter_links ++ words outcomes)))))))
-
--- a word in its row: blanks follow it; 14 bytes has the longest
-unfoldable pub in_row : List ℕ → List ℕ
-in_row w = w ++ replicate (14 - length w) 32

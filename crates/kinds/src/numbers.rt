@@ -1,5 +1,6 @@
 // The numbers of the kinds of value, by their places in `numbered` (specs/Kind.antt), and of the lists of words, by their
 // places in `numbered_lists` (specs/Value.antt).
+// They are numbers and no enum: public functions here take any number, and an enum would ask more of their callers.
 pub const S_10: u8 = 0;
 
 pub const S_64: u8 = 1;

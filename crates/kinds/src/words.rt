@@ -1,159 +1,56 @@
-// The words of all lists one after another, each in a row of its own with blanks after it; beside them their lengths, and
-// where the words of each kind begin. A byte string's reference cannot be returned; its row can.
-ghost use Rattle.std.specs.Prelude.{◌≡◌, [], ◌<◌, length, get_or};
+// The words of the lists, and of the kinds that have one.
+ghost use Rattle.std.specs.Prelude.{◌≡◌, [], ◌<◌, length, map, get_or};
 ghost use Rattle.kinds.specs.Kind.{kind_of};
-ghost use Rattle.kinds.specs.Shapes.{words_in, listed, in_row};
+ghost use Rattle.kinds.specs.Value.{words_of};
+ghost use Rattle.kinds.specs.Shapes.{words_in};
 
-// As many bytes as the longest word has.
-pub type Row = [u8; 14];
+use crate::numbers;
 
-const ROWS: [Row; 40] = [
-    *b"LEGGERO       ",
-    *b"PESANTE       ",
-    *b"MOTOVEICOLO   ",
-    *b"M1            ",
-    *b"M2            ",
-    *b"M3            ",
-    *b"N1            ",
-    *b"N2            ",
-    *b"N3            ",
-    *b"O1            ",
-    *b"O2            ",
-    *b"O3            ",
-    *b"O4            ",
-    *b"L1e           ",
-    *b"L2e           ",
-    *b"L3e           ",
-    *b"L4e           ",
-    *b"L5e           ",
-    *b"L6e           ",
-    *b"L7e           ",
-    *b"S             ",
-    *b"N             ",
-    *b"NESSUNA       ",
-    *b"RT1902        ",
-    *b"91/441/CEE    ",
-    *b"98/69/CE      ",
-    *b"MANO          ",
-    *b"PEDALE        ",
-    *b"ELETTRICO     ",
-    *b"NON PRESENTE  ",
-    *b"DIR           ",
-    *b"RETE          ",
-    *b"DIR           ",
-    *b"RETE          ",
-    *b"RS SENZA ESITO",
-    *b"ESTERNO       ",
-    *b"INTEGRATO     ",
-    *b"R             ",
-    *b"I             ",
-    *b"N             ",
-];
-
-const LENGTHS: [usize; 40] = [
-    7, // LEGGERO
-    7, // PESANTE
-    11, // MOTOVEICOLO
-    2, // M1
-    2, // M2
-    2, // M3
-    2, // N1
-    2, // N2
-    2, // N3
-    2, // O1
-    2, // O2
-    2, // O3
-    2, // O4
-    3, // L1e
-    3, // L2e
-    3, // L3e
-    3, // L4e
-    3, // L5e
-    3, // L6e
-    3, // L7e
-    1, // S
-    1, // N
-    7, // NESSUNA
-    6, // RT1902
-    10, // 91/441/CEE
-    8, // 98/69/CE
-    4, // MANO
-    6, // PEDALE
-    9, // ELETTRICO
-    12, // NON PRESENTE
-    3, // DIR
-    4, // RETE
-    3, // DIR
-    4, // RETE
-    14, // RS SENZA ESITO
-    7, // ESTERNO
-    9, // INTEGRATO
-    1, // R
-    1, // I
-    1, // N
-];
-
-// By the numbers of the kinds; 0 for a kind that lists no words.
-const FIRST_WORDS: [usize; 34] = [
-    0, // S 10
-    0, // S 64
-    0, // S 92
-    0, // S 320
-    0, // C 4
-    0, // C 5
-    0, // C 172
-    0, // N 1
-    0, // N 2
-    0, // N 3
-    0, // N 5
-    0, // N(3) 5
-    0, // N(2) 5
-    0, // D
-    0, // H
-    0, // Deriva
-    0, // revs
-    0, // DataPrimaImm
-    0, // AnnoPrimaImm
-    0, // PosAssiStaz
-    0, // vehicle types
-    3, // categories
-    20, // yes or no
-    22, // petrol directives
-    26, // brake controls
-    30, // links
-    32, // gas links
-    35, // counter links
-    0, // Targa
-    0, // N(1) 3
-    0, // N(1) 5, by hand with `#`
-    0, // TempAmbiente
-    0, // N 3, by hand with `#`
-    37, // outcomes
-];
-
-// Where a word of a kind stands among those of all lists, by its number in its own.
-fn word_place(kind: u8, word: usize) -> usize
-    requires { word < length (words_in (kind_of kind)) }
-    ensures { (result < length listed) × (get_or listed result [] ≡ get_or (words_in (kind_of kind)) word []) }
+// The words of a list, by its number; none of a number that no list has.
+#[tactic(auto, unfolding(crate::specs::Value::words_of, crate::specs::Value::numbered_lists, crate::specs::Kind::words))]
+pub(crate) fn in_list(list: u8) -> &'static [&'static [u8]]
+    ensures { map (λ w. w.now) result.now ≡ words_of list }
 {
-    let k = kind as usize;
-    FIRST_WORDS[k] + word
+    match list {
+        numbers::VEHICLE_TYPES => &[b"LEGGERO", b"PESANTE", b"MOTOVEICOLO"],
+        numbers::CATEGORIES => &[
+            b"M1", b"M2", b"M3", b"N1", b"N2", b"N3", b"O1", b"O2", b"O3", b"O4", b"L1e", b"L2e",
+            b"L3e", b"L4e", b"L5e", b"L6e", b"L7e",
+        ],
+        numbers::YES_NO_WORDS => &[b"S", b"N"],
+        numbers::PETROL_DIRECTIVES => &[b"NESSUNA", b"RT1902", b"91/441/CEE", b"98/69/CE"],
+        numbers::BRAKE_CONTROLS => &[b"MANO", b"PEDALE", b"ELETTRICO", b"NON PRESENTE"],
+        numbers::LINKS => &[b"DIR", b"RETE"],
+        numbers::GAS_LINKS => &[b"DIR", b"RETE", b"RS SENZA ESITO"],
+        numbers::COUNTER_LINKS => &[b"ESTERNO", b"INTEGRATO"],
+        numbers::OUTCOMES => &[b"R", b"I", b"N"],
+        _ => &[],
+    }
 }
 
-// The row of a word of a kind.
-pub fn word_row(kind: u8, word: usize) -> Row
-    requires { word < length (words_in (kind_of kind)) }
-    ensures { result ≡ in_row (get_or (words_in (kind_of kind)) word []) }
+// The words of a kind, by its number; none of a kind that has no list.
+#[tactic(auto, unfolding(crate::specs::Value::words_of, crate::specs::Value::numbered_lists, crate::specs::Kind::kind_of, crate::specs::Kind::numbered, crate::specs::Shapes::words_in))]
+fn of_kind(kind: u8) -> &'static [&'static [u8]]
+    ensures { map (λ w. w.now) result.now ≡ words_in (kind_of kind) }
 {
-    let place = word_place(kind, word);
-    ROWS[place]
+    match kind {
+        numbers::VEHICLE_TYPE => in_list(numbers::VEHICLE_TYPES),
+        numbers::CATEGORY => in_list(numbers::CATEGORIES),
+        numbers::YES_NO => in_list(numbers::YES_NO_WORDS),
+        numbers::PETROL_DIRECTIVE => in_list(numbers::PETROL_DIRECTIVES),
+        numbers::BRAKE_CONTROL => in_list(numbers::BRAKE_CONTROLS),
+        numbers::LINK => in_list(numbers::LINKS),
+        numbers::GAS_LINK => in_list(numbers::GAS_LINKS),
+        numbers::COUNTER_LINK => in_list(numbers::COUNTER_LINKS),
+        numbers::OUTCOME => in_list(numbers::OUTCOMES),
+        _ => &[],
+    }
 }
 
-// How many bytes it has.
-pub fn word_length(kind: u8, word: usize) -> usize
+// A word of a kind, by its place in the kind's list.
+pub fn word_of(kind: u8, word: usize) -> &'static [u8]
     requires { word < length (words_in (kind_of kind)) }
-    ensures { result ≡ length (get_or (words_in (kind_of kind)) word []) }
+    ensures { result.now ≡ get_or (words_in (kind_of kind)) word [] }
 {
-    let place = word_place(kind, word);
-    LENGTHS[place]
+    of_kind(kind)[word]
 }

@@ -1,13 +1,13 @@
 -- Laws of the tests on bytes, for every crate. Assumes nothing.
-use Prim.Native.Nat.{ℕ, suc, ◌≤◌}
-use native.Mathlib.Omega.{arith}
+use Prim.Native.Nat.{ℕ, suc, ◌+◌}
+use native.Mathlib.Numerals.{one-add}
 use mathlib.Core.Path.{◌≡◌, refl, ap, ap₂, ◌∙◌}
 use mathlib.Core.List.{List, [], ◌∷◌, ◌++◌}
 use mathlib.Core.Bool.{Bool, true, false, cond, ◌&&◌, false≢true}
 use lib.Dec.{eqb, eqb-suc-suc, eqb-zero-suc}
 use lib.ListN.{length}
 use borrow.Author.Tests.{eqb-true, eq-eqb}
-use Rattle.lines.specs.Bytes.{is_printable, all_printable, same_bytes, printable_run, before, name_run}
+use Rattle.lines.specs.Bytes.{is_printable, all_printable, same_bytes, printable_run}
 use Rattle.lines.proofs.Bools.{and_left, and_right, and-false}
 
 -- the test of two lists of bytes is their equality
@@ -42,31 +42,12 @@ unfolding all_printable
 printable-after [] t p = p
 printable-after (b ∷ s) t p = printable-after s t (and_right (is_printable b) (all_printable (s ++ t)) p)
 
-cond-le : (t : Bool) {x y m : ℕ} → x ≤ m → y ≤ m → cond t x y ≤ m
-cond-le true h k = h
-cond-le false h k = k
-
-pub run-le : (s : List ℕ) → printable_run s ≤ length s
-unfolding printable_run
-run-le [] = omega arith
-run-le (b ∷ s) = cond-le (is_printable b) (omega (arith, run-le s)) (omega arith)
-
-pub before-le : (x : ℕ) (s : List ℕ) → before x s ≤ length s
-unfolding before
-before-le x [] = omega arith
-before-le x (b ∷ s) = cond-le (eqb b x) (omega arith) (omega (arith, before-le x s))
-
-pub name-le : (s : List ℕ) → name_run s ≤ length s
-unfolding name_run
-name-le [] = omega arith
-name-le (b ∷ s) = cond-le (eqb b 61) (omega arith) (cond-le (is_printable b) (omega (arith, name-le s)) (omega arith))
-
-all_first : (t : Bool) (r n : ℕ) (a : Bool) → eqb r n ≡ a → eqb (cond t (suc r) 0) (suc n) ≡ (t && a)
-all_first true r n a e = eqb-suc-suc r n ∙ e
+all_first : (t : Bool) (r n : ℕ) (a : Bool) → eqb r n ≡ a → eqb (cond t (1 + r) 0) (suc n) ≡ (t && a)
+all_first true r n a e = rw one-add (eqb-suc-suc r n ∙ e)
 all_first false r n a e = eqb-zero-suc n
 
 -- all bytes are printable where the run of printable bytes is the whole list
 pub run-all : (s : List ℕ) → eqb (printable_run s) (length s) ≡ all_printable s
-unfolding printable_run all_printable
+unfolding all_printable
 run-all [] = refl
 run-all (b ∷ s) = all_first (is_printable b) (printable_run s) (length s) (all_printable s) (run-all s)

@@ -11,13 +11,21 @@ use lib.Bits.{bit_and, bit_or, bit_xor, and_block, or_block, xor_block, and_lt, 
 use borrow.Author.Tests.{eqb-true, eqb-false, eq-eqb, ne_eqb}
 use borrow.Author.Count.{below_more}
 use Rattle.lines.specs.Bytes.{is_printable, is_name, without}
-use Rattle.lines.specs.Words.{lanes}
+use Rattle.lines.specs.Words.{lanes, stops_at}
 use Rattle.lines.proofs.Bools.{and_left, and_right}
 
 lanes-same : (f g : ℕ → ℕ) → ((k : ℕ) → f k ≡ g k) → (n i : ℕ) → lanes f n i ≡ lanes g n i
 unfolding lanes
 lanes-same f g e zero i = refl
 lanes-same f g e (suc n) i = ap₂ (λ (x y : ℕ). x * 256 + y) (lanes-same f g e n (suc i)) (e i)
+
+-- the same bytes, from another place of another function
+pub lanes-moved : (f g : ℕ → ℕ) (n i j : ℕ) → ((k : ℕ) → k < n → f (i + k) ≡ g (j + k)) → lanes f n i ≡ lanes g n j
+unfolding lanes
+lanes-moved f g zero i j e = refl
+lanes-moved f g (suc n) i j e =
+    let up : (k : ℕ) → k < n → f (suc i + k) ≡ g (suc j + k) = λ k h. ap f (omega arith) ∙ e (suc k) (omega arith) ∙ ap g (omega arith) in
+    ap₂ (λ (x y : ℕ). x * 256 + y) (lanes-moved f g n (suc i) (suc j) up) (ap f (omega arith) ∙ e 0 (omega arith) ∙ ap g (omega arith))
 
 lanes-add : (f g : ℕ → ℕ) (n i : ℕ) → lanes f n i + lanes g n i ≡ lanes (λ (k : ℕ). f k + g k) n i
 unfolding lanes
@@ -80,14 +88,8 @@ each_below_lem p (suc n) e b h =
 abbrev pub printable_stop : ℕ → ℕ
 printable_stop b = bit_and (bit_or (bit_or b (bit_and b 127 + 1)) (bit_xor (bit_and b 127 + 96) 128)) 128
 
-abbrev pub name_stop : ℕ → ℕ
-name_stop b = bit_and (bit_or (bit_or b (bit_and b 127 + 1)) (bit_xor (bit_and (bit_and b 127 + 96) (bit_xor (bit_and b 127) 61 + 127)) 128)) 128
-
 pub printable-stop : (b : ℕ) → b < 256 → printable_stop b ≡ cond (is_printable b) 0 128
 printable-stop b h = eqb-true _ _ (each_below_lem (λ (k : ℕ). eqb (printable_stop k) (cond (is_printable k) 0 128)) 256 refl b h)
-
-pub name-stop : (b : ℕ) → b < 256 → name_stop b ≡ cond (is_name b) 0 128
-name-stop b h = eqb-true _ _ (each_below_lem (λ (k : ℕ). eqb (name_stop k) (cond (is_name k) 0 128)) 256 refl b h)
 
 -- the numbers with eight times the same byte
 pub always : (i b : ℕ) → b < 256 → (x : ℕ) → x ≡ lanes (λ (k : ℕ). b) 8 i → Holds i x (λ (k : ℕ). b)
@@ -116,18 +118,6 @@ module _ (i x : ℕ) (f : ℕ → ℕ) (h : Holds i x f) where
       holds_same i _ (λ (k : ℕ). cond (is_printable (f k)) 0 128)
       (holds-and i (holds-or i (holds-or i h high) (holds-xor i shown eighth)) eighth)
       (λ k. printable-stop (f k) (h.small k))
-
-  other : Holds i (bit_xor (bit_and x 0x7f7f7f7f7f7f7f7f) 0x3d3d3d3d3d3d3d3d + 0x7f7f7f7f7f7f7f7f) (λ (k : ℕ). bit_xor (bit_and (f k) 127) 61 + 127)
-  unfolding lanes
-  other =
-      holds-add i (holds-xor i low (always i 61 (omega arith) 0x3d3d3d3d3d3d3d3d refl)) (always i 127 (omega arith) 0x7f7f7f7f7f7f7f7f refl)
-      (λ k. omega (arith, xor_lt 7 (bit_and (f k) 127) 61 (omega (arith, and_le_r (f k) 127)) (omega arith)))
-
-  pub name-mask : bit_and (bit_or (bit_or x (bit_and x 0x7f7f7f7f7f7f7f7f + 0x0101010101010101)) (bit_xor (bit_and (bit_and x 0x7f7f7f7f7f7f7f7f + 0x6060606060606060) (bit_xor (bit_and x 0x7f7f7f7f7f7f7f7f) 0x3d3d3d3d3d3d3d3d + 0x7f7f7f7f7f7f7f7f)) 0x8080808080808080)) 0x8080808080808080 ≡ lanes (λ (k : ℕ). cond (is_name (f k)) 0 128) 8 i
-  name-mask =
-      holds_same i _ (λ (k : ℕ). cond (is_name (f k)) 0 128)
-      (holds-and i (holds-or i (holds-or i h high) (holds-xor i (holds-and i shown other) eighth)) eighth)
-      (λ k. name-stop (f k) (h.small k))
 
 -- ---- bytes that are not b
 
@@ -173,23 +163,36 @@ module _ (i x b : ℕ) (f : ℕ → ℕ) (l : b < 256) (h : Holds i x f) where
       (holds-and i (holds-or i sum mixed) (eighth i x' g mixed))
       (λ k. zero-stop (g k) (mixed.small k) ∙ ap (λ (t : Bool). cond t 0 128) (xor-none (f k) b))
 
-  -- each byte that is b as 128
-  pub other-mask : {m : ℕ} → m ≡ lanes (λ (k : ℕ). cond (eqb (f k) b) 0 128) 8 i → bit_xor m 0x8080808080808080 ≡ lanes (λ (k : ℕ). cond (not (eqb (f k) b)) 0 128) 8 i
-  unfolding lanes
-  other-mask {m} e =
-      holds_same i _ (λ (k : ℕ). cond (not (eqb (f k) b)) 0 128)
-      (holds-xor i (record { is = e; small = λ k. mark-small (eqb (f k) b) }) (eighth i x f h))
-      (λ k. turned (eqb (f k) b))
+-- each byte that is b as 128, by the number of those that are not
+pub other-mask : (b : ℕ) (s : List ℕ) (i : ℕ) {m : ℕ} → m ≡ stops_at (λ (y : ℕ). eqb y b) s 8 i → bit_xor m 0x8080808080808080 ≡ stops_at (λ (y : ℕ). not (eqb y b)) s 8 i
+unfolding lanes
+other-mask b s i {m} e =
+    holds_same i _ (λ (k : ℕ). cond (not (eqb (get_or s k 0) b)) 0 128)
+    (holds-xor i (record { is = e; small = λ k. mark-small (eqb (get_or s k 0) b) }) (always i 128 (omega arith) 0x8080808080808080 refl))
+    (λ k. turned (eqb (get_or s k 0) b))
 
--- the numbers agree exactly where no byte is b
+or-stop : (t u : Bool) → bit_or (cond u 0 128) (cond (not t) 0 128) ≡ cond (cond t false u) 0 128
+or-stop true true = refl
+or-stop true false = refl
+or-stop false true = refl
+or-stop false false = refl
+
+-- the bytes that are not printable or are `=`, each as 128
+pub name-mask : (s : List ℕ) (i : ℕ) {m n : ℕ} → m ≡ stops_at is_printable s 8 i → n ≡ stops_at (λ (y : ℕ). not (eqb y 61)) s 8 i → bit_or m n ≡ stops_at is_name s 8 i
+name-mask s i {m} {n} e f =
+    holds_same i _ (λ (k : ℕ). cond (is_name (get_or s k 0)) 0 128)
+    (holds-or i (record { is = e; small = λ k. mark-small (is_printable (get_or s k 0)) }) (record { is = f; small = λ k. mark-small (not (eqb (get_or s k 0) 61)) }))
+    (λ k. or-stop (eqb (get_or s k 0) 61) (is_printable (get_or s k 0)))
+
+-- no byte is marked exactly where none is b
 module _ (b : ℕ) (s : List ℕ) where
-  lacks-first : (m e : ℕ) (t w : Bool) → eqb m e ≡ w → eqb (m * 256 + cond t 0 128) (e * 256 + 128) ≡ (not t && w)
-  lacks-first m e true w q = ne_eqb _ _ (λ (z : m * 256 + 0 ≡ e * 256 + 128). omega arith)
-  lacks-first m e false true q = eq-eqb (m * 256 + 128) (e * 256 + 128) (omega (arith, eqb-true m e q))
-  lacks-first m e false false q = ne_eqb _ _ (λ (z : m * 256 + 128 ≡ e * 256 + 128). eqb-false m e q (omega arith))
+  lacks-first : (m : ℕ) (t w : Bool) → eqb m 0 ≡ w → eqb (m * 256 + cond t 0 128) 0 ≡ (t && w)
+  lacks-first m true true q = eq-eqb _ _ (omega (arith, eqb-true m 0 q))
+  lacks-first m true false q = ne_eqb _ _ (λ (z : m * 256 + 0 ≡ 0). eqb-false m 0 q (omega arith))
+  lacks-first m false w q = ne_eqb _ _ (λ (z : m * 256 + 128 ≡ 0). omega arith)
 
-  pub lacks-is : (n i : ℕ) → i + n ≤ length s → eqb (lanes (λ (k : ℕ). cond (eqb (get_or s k 0) b) 0 128) n i) (lanes (λ (k : ℕ). 128) n i) ≡ without b (take n (drop i s))
+  pub lacks-is : (n i : ℕ) → i + n ≤ length s → eqb (stops_at (λ (y : ℕ). not (eqb y b)) s n i) 0 ≡ without b (take n (drop i s))
   unfolding lanes without
   lacks-is zero i h = refl
   lacks-is (suc n) i h =
-      rw (drop-cons s i 0 (omega arith)) (lacks-first _ _ (eqb (get_or s i 0) b) (without b (take n (drop (suc i) s))) (lacks-is n (suc i) (omega arith)))
+      rw (drop-cons s i 0 (omega arith)) (lacks-first _ (not (eqb (get_or s i 0) b)) (without b (take n (drop (suc i) s))) (lacks-is n (suc i) (omega arith)))

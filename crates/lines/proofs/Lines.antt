@@ -2,6 +2,7 @@
 -- what is read there stands there, and the end is read at the end only. Assumes nothing.
 use Prim.Native.Nat.{ℕ, suc, ◌+◌, ◌-◌, ◌≤◌, ◌<◌}
 use native.Mathlib.Omega.{arith}
+use native.Mathlib.Numerals.{one-add}
 use mathlib.Core.Path.{◌≡◌, refl, ap, ap₂, sym, ◌∙◌}
 use mathlib.Core.List.{List, [], ◌∷◌, ◌++◌, append_assoc}
 use mathlib.Core.Bool.{Bool, true, false, cond, not, ◌&&◌}
@@ -28,16 +29,16 @@ pub record Stands (s : List ℕ) (a : ℕ) (l : Line) : Type 0 where
 -- ---- a well-formed line is read
 
 run_of : (b r : List ℕ) → all_printable b ≡ true → printable_run (b ++ 13 ∷ r) ≡ length b
-unfolding all_printable printable_run
+unfolding all_printable
 run_of [] r e = refl
-run_of (x ∷ b) r e = simp (and_left (is_printable x) (all_printable b) e, run_of b r (and_right (is_printable x) (all_printable b) e))
+run_of (x ∷ b) r e = simp (and_left (is_printable x) (all_printable b) e, run_of b r (and_right (is_printable x) (all_printable b) e), one-add)
 
 before_of : (x : ℕ) (k v : List ℕ) → without x k ≡ true → before x (k ++ x ∷ v) ≡ length k
-unfolding without before
+unfolding without
 before_of x [] v e = simp (eq-eqb x x refl)
 before_of x (b ∷ k) v e =
     let p : eqb b x ≡ false = not-true (eqb b x) (and_left (not (eqb b x)) (without x k) e) in
-    simp (p, before_of x k v (and_right (not (eqb b x)) (without x k) e))
+    simp (p, before_of x k v (and_right (not (eqb b x)) (without x k) e), one-add)
 
 form-is : (l : Line) (a n : ℕ) → formed l ≡ true → line_form (line_bytes l) a n ≡ read_as l a n
 unfolding line_form
@@ -80,12 +81,12 @@ reads s c l h =
 -- ---- what is read stands there
 
 run-printable : (r : List ℕ) → all_printable (take (printable_run r) r) ≡ true
-unfolding all_printable printable_run
+unfolding all_printable
 run-printable [] = refl
 run-printable (b ∷ r) = go (is_printable b) refl (run-printable r)
   where
-    go : (t : Bool) → is_printable b ≡ t → all_printable (take (printable_run r) r) ≡ true → all_printable (take (cond t (suc (printable_run r)) 0) (b ∷ r)) ≡ true
-    go true e ih = simp (e, ih)
+    go : (t : Bool) → is_printable b ≡ t → all_printable (take (printable_run r) r) ≡ true → all_printable (take (cond t (1 + printable_run r) 0) (b ∷ r)) ≡ true
+    go true e ih = simp (one-add, e, ih)
     go false e ih = refl
 
 -- a list split at its first x
@@ -102,14 +103,14 @@ split-more x y b i e r =
     record { name = y ∷ r.name; value = r.value; whole = ap (λ (l : List ℕ). y ∷ l) r.whole; first = simp e r.first; size = ap suc r.size }
 
 split : (x : ℕ) (b : List ℕ) → before x b < length b → Split x b (before x b)
-unfolding without before
+unfolding without
 split x [] h = absurd (omega arith)
 split x (y ∷ b) h = go (eqb y x) refl h (split x b)
   where
-    go : (t : Bool) → eqb y x ≡ t → cond t 0 (suc (before x b)) < suc (length b)
-        → (before x b < length b → Split x b (before x b)) → Split x (y ∷ b) (cond t 0 (suc (before x b)))
+    go : (t : Bool) → eqb y x ≡ t → cond (not t) (1 + before x b) 0 < suc (length b)
+        → (before x b < length b → Split x b (before x b)) → Split x (y ∷ b) (cond (not t) (1 + before x b) 0)
     go true e k ih = record { name = []; value = b; whole = ap (λ (z : ℕ). z ∷ b) (eqb-true y x e); first = refl; size = refl }
-    go false e k ih = split-more x y b (before x b) e (ih (omega arith))
+    go false e k ih = rw one-add (split-more x y b (before x b) e (ih (omega arith)))
 
 ended-tail : (s : List ℕ) (e : ℕ) → get_or s e 0 ≡ 13 → get_or s (e + 1) 0 ≡ 10 → e + 2 ≤ length s → drop e s ≡ 13 ∷ 10 ∷ drop (e + 2) s
 ended-tail s e p q h =

@@ -4,36 +4,33 @@ use native.Mathlib.Omega.{arith}
 use native.Mathlib.Nat.{add-zero}
 use mathlib.Core.Path.{◌≡◌, refl, ap, sym, ◌∙◌}
 use mathlib.Core.List.{List, [], ◌∷◌}
-use mathlib.Core.Bool.{Bool, true, false, cond}
-use lib.ListN.{length, get_or, take, drop, length-take, length-drop, get_or-eq_default}
-use lib.Seq.{get_or-drop, get_or-take, drop-drop}
+use mathlib.Core.Bool.{Bool, true, false, cond, not, ◌&&◌}
+use lib.ListN.{length, get_or, take, drop, length-take, length-drop}
+use lib.Seq.{take_all, get_or-drop, get_or-take, drop-drop}
 use lib.Dec.{eqb, leb}
+use native.Mathlib.Numerals.{one-add}
+use Rattle.std.proofs.lemmas.List.Sums.{prefix_len-le-length}
 use borrow.Author.Tests.{leb-true, eqb-true, le-leb, lt-leb, lt-ltb, le-ltb, eq-eqb, ne_eqb}
+use Rattle.std.specs.List.{starts_with}
+use Rattle.std.specs.Cmp.{nat_eq_equiv}
 use Rattle.lines.specs.Bytes.{part, is_printable, printable_run, before, name_run}
 use Rattle.lines.specs.Line.{good_length}
 use Rattle.lines.specs.Reading.{lines_before, ended, is_line, line_form, line_from, line_at}
 use Rattle.lines.specs.declared.Cursor.{Cursor}
 use Rattle.lines.specs.declared.LineRead.TheVariants.{End, Bad, Heading, Entry}
-use Rattle.lines.proofs.Bools.{and_left, and_right, and-false}
-use Rattle.lines.proofs.Bytes.{run-le, before-le}
+use Rattle.lines.proofs.Bools.{and_left, and_right, and-true}
 
 -- ---- is_line
 
-module _ (s : List ℕ) (a e : ℕ) where
-  pub line-short : length s - e < 2 → false ≡ is_line s a e
-  unfolding is_line
-  line-short h = simp (ne_eqb (get_or s (e + 1) 0) 10 lf, and-false)
-    where
-      lf : get_or s (e + 1) 0 ≡ 10 → ⊥
-      lf p = let z : ◌≡◌ {A = ℕ} 0 10 = sym (get_or-eq_default s 0 (omega arith)) ∙ p in omega arith
+crlf : (l : List ℕ) → starts_with eqb l (13 ∷ 10 ∷ []) ≡ (eqb (get_or l 0 0) 13 && eqb (get_or l 1 0) 10)
+crlf [] = refl
+crlf (a ∷ []) = rw (nat_eq_equiv.symm 13 a)
+crlf (a ∷ b ∷ l) = rw (nat_eq_equiv.symm 13 a, nat_eq_equiv.symm 10 b, and-true (eqb b 10))
 
-  pub line-no-cr : (get_or s e 0 ≡ 13 → ⊥) → false ≡ is_line s a e
-  unfolding is_line
-  line-no-cr n = simp (ne_eqb _ _ n, and-false)
-
-  pub line_second : 1 ≤ e - a → e - a ≤ 512 → get_or s e 0 ≡ 13 → eqb (get_or s (e + 1) 0) 10 ≡ is_line s a e
-  unfolding is_line
-  line_second l h p = simp (le-leb 1 (e - a) l, le-leb (e - a) 512 h, eq-eqb _ _ p)
+pub ended-is : (s : List ℕ) (e : ℕ) → starts_with eqb (take (length s - e) (drop e s)) (13 ∷ 10 ∷ []) ≡ ended s e
+ended-is s e =
+    let all = take_all (length s - e) (drop e s) (rw (length-drop e s) (omega arith)) in
+    rw all (crlf (drop e s) ∙ simp (get_or-drop, add-zero))
 
 -- what a line from a to e has
 pub record IsLine (s : List ℕ) (a e : ℕ) : Type 0 where
@@ -72,7 +69,7 @@ module _ (s : List ℕ) (c : Cursor) (e : ℕ) (h : c.at < length s) (q : e ≡ 
   line-from = simp (lt-leb (length s) c.at h) (rw q)
 
   pub end-le : e ≤ length s
-  end-le = omega (arith, run-le (drop c.at s), length-drop c.at s)
+  end-le = omega (arith, prefix_len-le-length is_printable (drop c.at s), length-drop c.at s)
 
 pub line-bad : (s : List ℕ) (a e n : ℕ) → is_line s a e ≡ false → Bad n ≡ line_from s a e n
 unfolding line_from
@@ -85,17 +82,16 @@ line-good s a e n p = rw p
 -- ---- the name of an entry ends at `=`, or the printable bytes end there
 
 name-run : (r : List ℕ) → (printable_run r ≡ name_run r + printable_run (drop (name_run r) r)) × (before 61 (take (printable_run r) r) ≡ name_run r)
-unfolding printable_run name_run before
 name-run [] = (refl, refl)
 name-run (b ∷ r) = go (eqb b 61) (is_printable b) refl refl (name-run r)
   where
     go : (t u : Bool) → eqb b 61 ≡ t → is_printable b ≡ u
         → (printable_run r ≡ name_run r + printable_run (drop (name_run r) r)) × (before 61 (take (printable_run r) r) ≡ name_run r)
-        → (cond u (suc (printable_run r)) 0 ≡ cond t 0 (cond u (suc (name_run r)) 0) + printable_run (drop (cond t 0 (cond u (suc (name_run r)) 0)) (b ∷ r)))
-        × (before 61 (take (cond u (suc (printable_run r)) 0) (b ∷ r)) ≡ cond t 0 (cond u (suc (name_run r)) 0))
-    go true true p q ih = (simp q (omega arith), simp p)
+        → (cond u (1 + printable_run r) 0 ≡ cond (cond t false u) (1 + name_run r) 0 + printable_run (drop (cond (cond t false u) (1 + name_run r) 0) (b ∷ r)))
+        × (before 61 (take (cond u (1 + printable_run r) 0) (b ∷ r)) ≡ cond (cond t false u) (1 + name_run r) 0)
+    go true true p q ih = (simp q (omega arith), simp (one-add, p))
     go true false p q ih = (simp q (omega arith), refl)
-    go false true p q ih = (omega (arith, ih.0), simp p (ap suc ih.1))
+    go false true p q ih = (simp one-add (omega (arith, ih.0)), simp (one-add, p) (ap suc ih.1))
     go false false p q ih = (simp q (omega arith), refl)
 
 module _ (s : List ℕ) (a q e : ℕ) (name : q ≡ a + name_run (drop a s)) (end : e ≡ q + printable_run (drop q s)) where
@@ -145,5 +141,5 @@ module _ (s : List ℕ) (a e n : ℕ) (h : a < e) (k : e ≤ length s) where
     pub entry-form : (f ≡ e → ⊥) → Entry a f e (record { at = e + 2; line = n }) ≡ line_form (part s a e) a n
     unfolding line_form
     entry-form r =
-        let u = before-le 61 (part s a e) in
+        let u = prefix_len-le-length (λ b. not (eqb b 61)) (part s a e) in
         simp (first, ne_eqb _ _ p, lt-ltb (before 61 (part s a e)) (length (part s a e)) (omega (arith, len, u)), ends, after, q)

@@ -1,18 +1,19 @@
 -- Laws of writing: writes one after the other are one write. Assumes nothing.
 use Prim.Native.Nat.{ℕ, ◌+◌, ◌≤◌}
 use native.Mathlib.Omega.{arith}
-use native.Mathlib.Nat.{le_refl, add_assoc}
-use mathlib.Core.Path.{◌≡◌, ap, subst, ◌∙◌}
+use native.Mathlib.Nat.{add_assoc}
+use mathlib.Core.Path.{◌≡◌, sym, ap, subst, ◌∙◌}
 use mathlib.Core.List.{List, [], ◌∷◌, ◌++◌, append_assoc}
 use lib.ListN.{length, take, drop, length-append, length-drop}
-use lib.Seq.{paste, take_at, drop_at, drop-drop, take_all, length-take-le}
+use lib.Seq.{take_at, drop_at, drop-drop, length-take-le}
+use borrow.Rule.Slice.PartMut.{put_mid}
 use Rattle.lines.specs.Line.{Line, heading, entry, line_end, written_line, written_length}
 use Rattle.lines.specs.Writing.{put, Wrote}
 
--- the loop's end: all of s is written
-pub put-paste : (d : List ℕ) (a : ℕ) (s : List ℕ) (n : ℕ) → n ≡ length s → paste d a s n ≡ put d a s
+-- the k bytes from a on replaced by those of s
+pub put_mid-put : (d : List ℕ) (a k : ℕ) (s e : List ℕ) → e ≡ s → k ≡ length s → put_mid a k d e ≡ put d a s
 unfolding put
-put-paste d a s n e = rw (e, take_all (length s) s (le_refl (length s)))
+put_mid-put d a k s e p q = rw (p, q, drop-drop) (sym (append_assoc (take a d) s (drop (a + length s) d)))
 
 pub length-put : (d : List ℕ) (a : ℕ) (s : List ℕ) → a + length s ≤ length d → length (put d a s) ≡ length d
 unfolding put

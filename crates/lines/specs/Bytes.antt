@@ -1,5 +1,6 @@
 -- Bytes, and tests on lists of them.
-use Rattle.std.specs.Prelude.{ℕ, suc, ◌-◌, List, [], ◌∷◌, Bool, true, false, cond, not, ◌&&◌, leb, eqb, take, drop}
+use Rattle.std.specs.Prelude.{ℕ, ◌-◌, List, [], ◌∷◌, Bool, true, false, cond, not, ◌&&◌, leb, eqb, take, drop}
+use Rattle.std.specs.List.{prefix_len, position_or_len}
 
 -- the bytes from place a to place e: what `&s[a..e]` holds
 abbrev pub part : List ℕ → ℕ → ℕ → List ℕ
@@ -25,26 +26,22 @@ unfoldable pub without : ℕ → List ℕ → Bool
 without x [] = true
 without x (b ∷ s) = not (eqb b x) && without x s
 
--- how many bytes other than x a list begins with
-unfoldable pub other_run : ℕ → List ℕ → ℕ
-other_run x [] = 0
-other_run x (b ∷ s) = cond (eqb b x) 0 (suc (other_run x s))
-
 -- how many printable bytes a list begins with
-unfoldable pub printable_run : List ℕ → ℕ
-printable_run [] = 0
-printable_run (b ∷ s) = cond (is_printable b) (suc (printable_run s)) 0
+abbrev pub printable_run : List ℕ → ℕ
+printable_run s = prefix_len is_printable s
 
 -- how many bytes stand before the first x
-unfoldable pub before : ℕ → List ℕ → ℕ
-before x [] = 0
-before x (b ∷ s) = cond (eqb b x) 0 (suc (before x s))
+abbrev pub before : ℕ → List ℕ → ℕ
+before x s = position_or_len (λ b. eqb b x) s
+
+-- how many bytes other than x a list begins with
+abbrev pub other_run : ℕ → List ℕ → ℕ
+other_run x s = before x s
 
 -- a byte that a name may hold: printable, and not `=`
 abbrev pub is_name : ℕ → Bool
 is_name b = cond (eqb b 61) false (is_printable b)
 
 -- how many printable bytes other than `=` a list begins with
-unfoldable pub name_run : List ℕ → ℕ
-name_run [] = 0
-name_run (b ∷ s) = cond (eqb b 61) 0 (cond (is_printable b) (suc (name_run s)) 0)
+abbrev pub name_run : List ℕ → ℕ
+name_run s = prefix_len is_name s

@@ -1,16 +1,17 @@
 // Lines of a text (01, Lines): read forward, compared and written. No name, heading or size of a file is known here.
 #![tactic(auto)]
 
-ghost use Rattle.std.specs.Prelude.{◌≡◌, false, ◌++◌, ◌+◌, ◌/◌, ◌<◌, ◌≤◌, min, length, take, drop};
+ghost use Rattle.std.specs.Prelude.{◌≡◌, ℕ, Bool, false, ◌++◌, ◌+◌, ◌/◌, ◌<◌, ◌≤◌, min, not, eqb, length, take, drop};
+ghost use Rattle.std.specs.List.{prefix_len};
 ghost use Rattle.std.specs.Int.Count.{count_trailing_zeros};
-ghost use Rattle.lines.specs.Bytes.{is_printable, is_name, all_printable, same_bytes, without, other_run, printable_run, name_run};
+ghost use Rattle.lines.specs.Bytes.{is_printable, is_name, all_printable, same_bytes, without, other_run};
 ghost use Rattle.lines.specs.Words.{word_at, stops_at};
 ghost use Rattle.lines.specs.Line.{heading, entry, written_line, written_length};
 ghost use Rattle.lines.specs.Reading.{start, is_line, line_at};
 ghost use Rattle.lines.specs.Writing.{Wrote};
 
 // The reading position: the place of the next byte, and the number of lines before it.
-#[derive(Clone, Copy)]
+#[derive(Debug, Clone, Copy, PartialEq, Eq)]
 pub struct Cursor {
     pub at: usize,
     pub line: usize,
@@ -18,7 +19,8 @@ pub struct Cursor {
 
 // What stands at a reading position. A line that is read comes with the position after it, whose `line` is
 // the line's own number, from 1; a line of bad form comes with its number.
-#[derive(Clone, Copy)]
+// An enum of its own: a `Result` of an `Option` is no plainer, for it would need an enum of the two kinds of line besides.
+#[derive(Debug, Clone, Copy, PartialEq, Eq)]
 pub enum LineRead {
     End,
     Bad {
@@ -37,69 +39,79 @@ pub enum LineRead {
     },
 }
 
-fn lesser(a: usize, b: usize) -> usize
-    ensures { result ≡ min a b }
-{
-    if a < b { a } else { b }
-}
-
-fn wide(b: u8) -> u64
-    ensures { (result ≡ b) × (result < 256) }
-{
-    b as u64
-}
-
 // The eight bytes from `i` on as one number, the first lowest. The compiler makes one load of it.
 fn word(text: &[u8], i: usize) -> u64
     requires { i + 8 ≤ length text.now }
     ensures { result ≡ word_at text.now 8 i }
 {
-    wide(text[i])
-        + wide(text[i + 1]) * 0x100
-        + wide(text[i + 2]) * 0x10000
-        + wide(text[i + 3]) * 0x1000000
-        + wide(text[i + 4]) * 0x100000000
-        + wide(text[i + 5]) * 0x10000000000
-        + wide(text[i + 6]) * 0x1000000000000
-        + wide(text[i + 7]) * 0x100000000000000
+    u64::from_le_bytes(<[u8; 8]>::try_from(&text[i..i + 8]).unwrap())
 }
 
-// Of the eight bytes from `i` on those that are not printable, each as 128 in its own byte of the number.
-// The high bit of a sum tells: plus 1, that the low seven bits are 7F hex; plus 60 hex, that they are at least 20 hex.
-fn printable_stops(text: &[u8], i: usize) -> u64
-    requires { i + 8 ≤ length text.now }
-    ensures { result ≡ stops_at is_printable text.now 8 i }
+// A class of bytes: the test of one byte, and of eight at once.
+trait ByteClass {
+    ghost holds: { ℕ → Bool };
+
+    fn holds(b: u8) -> bool
+        ensures { result ≡ holds b };
+
+    // Of the eight bytes from `i` on those outside the class, each as 128 in its own byte of the number.
+    fn stops(text: &[u8], i: usize) -> u64
+        requires { i + 8 ≤ length text.now }
+        ensures { result ≡ stops_at holds text.now 8 i };
+}
+
+// Bytes from 20 to 7E hex.
+struct Printable;
+
+// What a name may hold: printable bytes other than `=`.
+struct InName;
+
+impl ByteClass for Printable {
+    ghost holds = { is_printable };
+
+    fn holds(b: u8) -> bool {
+        32 <= b && b <= 126
+    }
+
+    // The high bit of a sum tells: plus 1, that the low seven bits are 7F hex; plus 60 hex, that they are at least 20 hex.
+    fn stops(text: &[u8], i: usize) -> u64 {
+        let x = word(text, i);
+        let low = x & 0x7f7f7f7f7f7f7f7f;
+        let high = low + 0x0101010101010101;
+        let shown = low + 0x6060606060606060;
+        (x | high | (shown ^ 0x8080808080808080)) & 0x8080808080808080
+    }
+}
+
+impl ByteClass for InName {
+    ghost holds = { is_name };
+
+    fn holds(b: u8) -> bool {
+        b != b'=' && Printable::holds(b)
+    }
+
+    fn stops(text: &[u8], i: usize) -> u64 {
+        Printable::stops(text, i) | marks_of(text, i, b'=')
+    }
+}
+
+// Of the eight bytes from `i` on those that are `b`, each as 128 in its own byte of the number. A byte that differs from `b` in
+// some bit has its high bit, or its low seven bits plus 7F hex have it.
+fn marks_of(bytes: &[u8], i: usize, b: u8) -> u64
+    requires { i + 8 ≤ length bytes.now }
+    ensures { result ≡ stops_at (λ y. not (eqb y b)) bytes.now 8 i }
 {
-    let x = word(text, i);
-    let low = x & 0x7f7f7f7f7f7f7f7f;
-    let high = low + 0x0101010101010101;
-    let shown = low + 0x6060606060606060;
-    (x | high | (shown ^ 0x8080808080808080)) & 0x8080808080808080
+    let x = word(bytes, i) ^ (u64::from(b) * 0x0101010101010101);
+    let other = (x & 0x7f7f7f7f7f7f7f7f) + 0x7f7f7f7f7f7f7f7f;
+    ((other | x) & 0x8080808080808080) ^ 0x8080808080808080
 }
 
-// Of the eight bytes from `i` on those that are `=` or not printable, likewise.
-// Plus 7F hex, the high bit tells that the low seven bits differ from those of `=`.
-fn name_stops(text: &[u8], i: usize) -> u64
-    requires { i + 8 ≤ length text.now }
-    ensures { result ≡ stops_at is_name text.now 8 i }
-{
-    let x = word(text, i);
-    let low = x & 0x7f7f7f7f7f7f7f7f;
-    let high = low + 0x0101010101010101;
-    let shown = low + 0x6060606060606060;
-    let other = (low ^ 0x3d3d3d3d3d3d3d3d) + 0x7f7f7f7f7f7f7f7f;
-    (x | high | ((shown & other) ^ 0x8080808080808080)) & 0x8080808080808080
-}
-
-// Whether none of the eight bytes from `i` on is `b`. A byte that differs from `b` in some bit has its high bit, or its low
-// seven bits plus 7F hex have it.
+// Whether none of the eight bytes from `i` on is `b`.
 pub fn lacks(bytes: &[u8], i: usize, b: u8) -> bool
     requires { i + 8 ≤ length bytes.now }
     ensures { result ≡ without b (take 8 (drop i bytes.now)) }
 {
-    let x = word(bytes, i) ^ (wide(b) * 0x0101010101010101);
-    let other = (x & 0x7f7f7f7f7f7f7f7f) + 0x7f7f7f7f7f7f7f7f;
-    (other | x) & 0x8080808080808080 == 0x8080808080808080
+    marks_of(bytes, i, b) == 0
 }
 
 // In which byte of a number its lowest 1 stands, 0 for the lowest byte.
@@ -114,82 +126,39 @@ pub fn first_of(bytes: &[u8], i: usize, b: u8) -> usize
     requires { (i + 8 ≤ length bytes.now) × (without b (take 8 (drop i bytes.now)) ≡ false) }
     ensures { result ≡ other_run b (drop i bytes.now) }
 {
-    let x = word(bytes, i) ^ (wide(b) * 0x0101010101010101);
-    let other = (x & 0x7f7f7f7f7f7f7f7f) + 0x7f7f7f7f7f7f7f7f;
-    first_stop(((other | x) & 0x8080808080808080) ^ 0x8080808080808080)
+    first_stop(marks_of(bytes, i, b))
 }
 
-// Where the printable bytes from `at` on end, byte by byte.
-fn printable_rest(text: &[u8], at: usize) -> usize
+// Where the bytes of a class from `at` on end, byte by byte.
+// Not inlined: fewer than eight bytes are left only at a text's end, and the code that reads lines is shorter without it.
+#[inline(never)]
+fn run_rest<C: ByteClass>(text: &[u8], at: usize) -> usize
     requires { at ≤ length text.now }
-    ensures { result ≡ at + printable_run (drop at text.now) }
+    ensures { result ≡ at + prefix_len C.holds (drop at text.now) }
 {
-    let mut i = at;
-    while i < text.len() {
-        let b = text[i];
-        if b < 32 {
+    for i in at..text.len() {
+        if !C::holds(text[i]) {
             return i;
         }
-        if 126 < b {
-            return i;
-        }
-        i += 1;
     }
-    i
+    text.len()
 }
 
-// Where the printable bytes other than `=` from `at` on end, byte by byte.
-fn name_rest(text: &[u8], at: usize) -> usize
+// Where the bytes of a class from `at` on end.
+// Eight bytes by an index: a `for` over `as_chunks` was tried, and takes 2 % more instructions to read lines.
+fn run_end<C: ByteClass>(text: &[u8], at: usize) -> usize
     requires { at ≤ length text.now }
-    ensures { result ≡ at + name_run (drop at text.now) }
-{
-    let mut i = at;
-    while i < text.len() {
-        let b = text[i];
-        if b == b'=' {
-            return i;
-        }
-        if b < 32 {
-            return i;
-        }
-        if 126 < b {
-            return i;
-        }
-        i += 1;
-    }
-    i
-}
-
-// Where the printable bytes from `at` on end.
-fn printable_end(text: &[u8], at: usize) -> usize
-    requires { at ≤ length text.now }
-    ensures { result ≡ at + printable_run (drop at text.now) }
+    ensures { result ≡ at + prefix_len C.holds (drop at text.now) }
 {
     let mut i = at;
     while 8 <= text.len() - i {
-        let stops = printable_stops(text, i);
+        let stops = C::stops(text, i);
         if stops != 0 {
             return i + first_stop(stops);
         }
         i += 8;
     }
-    printable_rest(text, i)
-}
-
-// Where the printable bytes other than `=` from `at` on end.
-fn name_end(text: &[u8], at: usize) -> usize
-    requires { at ≤ length text.now }
-    ensures { result ≡ at + name_run (drop at text.now) }
-{
-    let mut i = at;
-    while 8 <= text.len() - i {
-        let stops = name_stops(text, i);
-        if stops != 0 {
-            return i + first_stop(stops);
-        }
-        i += 8;
-    }
-    name_rest(text, i)
+    run_rest::<C>(text, i)
 }
 
 // Whether the bytes from `at` to `end` are as many as a line has, and CR LF follows.
@@ -197,20 +166,7 @@ fn is_line(text: &[u8], at: usize, end: usize) -> bool
     requires { (at ≤ end) × (end ≤ length text.now) }
     ensures { result ≡ is_line text.now at end }
 {
-    if end - at < 1 {
-        return false;
-    }
-    if 512 < end - at {
-        return false;
-    }
-    if text.len() - end < 2 {
-        return false;
-    }
-    if text[end] != 13 {
-        return false;
-    }
-    let second = end + 1;
-    text[second] == 10
+    (1..=512).contains(&(end - at)) && text[end..].starts_with(b"\r\n")
 }
 
 impl Cursor {
@@ -228,41 +184,38 @@ impl Cursor {
         if text.len() <= at {
             return LineRead::End;
         }
-        let number = lesser(self.line, at) + 1;
+        let number = self.line.min(at) + 1;
         if text[at] == b'[' {
-            let end = printable_end(text, at);
+            let end = run_end::<Printable>(text, at);
             if !is_line(text, at, end) {
                 return LineRead::Bad { line: number };
             }
-            let last = end - 1;
-            if text[last] != b']' {
+            if text[end - 1] != b']' {
                 return LineRead::Bad { line: number };
             }
-            let after = end + 2;
             return LineRead::Heading {
                 start: at,
-                end: end,
+                end,
                 next: Cursor {
-                    at: after,
+                    at: end + 2,
                     line: number,
                 },
             };
         }
-        let equals = name_end(text, at);
-        let end = printable_end(text, equals);
+        let equals = run_end::<InName>(text, at);
+        let end = run_end::<Printable>(text, equals);
         if !is_line(text, at, end) {
             return LineRead::Bad { line: number };
         }
         if equals == end {
             return LineRead::Bad { line: number };
         }
-        let after = end + 2;
         LineRead::Entry {
             start: at,
-            equals: equals,
-            end: end,
+            equals,
+            end,
             next: Cursor {
-                at: after,
+                at: end + 2,
                 line: number,
             },
         }
@@ -273,25 +226,25 @@ impl Cursor {
 pub fn all_printable(part: &[u8]) -> bool
     ensures { result ≡ all_printable part.now }
 {
-    printable_end(part, 0) == part.len()
+    run_end::<Printable>(part, 0) == part.len()
 }
 
 // Whether two parts of one length hold the same bytes from `at` on, byte by byte.
+#[tactic(auto, using(crate::proofs::Loops::same_more, crate::proofs::Loops::same_stop, crate::proofs::Loops::same_end))]
 fn equal_rest(a: &[u8], b: &[u8], at: usize) -> bool
     requires { (at ≤ length a.now) × (length a.now ≡ length b.now) }
     ensures { result ≡ same_bytes (drop at a.now) (drop at b.now) }
 {
-    let mut i = at;
-    while i < a.len() {
+    for i in at..a.len() {
         if a[i] != b[i] {
             return false;
         }
-        i += 1;
     }
     true
 }
 
 // Whether two parts hold the same bytes, capitals included.
+// Eight bytes at a time: `a == b` was tried, and takes 7 % more instructions to read lines and find their names.
 pub fn equal(a: &[u8], b: &[u8]) -> bool
     ensures { result ≡ same_bytes a.now b.now }
 {
@@ -308,7 +261,7 @@ pub fn equal(a: &[u8], b: &[u8]) -> bool
     equal_rest(a, b, i)
 }
 
-// The comparison of entry names, apart from that of words and headings.
+// The comparison of entry names: a function of its own, so that the compiler does not join it, which is done most, with the others.
 pub fn same_name(a: &[u8], b: &[u8]) -> bool
     ensures { result ≡ same_bytes a.now b.now }
 {
@@ -320,12 +273,9 @@ fn write(out: &mut [u8], at: usize, part: &[u8]) -> usize
     requires { at + length part.now ≤ length out.old }
     ensures { Wrote out.old at part.now out.new result }
 {
-    let mut i = 0;
-    while i < part.len() {
-        out[at + i] = part[i];
-        i += 1;
-    }
-    at + i
+    let end = at + part.len();
+    out[at..end].copy_from_slice(part);
+    end
 }
 
 // The line of a heading into `out` from `at` on; the place after it.

@@ -2,69 +2,20 @@
 // Standard input: for each text a title and the text, each ended by a byte 00.
 #![tactic(auto)]
 
-ghost use Rattle.std.specs.Prelude.{◌≡◌, ◌+◌, ◌≤◌, min, length};
+ghost use Rattle.std.specs.Prelude.{◌-◌, ◌≤◌, length};
 
 use lines::{Cursor, LineRead};
 use std::io;
 use std::io::{BufWriter, Read, Write};
 
-// Where the next byte 00 from `at` on is, or the end.
-fn part_end(input: &[u8], at: usize) -> usize
-    requires { at ≤ length input.now }
-    ensures { (at ≤ result) × (result ≤ length input.now) }
+// The bytes before the first byte 00, or all, and those after it.
+fn split_part(input: &[u8]) -> (&[u8], &[u8])
+    ensures { length result.1.now ≤ length input.now - 1 }
 {
-    let mut i = at;
-    while i < input.len() {
-        if input[i] == 0 {
-            return i;
-        }
-        i += 1;
+    match input.iter().position(|b| *b == 0) {
+        Some(end) => (&input[..end], &input[end + 1..]),
+        None => (input, &[]),
     }
-    i
-}
-
-// The place after a byte 00 at `end`, or the end.
-fn after(input: &[u8], end: usize) -> usize
-    ensures { result ≡ min (end + 1) (length input.now) }
-{
-    if end < input.len() {
-        end + 1
-    } else {
-        input.len()
-    }
-}
-
-fn print_number(out: &mut impl Write, n: usize) -> io::Result<()> {
-    write!(out, " {n}")
-}
-
-fn print_heading(out: &mut impl Write, line: usize, start: usize, end: usize) -> io::Result<()> {
-    out.write_all(b"heading")?;
-    print_number(out, line)?;
-    print_number(out, start)?;
-    print_number(out, end)?;
-    out.write_all(b"\n")
-}
-
-fn print_entry(
-    out: &mut impl Write,
-    line: usize,
-    start: usize,
-    equals: usize,
-    end: usize,
-) -> io::Result<()> {
-    out.write_all(b"entry")?;
-    print_number(out, line)?;
-    print_number(out, start)?;
-    print_number(out, equals)?;
-    print_number(out, end)?;
-    out.write_all(b"\n")
-}
-
-fn print_bad(out: &mut impl Write, line: usize) -> io::Result<()> {
-    out.write_all(b"bad")?;
-    print_number(out, line)?;
-    out.write_all(b"\n")
 }
 
 fn show_text(out: &mut impl Write, text: &[u8]) -> io::Result<()> {
@@ -72,13 +23,13 @@ fn show_text(out: &mut impl Write, text: &[u8]) -> io::Result<()> {
     loop {
         match c.read_line(text) {
             LineRead::End => {
-                return out.write_all(b"end\n");
+                return writeln!(out, "end");
             }
             LineRead::Bad { line } => {
-                return print_bad(out, line);
+                return writeln!(out, "bad {line}");
             }
             LineRead::Heading { start, end, next } => {
-                print_heading(out, next.line, start, end)?;
+                writeln!(out, "heading {} {start} {end}", next.line)?;
                 c = next;
             }
             LineRead::Entry {
@@ -87,7 +38,7 @@ fn show_text(out: &mut impl Write, text: &[u8]) -> io::Result<()> {
                 end,
                 next,
             } => {
-                print_entry(out, next.line, start, equals, end)?;
+                writeln!(out, "entry {} {start} {equals} {end}", next.line)?;
                 c = next;
             }
         }
@@ -95,16 +46,15 @@ fn show_text(out: &mut impl Write, text: &[u8]) -> io::Result<()> {
 }
 
 fn show_all(out: &mut impl Write, input: &[u8]) -> io::Result<()> {
-    let mut at = 0;
-    while at < input.len() {
-        let title = part_end(input, at);
+    let mut rest = input;
+    while !rest.is_empty() {
+        let (title, behind) = split_part(rest);
+        let (text, others) = split_part(behind);
         out.write_all(b"-- ")?;
-        out.write_all(&input[at..title])?;
+        out.write_all(title)?;
         out.write_all(b"\n")?;
-        let from = after(input, title);
-        let end = part_end(input, from);
-        show_text(out, &input[from..end])?;
-        at = after(input, end);
+        show_text(out, text)?;
+        rest = others;
     }
     Ok(())
 }

@@ -7,8 +7,8 @@ use lib.ListN.{length, get_or}
 use borrow.Author.Tests.{le-leb, lt-leb}
 use Rattle.serial.specs.Reading.{Ordered, read_identification}
 use Rattle.serial.specs.declared.FieldEnds.{FieldEnds}
-use Rattle.serial.specs.declared.IdentificationRead.{IdentificationRead}
-use Rattle.serial.specs.declared.IdentificationRead.TheVariants.{Malformed, Fields}
+use Rattle.serial.specs.declared.FieldEnds.{FieldEnds}
+use Rattle.std.specs.Prelude.{Option, Some, None}
 use Rattle.serial.proofs.Exact.{read-sound}
 use Rattle.mctc.specs.Answers.{answer_size, Filled}
 use Rattle.mctc.specs.Calls.{too_short, AskCall}
@@ -72,12 +72,12 @@ small e (a, b, d, f, g, h, i, j, k, l) =
       vermctcnet = omega arith;
     }
 
-fit : (t : List ℕ) (x : IdentificationRead) → read_identification t ≡ x → EndsFit x
-fit t Malformed e = tt
-fit t (Fields x) e =
+fit : (t : List ℕ) (x : Option FieldEnds) → read_identification t ≡ x → EndsFit x
+fit t None e = tt
+fit t (Some x) e =
     let w = read-sound t x e in
     let o = w.ordered in
     (o.0, o.1, o.2, o.3, o.4, o.5, o.6, o.7, o.8, omega (arith, o.9, w.short))
 
-pub ends-fit : (t : List ℕ) (x : IdentificationRead) → x ≡ read_identification t → EndsFit x
+pub ends-fit : (t : List ℕ) (x : Option FieldEnds) → x ≡ read_identification t → EndsFit x
 ends-fit t x e = fit t x (sym e)

@@ -9,38 +9,32 @@ use lib.ListN.{length, get_or, take}
 use borrow.Author.Tests.{le-leb, lt-leb}
 use Rattle.kinds.specs.Kind.{Kind}
 use Rattle.kinds.specs.declared.shapes.Shape.{Shape}
-use Rattle.refusals.specs.Answer.{Answer}
+use Rattle.std.specs.Prelude.{Result, Ok, Err}
+use Rattle.refusals.specs.Answer.{Answer, answer_is}
+use Rattle.refusals.specs.declared.Refusal.{Refusal}
 use Rattle.refusals.proofs.Laws.{not-zero}
 use Rattle.tables.specs.File.{least_places}
 use Rattle.files.specs.Alone as F
-use Rattle.files.specs.declared.FileAnswer.{FileAnswer}
 use Rattle.writing.specs.Writing as W
 use Rattle.writing.specs.ReadBack.{IsReadBack}
-use Rattle.writing.specs.declared.WriteAnswer.{WriteAnswer}
 use Rattle.writing.proofs.Theorem.{reads-back}
 use Rattle.names.specs.Names as N
-use Rattle.names.specs.declared.NameAnswer.{NameAnswer}
-use Rattle.names.specs.declared.KindAnswer.{KindAnswer}
-use Rattle.sets.specs.Judge as J
 use Rattle.sets.specs.Records.{Caller, Slices}
 use Rattle.files.specs.declared.FileAcceptance.{FileAcceptance}
 use Rattle.writing.specs.declared.WriteAcceptance.{WriteAcceptance}
 use Rattle.names.specs.declared.Named.{Named}
 use Rattle.columns.specs.declared.ColumnAcceptance.{ColumnAcceptance}
 use Rattle.sets.specs.declared.Acceptance.{Acceptance}
-use Rattle.sets.specs.declared.SetAnswer.{SetAnswer}
-use Rattle.sets.specs.declared.SetAnswer.TheVariants.{Accepted, Refused}
 use Rattle.sets.specs.Demand3.{IsAccepted, Demand3}
 use Rattle.judge.specs.Judged.{SetJudged}
 use Rattle.columns.specs.Column as C
-use Rattle.columns.specs.declared.ColumnAnswer.{ColumnAnswer}
 use Rattle.mctc.specs.Answers.{answer_size, read_numbers, write_numbers, name_numbers, kind_numbers, set_numbers, due_numbers, Filled}
 use Rattle.mctc.specs.Calls.{too_short, ReadCall, WriteCall, NameCall, KindCall, JudgeCall, DueCall}
 
 -- 0 is returned exactly where a set is accepted: no refusal has that number
-zero-accepts : (x : SetAnswer) (r : ℕ) → r ≡ get_or (set_numbers (J.answer_is x)) 0 0 → (r ≡ 0) ↔ IsAccepted (J.answer_is x)
-zero-accepts (Accepted a) r e = (λ z. tt, λ z. e)
-zero-accepts (Refused x) r e = (λ z. absurd (omega (arith, not-zero x.kind)), λ z. absurd z)
+zero-accepts : (x : Result Acceptance Refusal) (r : ℕ) → r ≡ get_or (set_numbers (answer_is x)) 0 0 → (r ≡ 0) ↔ IsAccepted (answer_is x)
+zero-accepts (Ok a) r e = (λ z. tt, λ z. e)
+zero-accepts (Err x) r e = (λ z. absurd (omega (arith, not-zero x.kind)), λ z. absurd z)
 
 -- an answer array that is too short: nothing is done
 module _ (a : List ℕ) (l : length a < answer_size) where
@@ -73,37 +67,37 @@ module _ (a : List ℕ) (l : length a < answer_size) where
 
 -- one that is long enough: what was answered is in it
 module _ (a b : List ℕ) (r : ℕ) (l : answer_size ≤ length a) where
-  pub read_done : (file : ℕ) (s p q : List ℕ) (x : FileAnswer) → F.ReadsAlone file s p q x → Filled (read_numbers (F.answer_is x)) a b r → ReadCall file s p q a b r
+  pub read_done : (file : ℕ) (s p q : List ℕ) (x : Result FileAcceptance Refusal) → F.ReadsAlone file s p q x → Filled (read_numbers (answer_is x)) a b r → ReadCall file s p q a b r
   read_done file s p q x h f =
       let t = le-leb answer_size (length a) l in
       let g = subst (λ (y : Answer FileAcceptance). Filled (read_numbers y) a b r) h.answer f in
       record { number = rw t g.number; answer = rw t g.answer; places = rw t h.places }
 
-  pub write_done : (s p : List ℕ) (file n : ℕ) (o t : List ℕ) (x : WriteAnswer) → W.Writes s p file n o t x → Filled (write_numbers (W.answer_is x)) a b r → WriteCall s p file n o t a b r
+  pub write_done : (s p : List ℕ) (file n : ℕ) (o t : List ℕ) (x : Result WriteAcceptance Refusal) → W.Writes s p file n o t x → Filled (write_numbers (answer_is x)) a b r → WriteCall s p file n o t a b r
   write_done s p file n o t x h f =
       let e = le-leb answer_size (length a) l in
       let g = subst (λ (y : Answer WriteAcceptance). Filled (write_numbers y) a b r) h.answer f in
       record { number = rw e g.number; answer = rw e g.answer; output = rw e h.output; reads-back = back x h f }
     where
-      back : (x : WriteAnswer) → W.Writes s p file n o t x → Filled (write_numbers (W.answer_is x)) a b r → r ≡ 0 → (q : List ℕ) → least_places ≤ length q → IsReadBack file n s p (take (get_or b 3 0) t) q
-      back (WriteAnswer.Refused x) h f z q k = absurd (omega (arith, not-zero x.kind, f.number))
-      back (WriteAnswer.Written x) h f z q k =
+      back : (x : Result WriteAcceptance Refusal) → W.Writes s p file n o t x → Filled (write_numbers (answer_is x)) a b r → r ≡ 0 → (q : List ℕ) → least_places ≤ length q → IsReadBack file n s p (take (get_or b 3 0) t) q
+      back (Err x) h f z q k = absurd (omega (arith, not-zero x.kind, f.number))
+      back (Ok x) h f z q k =
           let m : get_or b 3 0 ≡ x.length = ap (λ (y : List ℕ). get_or y 3 0) f.answer in
           rw (m, h.output) (reads-back file n s p o x.length (sym h.answer) q k)
 
-  pub name_done : (file : ℕ) (x : Option N.Name) (o t : List ℕ) (y : NameAnswer) → N.Copies file x o t y → Filled (name_numbers (N.answer_is y)) a b r → NameCall file x o t a b r
+  pub name_done : (file : ℕ) (x : Option N.Name) (o t : List ℕ) (y : Result Named Refusal) → N.Copies file x o t y → Filled (name_numbers (answer_is y)) a b r → NameCall file x o t a b r
   name_done file x o t y h f =
       let e = le-leb answer_size (length a) l in
       let g = subst (λ (z : Answer Named). Filled (name_numbers z) a b r) h.answer f in
       record { number = rw e g.number; answer = rw e g.answer; output = rw e h.output }
 
-  pub kind-done : (file : ℕ) (x : Option Kind) (y : KindAnswer) → N.kind_answer_is y ≡ N.kind_answer_of file x → Filled (kind_numbers (N.kind_answer_is y)) a b r → KindCall file x a b r
+  pub kind-done : (file : ℕ) (x : Option Kind) (y : Result Shape Refusal) → answer_is y ≡ N.kind_answer_of file x → Filled (kind_numbers (answer_is y)) a b r → KindCall file x a b r
   kind-done file x y h f =
       let e = le-leb answer_size (length a) l in
       let g = subst (λ (z : Answer Shape). Filled (kind_numbers z) a b r) h f in
       record { number = rw e g.number; answer = rw e g.answer }
 
-  pub judge-done : (caller : Caller) (s : Slices) (p q : List ℕ) (x : SetAnswer) → SetJudged caller s p q x → Filled (set_numbers (J.answer_is x)) a b r → JudgeCall caller s p q a b r
+  pub judge-done : (caller : Caller) (s : Slices) (p q : List ℕ) (x : Result Acceptance Refusal) → SetJudged caller s p q x → Filled (set_numbers (answer_is x)) a b r → JudgeCall caller s p q a b r
   judge-done caller s p q x h f =
       let t = le-leb answer_size (length a) l in
       let g = subst (λ (y : Answer Acceptance). Filled (set_numbers y) a b r) h.answer f in
@@ -118,7 +112,7 @@ module _ (a b : List ℕ) (r : ℕ) (l : answer_size ≤ length a) where
         leaves = record { zero = λ n. v.zero (λ k. n.1 (z.1 k)); short = v.short; beyond = v.beyond; same_length = v.same_length };
       }
 
-  pub due-done : (file : ℕ) (s t p q d e : List ℕ) (x : ColumnAnswer) → C.Gives file (C.due_column file s t p (length d)) p q d e x → Filled (due_numbers (C.answer_is x)) a b r
+  pub due-done : (file : ℕ) (s t p q d e : List ℕ) (x : Result ColumnAcceptance Refusal) → C.Gives file (C.due_column file s t p (length d)) p q d e x → Filled (due_numbers (answer_is x)) a b r
       → DueCall file s t p q d e a b r
   due-done file s t p q d e x h f =
       let z = le-leb answer_size (length a) l in

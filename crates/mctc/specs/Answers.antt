@@ -32,30 +32,44 @@ abbrev pub mark_number : Bool → ℕ
 mark_number b = cond b 1 0
 
 -- a file read alone (01, Writing): "the same places and axle count"; in number 9, as of a set, whether the idle speed was entered by hand (02, 1/14)
+abbrev pub read_carried : FileAcceptance → List ℕ
+read_carried a = a.axles ∷ 0 ∷ 0 ∷ 0 ∷ 0 ∷ 0 ∷ mark_number a.byhand ∷ []
+
 abbrev pub read_numbers : Answer FileAcceptance → List ℕ
-read_numbers = numbers_of (λ a. a.axles ∷ 0 ∷ 0 ∷ 0 ∷ 0 ∷ 0 ∷ mark_number a.byhand ∷ [])
+read_numbers = numbers_of read_carried
 
 -- a written file (01, Writing): "the answer is its length"
+abbrev pub write_carried : WriteAcceptance → List ℕ
+write_carried a = a.length ∷ []
+
 abbrev pub write_numbers : Answer WriteAcceptance → List ℕ
-write_numbers = numbers_of (λ a. a.length ∷ [])
+write_numbers = numbers_of write_carried
 
 -- a copied name: its length, and the number of its section
+abbrev pub name_carried : Named → List ℕ
+name_carried a = a.length ∷ a.section ∷ []
+
 abbrev pub name_numbers : Answer Named → List ℕ
-name_numbers = numbers_of (λ a. a.length ∷ a.section ∷ [])
+name_numbers = numbers_of name_carried
 
 -- the kind of an entry (01, Kinds of value): its form, the most bytes, the digits behind the point, how many words
+abbrev pub kind_carried : Shape → List ℕ
+kind_carried a = a.form ∷ a.most ∷ a.decimals ∷ a.words ∷ []
+
 abbrev pub kind_numbers : Answer Shape → List ℕ
-kind_numbers = numbers_of (λ a. a.form ∷ a.most ∷ a.decimals ∷ a.words ∷ [])
+kind_numbers = numbers_of kind_carried
 
 -- the due column of a file: its axle count, and how many entries the column has
+abbrev pub due_carried : ColumnAcceptance → List ℕ
+due_carried a = a.axles ∷ a.count ∷ []
+
 abbrev pub due_numbers : Answer ColumnAcceptance → List ℕ
-due_numbers = numbers_of (λ a. a.axles ∷ a.count ∷ [])
+due_numbers = numbers_of due_carried
 
 -- a judged set (01, Judging): "two axle counts .. and a mark per result file", in number 8 opacity's (02, 2/14); in number 9 whether
 -- gas's idle speed was entered by hand (02, 1/14)
-abbrev pub set_numbers : Answer Acceptance → List ℕ
-set_numbers =
-    numbers_of (λ a.
+abbrev pub set_carried : Acceptance → List ℕ
+set_carried a =
     a.driftaxles ∷
     a.suspensionaxles ∷
     mark_number a.driftmark ∷
@@ -63,7 +77,10 @@ set_numbers =
     mark_number a.gasmark ∷
     mark_number a.opacitymark ∷
     mark_number a.gasbyhand ∷
-    [])
+    []
+
+abbrev pub set_numbers : Answer Acceptance → List ℕ
+set_numbers = numbers_of set_carried
 
 -- there are numbers, and the array has room for them
 pub record Room (ns lent : List ℕ) : Type 0 where

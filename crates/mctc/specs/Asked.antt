@@ -1,11 +1,9 @@
 -- What the calls that explain say (01, Due entries, Identification answer and row 11): no call of these judges, they give what
 -- the judge goes by.
-use Rattle.std.specs.Prelude.{ℕ, cond, List, [], ◌∷◌, eqb}
+use Rattle.std.specs.Prelude.{ℕ, cond, List, [], ◌∷◌, eqb, Option, Some, None}
 use Rattle.tables.specs.File.{identification_number}
 use Rattle.serial.specs.Reading.{Ordered, read_identification}
 use Rattle.serial.specs.declared.FieldEnds.{FieldEnds}
-use Rattle.serial.specs.declared.IdentificationRead.{IdentificationRead}
-use Rattle.serial.specs.declared.IdentificationRead.TheVariants.{Malformed, Fields}
 use Rattle.reasons.specs.Tests.{is_test, test_of, passes_some}
 use Rattle.reasons.specs.Asked.{entry_asked, entry_reasons, file_asked, file_reasons, is_of_seven, field_entry}
 use Rattle.refusals.specs.Answer.{Answer, refusal, acceptance}
@@ -34,20 +32,20 @@ abbrev pub test_numbers : ℕ → List ℕ → List ℕ
 test_numbers test v = cond (is_test test) (accepted (mark_number (passes_some (test_of test) v) ∷ [])) (no_such 0)
 
 -- the identification answer read: where its ten fields end; 14 where it is not of the form
-abbrev pub fields_of : IdentificationRead → Answer FieldEnds
-fields_of Malformed = refusal 14 identification_number 0
-fields_of (Fields e) = acceptance e
+abbrev pub fields_of : Option FieldEnds → Answer FieldEnds
+fields_of None = refusal 14 identification_number 0
+fields_of (Some e) = acceptance e
 
-abbrev pub field_numbers : IdentificationRead → List ℕ
+abbrev pub field_numbers : Option FieldEnds → List ℕ
 field_numbers x =
     numbers_of
     (λ e. e.gas ∷ e.address ∷ e.id ∷ e.mar ∷ e.model ∷ e.numom ∷ e.numser ∷ e.datasca ∷ e.numver ∷ e.vermctcnet ∷ [])
     (fields_of x)
 
 -- the ends are places of at most 512 bytes
-abbrev pub EndsFit : IdentificationRead → Type 0
-EndsFit Malformed = Unit {0}
-EndsFit (Fields e) = Ordered 512 e
+abbrev pub EndsFit : Option FieldEnds → Type 0
+EndsFit None = Unit {0}
+EndsFit (Some e) = Ordered 512 e
 
 abbrev pub identification_numbers : List ℕ → List ℕ
 identification_numbers s = field_numbers (read_identification s)

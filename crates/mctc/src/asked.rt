@@ -1,14 +1,13 @@
 // What the judge goes by, for whoever explains a refusal: what is asked of an entry and of a file, for which reasons,
 // whether a value passes a test, and the fields of the identification answer. Nothing is judged here.
-ghost use Rattle.std.specs.Prelude.{◌≤◌, length};
+ghost use Rattle.std.specs.Prelude.{◌≤◌, length, Some};
 ghost use Rattle.serial.specs.Reading.{Ordered};
-ghost use Rattle.serial.specs.declared.IdentificationRead.{IdentificationRead};
 ghost use Rattle.mctc.specs.Answers.{answer_size, Filled};
 ghost use Rattle.mctc.specs.Asked.{no_such, asked_numbers, condition_numbers, file_numbers, test_numbers, field_numbers, EndsFit, identification_numbers, entry_numbers};
 ghost use Rattle.mctc.specs.Calls.{AskCall};
 
 use refusals::{Refusal, RefusalKind};
-use serial::{FieldEnds, IdentificationRead};
+use serial::FieldEnds;
 
 // Number 16: there is no such file, entry, test or field.
 fn fill_no_such(answer: &mut [u32], file: u32) -> u32
@@ -19,7 +18,7 @@ fn fill_no_such(answer: &mut [u32], file: u32) -> u32
         answer,
         Refusal {
             kind: RefusalKind::FileOrAxles,
-            file: file,
+            file,
             line: 0,
         },
     )
@@ -74,40 +73,42 @@ pub fn mctc_test(test: u32, value: &[u8], answer: &mut [u32]) -> u32
     if !reasons::is_test(test) {
         return fill_no_such(answer, 0);
     }
-    let passed = crate::mark_number(reasons::passes(test, value));
+    let passed = u32::from(reasons::passes(test, value));
     crate::fill(answer, &[0, 0, 0, passed])
 }
 
 // Where each of the ten fields ends.
 fn fill_ends(answer: &mut [u32], e: FieldEnds) -> u32
     requires { (answer_size ≤ length answer.old) × Ordered 512 e }
-    ensures { Filled (field_numbers (IdentificationRead.Fields e)) answer.old answer.new result }
+    ensures { Filled (field_numbers (Some e)) answer.old answer.new result }
 {
-    let gas = e.gas as u32;
-    let address = e.address as u32;
-    let id = e.id as u32;
-    let mar = e.mar as u32;
-    let model = e.model as u32;
-    let numom = e.numom as u32;
-    let numser = e.numser as u32;
-    let datasca = e.datasca as u32;
-    let numver = e.numver as u32;
-    let vermctcnet = e.vermctcnet as u32;
     crate::fill(
         answer,
         &[
-            0, 0, 0, gas, address, id, mar, model, numom, numser, datasca, numver, vermctcnet,
+            0,
+            0,
+            0,
+            e.gas as u32,
+            e.address as u32,
+            e.id as u32,
+            e.mar as u32,
+            e.model as u32,
+            e.numom as u32,
+            e.numser as u32,
+            e.datasca as u32,
+            e.numver as u32,
+            e.vermctcnet as u32,
         ],
     )
 }
 
 // What reading the identification answer says.
-fn fill_fields(answer: &mut [u32], read: IdentificationRead) -> u32
+fn fill_fields(answer: &mut [u32], read: Option<FieldEnds>) -> u32
     requires { (answer_size ≤ length answer.old) × EndsFit read }
     ensures { Filled (field_numbers read) answer.old answer.new result }
 {
     match read {
-        IdentificationRead::Malformed => crate::fill_refusal(
+        None => crate::fill_refusal(
             answer,
             Refusal {
                 kind: RefusalKind::IdentificationForm,
@@ -115,7 +116,7 @@ fn fill_fields(answer: &mut [u32], read: IdentificationRead) -> u32
                 line: 0,
             },
         ),
-        IdentificationRead::Fields(e) => fill_ends(answer, e),
+        Some(e) => fill_ends(answer, e),
     }
 }
 

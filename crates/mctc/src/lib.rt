@@ -5,22 +5,20 @@
 
 pub mod asked; // asked.rt: what the judge goes by, for whoever explains a refusal
 
-ghost use Rattle.std.specs.Prelude.{◌≡◌, ◌≤◌, length};
-ghost use Rattle.files.specs.Alone as F;
-ghost use Rattle.writing.specs.Writing as W;
+ghost use Rattle.std.specs.Prelude.{◌≡◌, ◌≤◌, ◌∷◌, List, ℕ, length};
+ghost use Rattle.refusals.specs.Answer.{answer_is};
 ghost use Rattle.names.specs.Names as N;
-ghost use Rattle.sets.specs.Judge as J;
 ghost use Rattle.sets.specs.Records.{caller_of, slices_of};
-ghost use Rattle.columns.specs.Column as C;
-ghost use Rattle.mctc.specs.Answers.{answer_size, refusal_numbers, read_numbers, write_numbers, name_numbers, kind_numbers, mark_number, set_numbers, due_numbers, Room, Filled};
+ghost use Rattle.mctc.specs.Answers.{answer_size, refusal_numbers, numbers_of, read_carried, write_carried, name_carried, kind_carried, set_carried, due_carried, Room, Filled};
 ghost use Rattle.mctc.specs.Calls.{ReadCall, WriteCall, NameCall, KindCall, JudgeCall, DueCall};
 
-use columns::ColumnAnswer;
-use files::FileAnswer;
-use names::{KindAnswer, NameAnswer};
+use columns::ColumnAcceptance;
+use files::FileAcceptance;
+use kinds::shapes::Shape;
+use names::Named;
 use refusals::Refusal;
-use sets::SetAnswer;
-use writing::WriteAnswer;
+use sets::Acceptance;
+use writing::WriteAcceptance;
 
 // How many numbers an answer takes. All are set, so that a later version can use more of them.
 const ANSWER_SIZE: usize = 16;
@@ -34,11 +32,7 @@ fn fill(answer: &mut [u32], numbers: &[u32]) -> u32
     ensures { Filled numbers.now answer.old answer.new result }
 {
     places::clear(answer, ANSWER_SIZE);
-    let mut i = 0;
-    while i < numbers.len() {
-        answer[i] = numbers[i];
-        i += 1;
-    }
+    answer[..numbers.len()].copy_from_slice(numbers);
     numbers[0]
 }
 
@@ -47,80 +41,105 @@ fn fill_refusal(answer: &mut [u32], refusal: Refusal) -> u32
     requires { answer_size ≤ length answer.old }
     ensures { Filled (refusal_numbers refusal) answer.old answer.new result }
 {
-    let kind = refusal.kind;
-    let number = refusals::refusal_number(kind);
-    let file = refusal.file;
-    let line = refusal.line;
-    fill(answer, &[number, file, line])
+    let number = refusals::refusal_number(refusal.kind);
+    fill(answer, &[number, refusal.file, refusal.line])
 }
 
-// A mark that is set is 1.
-fn mark_number(mark: bool) -> u32
-    ensures { result ≡ mark_number mark }
-{
-    if mark { 1 } else { 0 }
+// What an acceptance carries, as the numbers that follow the first three.
+trait Carries {
+    ghost carried: { Self → List ℕ };
+
+    // The answer of an acceptance.
+    fn fill(self, answer: &mut [u32]) -> u32
+        requires { answer_size ≤ length answer.old }
+        ensures { Filled (0 ∷ 0 ∷ 0 ∷ carried self) answer.old answer.new result };
 }
 
-// What reading a file alone says.
-fn fill_read(answer: &mut [u32], read: FileAnswer) -> u32
-    requires { answer_size ≤ length answer.old }
-    ensures { Filled (read_numbers (F.answer_is read)) answer.old answer.new result }
-{
-    match read {
-        FileAnswer::Refused(x) => fill_refusal(answer, x),
-        FileAnswer::Accepted(a) => {
-            let axles = a.axles;
-            let byhand = mark_number(a.byhand);
-            fill(answer, &[0, 0, 0, axles, 0, 0, 0, 0, 0, byhand])
-        }
+// A file read alone.
+impl Carries for FileAcceptance {
+    ghost carried = { read_carried };
+
+    fn fill(self, answer: &mut [u32]) -> u32 {
+        let byhand = u32::from(self.byhand);
+        fill(answer, &[0, 0, 0, self.axles, 0, 0, 0, 0, 0, byhand])
     }
 }
 
-// What writing a file says.
-fn fill_written(answer: &mut [u32], written: WriteAnswer) -> u32
-    requires { answer_size ≤ length answer.old }
-    ensures { Filled (write_numbers (W.answer_is written)) answer.old answer.new result }
-{
-    match written {
-        WriteAnswer::Refused(x) => fill_refusal(answer, x),
-        WriteAnswer::Written(a) => {
-            let length = a.length;
-            fill(answer, &[0, 0, 0, length])
-        }
+// A written file.
+impl Carries for WriteAcceptance {
+    ghost carried = { write_carried };
+
+    fn fill(self, answer: &mut [u32]) -> u32 {
+        fill(answer, &[0, 0, 0, self.length])
     }
 }
 
-// What judging a set says.
-fn fill_judged(answer: &mut [u32], judged: SetAnswer) -> u32
+// A judged set.
+impl Carries for Acceptance {
+    ghost carried = { set_carried };
+
+    fn fill(self, answer: &mut [u32]) -> u32 {
+        let drift = u32::from(self.driftmark);
+        let suspension = u32::from(self.suspensionmark);
+        let gas = u32::from(self.gasmark);
+        let opacity = u32::from(self.opacitymark);
+        let byhand = u32::from(self.gasbyhand);
+        fill(
+            answer,
+            &[
+                0,
+                0,
+                0,
+                self.driftaxles,
+                self.suspensionaxles,
+                drift,
+                suspension,
+                gas,
+                opacity,
+                byhand,
+            ],
+        )
+    }
+}
+
+// A copied name.
+impl Carries for Named {
+    ghost carried = { name_carried };
+
+    fn fill(self, answer: &mut [u32]) -> u32 {
+        fill(answer, &[0, 0, 0, self.length, self.section])
+    }
+}
+
+// The kind of an entry.
+impl Carries for Shape {
+    ghost carried = { kind_carried };
+
+    fn fill(self, answer: &mut [u32]) -> u32 {
+        fill(
+            answer,
+            &[0, 0, 0, self.form, self.most, self.decimals, self.words],
+        )
+    }
+}
+
+// The due column of a file, besides its numbers.
+impl Carries for ColumnAcceptance {
+    ghost carried = { due_carried };
+
+    fn fill(self, answer: &mut [u32]) -> u32 {
+        fill(answer, &[0, 0, 0, self.axles, self.count])
+    }
+}
+
+// What a call says that accepts or refuses.
+fn fill_answer<A: Carries>(answer: &mut [u32], given: Result<A, Refusal>) -> u32
     requires { answer_size ≤ length answer.old }
-    ensures { Filled (set_numbers (J.answer_is judged)) answer.old answer.new result }
+    ensures { Filled (numbers_of A.carried (answer_is given)) answer.old answer.new result }
 {
-    match judged {
-        SetAnswer::Refused(x) => fill_refusal(answer, x),
-        SetAnswer::Accepted(a) => {
-            let drift = mark_number(a.driftmark);
-            let suspension = mark_number(a.suspensionmark);
-            let gas = mark_number(a.gasmark);
-            let opacity = mark_number(a.opacitymark);
-            let driftaxles = a.driftaxles;
-            let suspensionaxles = a.suspensionaxles;
-            let byhand = mark_number(a.gasbyhand);
-            fill(
-                answer,
-                &[
-                    0,
-                    0,
-                    0,
-                    driftaxles,
-                    suspensionaxles,
-                    drift,
-                    suspension,
-                    gas,
-                    opacity,
-                    byhand,
-                ],
-            )
-        }
+    match given {
+        Err(x) => fill_refusal(answer, x),
+        Ok(a) => a.fill(answer),
     }
 }
 
@@ -156,7 +175,7 @@ pub fn mctc_judge(
         opacity,
         places,
     );
-    fill_judged(answer, judged)
+    fill_answer(answer, judged)
 }
 
 // One file read alone (01, Writing).
@@ -167,7 +186,7 @@ pub fn mctc_read(file: u32, text: &[u8], places: &mut [u32], answer: &mut [u32])
         return TOO_SHORT;
     }
     let read = files::read_alone(file, text, places);
-    fill_read(answer, read)
+    fill_answer(answer, read)
 }
 
 // One file written from a text and its pairs (01, Writing).
@@ -185,22 +204,7 @@ pub fn mctc_write(
         return TOO_SHORT;
     }
     let written = writing::write_file(text, places, file, axles, output);
-    fill_written(answer, written)
-}
-
-// What copying a name says.
-fn fill_name(answer: &mut [u32], copied: NameAnswer) -> u32
-    requires { answer_size ≤ length answer.old }
-    ensures { Filled (name_numbers (N.answer_is copied)) answer.old answer.new result }
-{
-    match copied {
-        NameAnswer::Refused(x) => fill_refusal(answer, x),
-        NameAnswer::Named(a) => {
-            let length = a.length;
-            let section = a.section;
-            fill(answer, &[0, 0, 0, length, section])
-        }
-    }
+    fill_answer(answer, written)
 }
 
 // The name of an entry, by its number in the order of the file's pairs (01, Judging).
@@ -211,7 +215,7 @@ pub fn mctc_entry_name(file: u32, entry: u32, output: &mut [u8], answer: &mut [u
         return TOO_SHORT;
     }
     let copied = names::copy_entry_name(file, entry, output);
-    fill_name(answer, copied)
+    fill_answer(answer, copied)
 }
 
 // The heading of a section, brackets included, by its number in the order of the file's table (01, Bookings, Results).
@@ -222,24 +226,7 @@ pub fn mctc_heading_name(file: u32, section: u32, output: &mut [u8], answer: &mu
         return TOO_SHORT;
     }
     let copied = names::copy_heading(file, section, output);
-    fill_name(answer, copied)
-}
-
-// What the kind of an entry says.
-fn fill_kind(answer: &mut [u32], found: KindAnswer) -> u32
-    requires { answer_size ≤ length answer.old }
-    ensures { Filled (kind_numbers (N.kind_answer_is found)) answer.old answer.new result }
-{
-    match found {
-        KindAnswer::Refused(x) => fill_refusal(answer, x),
-        KindAnswer::Shaped(a) => {
-            let form = a.form;
-            let most = a.most;
-            let decimals = a.decimals;
-            let words = a.words;
-            fill(answer, &[0, 0, 0, form, most, decimals, words])
-        }
-    }
+    fill_answer(answer, copied)
 }
 
 // What a filled value of an entry must look like, by its number in the order of the file's pairs (01, Kinds of value).
@@ -250,7 +237,7 @@ pub fn mctc_kind(file: u32, entry: u32, answer: &mut [u32]) -> u32
         return TOO_SHORT;
     }
     let found = names::kind_of_entry(file, entry);
-    fill_kind(answer, found)
+    fill_answer(answer, found)
 }
 
 // A word that an entry's value may be, by its number in the order of its list (01, Kinds of value).
@@ -261,22 +248,7 @@ pub fn mctc_word(file: u32, entry: u32, word: u32, output: &mut [u8], answer: &m
         return TOO_SHORT;
     }
     let copied = names::copy_word(file, entry, word, output);
-    fill_name(answer, copied)
-}
-
-// What the due column of a file says besides its numbers.
-fn fill_column(answer: &mut [u32], given: ColumnAnswer) -> u32
-    requires { answer_size ≤ length answer.old }
-    ensures { Filled (due_numbers (C.answer_is given)) answer.old answer.new result }
-{
-    match given {
-        ColumnAnswer::Refused(x) => fill_refusal(answer, x),
-        ColumnAnswer::Column(a) => {
-            let axles = a.axles;
-            let count = a.count;
-            fill(answer, &[0, 0, 0, axles, count])
-        }
-    }
+    fill_answer(answer, copied)
 }
 
 // The due column of one file (01, Due entries).
@@ -294,5 +266,5 @@ pub fn mctc_due(
         return TOO_SHORT;
     }
     let given = columns::due_column(file, ac2, text, places, column);
-    fill_column(answer, given)
+    fill_answer(answer, given)
 }

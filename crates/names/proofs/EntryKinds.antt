@@ -2,6 +2,7 @@
 use Prim.Native.Nat.{ℕ, suc, ◌+◌, ◌-◌, ◌≤◌, ◌<◌}
 use native.Mathlib.Omega.{arith}
 use mathlib.Core.Path.{◌≡◌, ap, sym, ◌∙◌}
+use mathlib.Core.Bool.{true}
 use mathlib.Core.Option.{Option, none, some}
 use mathlib.Core.List.{List, [], ◌∷◌, ◌++◌, map}
 use lib.Dec.{ltb}
@@ -11,15 +12,16 @@ use borrow.Author.Tests.{lt-ltb, le-ltb, ltb-true, ltb-false}
 use Rattle.kinds.specs.Kind.{Kind, kind_of}
 use Rattle.kinds.specs.Shapes.{words_in, shape_of}
 use Rattle.kinds.specs.declared.shapes.Shape.{Shape}
+use Rattle.lines.proofs.Bools.{clash}
 use Rattle.kinds.proofs.Laws.{by-test, kind_count}
-use Rattle.kinds.proofs.ByKind.{map_at, is-kind}
-use Rattle.refusals.specs.Answer.{refusal, acceptance}
+use Rattle.kinds.proofs.ByKind.{map_at}
 use Rattle.tables.specs.Section.{Entry, Section, entries_of}
 use Rattle.tables.specs.File.{table_of}
 use Rattle.tables.specs.Row.{no_entry, row_kinds, row_kind}
 use Rattle.tables.proofs.Rows.{heading-row, entry_row}
-use Rattle.names.specs.Names.{Name, name_with, section_of_entry, entry_name, entry_kind, entry_word, kind_answer_of}
-use Rattle.names.specs.Steps.{standing}
+use Rattle.names.specs.Names.{Name, name_with, section_of_entry, entry_name, entry_kind, entry_word}
+use Rattle.names.specs.Steps.{Stands}
+use Rattle.names.specs.declared.Standing.{Standing}
 
 abbrev kind_in : Entry → Option Kind
 kind_in e = some e.kind
@@ -52,68 +54,54 @@ abbrev section_in : Option Name → ℕ
 section_in none = 0
 section_in (some x) = x.section
 
--- what is known of an entry by where it stands
-module _ (file k c i : ℕ) (e : entry_name file k ≡ standing (table_of file) c i) where
-  -- in no section: there is no such entry
-  pub kind-none : length (table_of file) ≤ c → entry_kind file k ≡ none
+module _ (file k : ℕ) where
+  -- what has no name has no kind
+  pub kind-none : entry_name file k ≡ none → entry_kind file k ≡ none
   unfolding entry_kind entry_name
-  kind-none l =
+  kind-none e =
       by-test (ltb k (length (entries_of (table_of file))))
-      (λ t. let b = rw (t, le-ltb _ _ l) at e in let z : ◌≡◌ {A = ℕ} 0 1 = cc in absurd (omega arith))
+      (λ t. clash (let b = rw t at e in cc))
       (λ t. rw t)
 
-  -- in section c: its kind stands in its row
-  pub kind_row : c < length (table_of file) → get_or (row_kinds (table_of file)) (k + c + 1) none ≡ entry_kind file k
-  unfolding entry_kind entry_name
-  kind_row l =
-      by-test (ltb k (length (entries_of (table_of file))))
-      (λ t.
-      let b = rw (t, lt-ltb _ _ l) at e in
-      let s : section_of_entry (table_of file) k ≡ c = ap section_in b in
-      rw (t, ← s) (row_of (table_of file) k (ltb-true _ _ t)))
-      (λ t. let b = rw (t, lt-ltb _ _ l) at e in let z : ◌≡◌ {A = ℕ} 0 1 = cc in absurd (omega arith))
-
-  -- of an entry that has a kind: its section
-  module _ (x : Kind) (h : entry_kind file k ≡ some x) where
-    pub section-in : c < length (table_of file)
-    section-in =
-        by-test (ltb c (length (table_of file)))
-        (λ t. ltb-true _ _ t)
-        (λ t. let b = kind-none (ltb-false _ _ t) in let z : ◌≡◌ {A = ℕ} 0 1 = cc in absurd (omega arith))
-
-    pub section-is : section_of_entry (table_of file) k ≡ c
-    unfolding entry_kind entry_name
-    section-is =
+  -- what is known of an entry by where it stands
+  module _ {s : Standing} (h : Stands file k s) where
+    below : ltb k (length (entries_of (table_of file))) ≡ true
+    unfolding entry_name
+    below =
         by-test (ltb k (length (entries_of (table_of file))))
-        (λ t. ap section_in (rw (t, lt-ltb _ _ section-in) at e))
-        (λ t. let b = rw t at h in let z : ◌≡◌ {A = ℕ} 0 1 = cc in absurd (omega arith))
+        (λ t. t)
+        (λ t. clash (let b = rw t at h.is_entry in cc))
 
--- ---- by the number of the kind
+    pub section-is : section_of_entry (table_of file) k ≡ s.section
+    unfolding entry_name
+    section-is = ap section_in (rw below at h.is_entry)
 
-module _ (file k n : ℕ) (e : row_kind n ≡ entry_kind file k) where
-  pub kind-some : n < kind_count → entry_kind file k ≡ some (kind_of n)
-  kind-some l = sym e ∙ entry_row n l
+    -- its kind stands in its row
+    pub kind_row : get_or (row_kinds (table_of file)) (k + s.section + 1) none ≡ entry_kind file k
+    unfolding entry_kind
+    kind_row = rw (below, ← section-is) (row_of (table_of file) k (ltb-true _ _ below))
 
-  pub kind-missing : kind_count ≤ n → entry_kind file k ≡ none
-  kind-missing l = sym e ∙ heading-row n l
+    pub kind-numbered : (n : ℕ) → row_kind n ≡ entry_kind file k → entry_kind file k ≡ some (kind_of n)
+    unfolding entry_kind
+    kind-numbered n e =
+        by-test (ltb n kind_count)
+        (λ t. sym e ∙ entry_row n (ltb-true _ _ t))
+        (λ t. clash (let b = rw below at (sym e ∙ heading-row n (ltb-false _ _ t)) in cc))
 
-  pub kind-refused : kind_count ≤ n → refusal 16 file 0 ≡ kind_answer_of file (entry_kind file k)
-  kind-refused l = ap (kind_answer_of file) (sym (kind-missing l))
+  -- ---- a word
 
-  pub kind-shaped : (s : Shape) → n < kind_count → s ≡ shape_of (kind_of n) → acceptance s ≡ kind_answer_of file (entry_kind file k)
-  kind-shaped s l h = ap (λ (x : Shape). acceptance x) h ∙ ap (kind_answer_of file) (sym (kind-some l))
-
-  -- a word of the entry
-  pub word-missing : (w : ℕ) → length (words_in (kind_of n)) ≤ w → entry_word file k w ≡ none
+  pub word-absent : (w : ℕ) → entry_kind file k ≡ none → entry_word file k w ≡ none
   unfolding entry_word
-  word-missing w l =
-      by-test (ltb n kind_count)
-      (λ t. rw (kind-some (ltb-true _ _ t), le-ltb _ _ l))
-      (λ t. rw (kind-missing (ltb-false _ _ t)))
+  word-absent w e = rw e
 
-  pub word_some : (w c : ℕ) → w < length (words_in (kind_of n)) → section_of_entry (table_of file) k ≡ c → entry_word file k w ≡ some (name_with (get_or (words_in (kind_of n)) w []) c)
-  unfolding entry_word
-  word_some w c l s = rw (kind-some (is-kind n w l), lt-ltb _ _ l, s)
+  module _ (x : Kind) (e : entry_kind file k ≡ some x) (w : ℕ) where
+    pub word-missing : length (words_in x) ≤ w → entry_word file k w ≡ none
+    unfolding entry_word
+    word-missing l = rw (e, le-ltb _ _ l)
+
+    pub word_some : (c : ℕ) → w < length (words_in x) → section_of_entry (table_of file) k ≡ c → entry_word file k w ≡ some (name_with (get_or (words_in x) w []) c)
+    unfolding entry_word
+    word_some c l s = rw (e, lt-ltb _ _ l, s)
 
 -- as many words as the shape says
 pub words_count : (s : Shape) (x : Kind) → s ≡ shape_of x → s.words ≡ length (words_in x)

@@ -14,10 +14,9 @@ use borrow.Author.Tests.{lt-ltb, le-ltb, ltb-true, ltb-false}
 use Rattle.kinds.proofs.Laws.{by-test}
 use Rattle.tables.specs.Section.{Section, entries_of}
 use Rattle.tables.specs.File.{table_of}
-use Rattle.tables.specs.Row.{no_section, name_in, entries_in}
+use Rattle.tables.specs.Row.{no_section, name_in, name_at, entries_in}
 use Rattle.tables.proofs.Names.{name-left, name-right}
 use Rattle.names.specs.Names.{Name, name_with, section_of_entry, entry_name}
-use Rattle.names.specs.Steps.{standing}
 
 -- entry k of the sections t, which stand from section c on
 unfoldable pub from : ℕ → List Section → ℕ → Option Name
@@ -66,9 +65,9 @@ module _ (file k : ℕ) where
   reached-first = rw (zero-add (section_of_entry (table_of file) k))
 
   -- it stands in this section
-  pub reached-here : (c i : ℕ) → c < length (table_of file) → i < length (entries_in (table_of file) c) → Reached c i → entry_name file k ≡ standing (table_of file) c i
+  pub reached-here : (c i : ℕ) → c < length (table_of file) → i < length (entries_in (table_of file) c) → Reached c i → entry_name file k ≡ some (name_with (name_at (table_of file) c i) c)
   reached-here c i l h r =
-      r ∙ rw (drop-cons (table_of file) c no_section l, lt-ltb _ _ l) (from-here c _ _ i h)
+      r ∙ rw (drop-cons (table_of file) c no_section l) (from-here c _ _ i h)
 
   -- it stands in a later one
   pub reached-next : (c i : ℕ) → c < length (table_of file) → length (entries_in (table_of file) c) ≤ i → Reached c i → Reached (c + 1) (i - length (entries_in (table_of file) c))
@@ -76,5 +75,5 @@ module _ (file k : ℕ) where
       r ∙ rw (drop-cons (table_of file) c no_section l, ← add-one c) (from-later c _ _ i h)
 
   -- there is no such entry
-  pub reached-end : (c i : ℕ) → length (table_of file) ≤ c → Reached c i → entry_name file k ≡ standing (table_of file) c i
-  reached-end c i l r = r ∙ rw (drop_of_length-le (table_of file) l, le-ltb _ _ l) (from-none c i)
+  pub reached-end : (c i : ℕ) → length (table_of file) ≤ c → Reached c i → entry_name file k ≡ none
+  reached-end c i l r = r ∙ rw (drop_of_length-le (table_of file) l) (from-none c i)

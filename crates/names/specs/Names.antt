@@ -1,20 +1,18 @@
 -- Names of entries and headings (01, Bookings and Results) by file and number, copied into lent output; likewise the
 -- words that an entry's value may be, and its kind in numbers. Entries are numbered from 0 in the order of the file's
 -- pairs, headings from 0 in the order of its sections, words from 0 in the order of their list.
-use Rattle.std.specs.Prelude.{ℕ, suc, ◌-◌, ◌≡◌, cond, List, [], ◌∷◌, leb, ltb, length, get_or}
+use Rattle.std.specs.Prelude.{ℕ, suc, ◌-◌, ◌≡◌, cond, List, [], ◌∷◌, leb, ltb, length, get_or, Result}
 use Rattle.std.proofs.Math.Option.{Option, none, some}
 use Rattle.lines.specs.Writing.{put}
 use Rattle.kinds.specs.Kind.{Kind}
 use Rattle.kinds.specs.Shapes.{words_in, shape_of}
 use Rattle.kinds.specs.declared.shapes.Shape.{Shape}
-use Rattle.refusals.specs.Answer.{Answer, refusal, acceptance, refusal_of}
+use Rattle.refusals.specs.Answer.{Answer, refusal, acceptance, answer_is}
+use Rattle.refusals.specs.declared.Refusal.{Refusal}
 use Rattle.tables.specs.Section.{Section, entries_of}
 use Rattle.tables.specs.File.{table_of}
 use Rattle.tables.specs.Row.{no_entry, name_in, heading_at}
-use Rattle.names.specs.declared.Named as D
-use Rattle.names.specs.declared.NameAnswer.{NameAnswer}
-use Rattle.names.specs.declared.NameAnswer.TheVariants.{Named, Refused}
-use Rattle.names.specs.declared.KindAnswer.{KindAnswer}
+use Rattle.names.specs.declared.Named.{Named}
 
 -- the bytes of a name or of a heading, and the number of its section
 pub record Name : Type 0 where
@@ -58,16 +56,11 @@ word_of (some x) w c = cond (ltb w (length (words_in x))) (some (name_with (get_
 unfoldable pub entry_word : ℕ → ℕ → ℕ → Option Name
 entry_word file k w = word_of (entry_kind file k) w (section_of_entry (table_of file) k)
 
--- what the answer enum says
-abbrev pub answer_is : NameAnswer → Answer D.Named
-answer_is (Refused x) = refusal_of x
-answer_is (Named a) = acceptance a
-
-abbrev pub named : Name → Answer D.Named
+abbrev pub named : Name → Answer Named
 named x = acceptance (record { length = length x.bytes; section = x.section })
 
 -- 16, then 18. 01, Writing: "such a refusal carries the file as handed in .. and line 0"
-abbrev pub answer_of : ℕ → Option Name → List ℕ → Answer D.Named
+abbrev pub answer_of : ℕ → Option Name → List ℕ → Answer Named
 answer_of file none out = refusal 16 file 0
 answer_of file (some x) out = cond (leb (length x.bytes) (length out)) (named x) (refusal 18 file 0)
 
@@ -77,13 +70,9 @@ output_of none out = out
 output_of (some x) out = cond (leb (length x.bytes) (length out)) (put out 0 x.bytes) out
 
 -- what a call promises of the name x, or of none
-pub record Copies (file : ℕ) (x : Option Name) (out after : List ℕ) (r : NameAnswer) : Type 0 where
+pub record Copies (file : ℕ) (x : Option Name) (out after : List ℕ) (r : Result Named Refusal) : Type 0 where
   pub answer : answer_is r ≡ answer_of file x out
   pub output : after ≡ output_of x out
-
-abbrev pub kind_answer_is : KindAnswer → Answer Shape
-kind_answer_is (KindAnswer.Refused x) = refusal_of x
-kind_answer_is (KindAnswer.Shaped a) = acceptance a
 
 -- 16, or the shape of the kind
 abbrev pub kind_answer_of : ℕ → Option Kind → Answer Shape

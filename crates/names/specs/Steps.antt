@@ -1,10 +1,12 @@
 -- What the steps of naming promise, for the contracts of the code.
-use Rattle.std.specs.Prelude.{ℕ, cond, List, ltb, length}
-use Rattle.std.proofs.Math.Option.{Option, none, some}
-use Rattle.tables.specs.Section.{Section}
+use Rattle.std.specs.Prelude.{ℕ, ◌≡◌, ◌<◌, length}
+use Rattle.std.proofs.Math.Option.{some}
+use Rattle.tables.specs.File.{table_of}
 use Rattle.tables.specs.Row.{name_at}
-use Rattle.names.specs.Names.{Name, name_with}
+use Rattle.names.specs.Names.{name_with, entry_name}
+use Rattle.names.specs.declared.Standing.{Standing}
 
--- entry i of section c; none where there is no such section
-abbrev pub standing : List Section → ℕ → ℕ → Option Name
-standing t c i = cond (ltb c (length t)) (some (name_with (name_at t c i) c)) none
+-- entry k of the file stands there, in one of the file's sections
+pub record Stands (file k : ℕ) (s : Standing) : Type 0 where
+  pub there : s.section < length (table_of file)
+  pub is_entry : entry_name file k ≡ some (name_with (name_at (table_of file) s.section s.entry) s.section)

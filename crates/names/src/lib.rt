@@ -1,41 +1,23 @@
-// Names of entries and headings by file and number, copied into lent output. The line of the name is written by crate
-// `tables`, so that no byte string stands here once more, into a local array, and its first bytes are copied. Likewise
-// the words that an entry's value may be, from their rows in crate `kinds`, and the shape of its kind.
+// Names of entries and headings by file and number, copied into lent output from the tables; likewise the words that an
+// entry's value may be, from crate `kinds`, and the shape of its kind.
 #![tactic(auto)]
 
-ghost use Rattle.std.specs.Prelude.{◌≡◌, ◌<◌, ◌≤◌, length, take};
-ghost use Rattle.std.proofs.Math.Option.{some};
-ghost use Rattle.lines.specs.Writing.{put};
-ghost use Rattle.tables.specs.File.{table_of};
-ghost use Rattle.tables.specs.Row.{row_kind};
-ghost use Rattle.refusals.specs.Answer.{refusal};
-ghost use Rattle.names.specs.Names.{name_with, entry_name, heading_name, entry_kind, entry_word, answer_is, kind_answer_is, kind_answer_of, Copies};
-ghost use Rattle.names.specs.Steps.{standing};
+ghost use Rattle.std.specs.Prelude.{◌≡◌, ◌<◌, length, MatchOption};
+ghost use Rattle.std.proofs.Math.Option.{none, some};
+ghost use Rattle.kinds.specs.Kind.{kind_of};
+ghost use Rattle.refusals.specs.Answer.{answer_is};
+ghost use Rattle.refusals.specs.Refusals.{refusal_with};
+ghost use Rattle.names.specs.Names.{name_with, entry_name, heading_name, entry_kind, entry_word, kind_answer_of, Copies};
+ghost use Rattle.names.specs.Steps.{Stands};
 
-use kinds::numbers;
 use kinds::shapes::Shape;
 use refusals::{Refusal, RefusalKind};
 
-// Room for the line of any name: at most 34 bytes, `=`, CR LF.
-const LINE_SIZE: usize = 64;
-
 // What a copied name says: how many bytes it has, and the number of its section.
-#[derive(Clone, Copy)]
+#[derive(Clone, Copy, Debug, PartialEq, Eq)]
 pub struct Named {
     pub length: u32,
     pub section: u32,
-}
-
-#[derive(Clone, Copy)]
-pub enum NameAnswer {
-    Named(Named),
-    Refused(Refusal),
-}
-
-#[derive(Clone, Copy)]
-pub enum KindAnswer {
-    Shaped(Shape),
-    Refused(Refusal),
 }
 
 // Where an entry stands: its section, and its number there.
@@ -45,141 +27,111 @@ struct Standing {
     entry: usize,
 }
 
-// Where the entry of a number stands; a section that there is not, for a number that no entry has.
-fn find_standing(file: u32, entry: u32) -> Standing
-    ensures { entry_name file entry ≡ standing (table_of file) result.section result.entry }
+// Where the entry of a number stands.
+fn find_standing(file: u32, entry: u32) -> Option<Standing>
+    ensures { MatchOption result (entry_name file entry ≡ none) (Stands file entry) }
 {
-    let count = tables::section_count(file);
     let mut left = entry as usize;
-    let mut section = 0;
-    while section < count {
+    for section in 0..tables::section_count(file) {
         let size = tables::entry_count(file, section);
         if left < size {
-            return Standing {
-                section: section,
+            return Some(Standing {
+                section,
                 entry: left,
-            };
+            });
         }
         left -= size;
-        section += 1;
     }
-    Standing {
-        section: section,
-        entry: left,
-    }
+    None
 }
 
-// The first `size` bytes of `line` into `output`.
-fn copy_part(line: &[u8], size: usize, output: &mut [u8])
-    requires { (size ≤ length line.now) × (size ≤ length output.old) }
-    ensures { output.new ≡ put output.old 0 (take size line.now) }
+// A name of that section into the output, where the output has room for it.
+fn copy_name(file: u32, section: usize, name: &[u8], output: &mut [u8]) -> Result<Named, Refusal>
+    requires { (length name.now < 4294967296) × (section < 4294967296) }
+    ensures { Copies file (some (name_with name.now section)) output.old output.new result }
 {
-    let mut i = 0;
-    while i < size {
-        output[i] = line[i];
-        i += 1;
-    }
-}
-
-// The first `size` bytes of `line`, a name of that section, where the output has room for them.
-fn copy_name(file: u32, section: usize, line: &[u8], size: usize, output: &mut [u8]) -> NameAnswer
-    requires { (size ≤ length line.now) × (size < 4294967296) × (section < 4294967296) }
-    ensures { Copies file (some (name_with (take size line.now) section)) output.old output.new result }
-{
+    let size = name.len();
     if output.len() < size {
-        return NameAnswer::Refused(Refusal {
+        return Err(Refusal {
             kind: RefusalKind::OutputTooShort,
-            file: file,
+            file,
             line: 0,
         });
     }
-    copy_part(line, size, output);
-    NameAnswer::Named(Named {
+    output[..size].copy_from_slice(name);
+    Ok(Named {
         length: size as u32,
         section: section as u32,
     })
 }
 
 // Number 16: there is no such file, entry, heading or word.
-fn refuse(file: u32) -> NameAnswer
-    ensures { answer_is result ≡ refusal 16 file 0 }
+fn absent(file: u32) -> Refusal
+    ensures { result ≡ refusal_with RefusalKind.FileOrAxles file 0 }
 {
-    NameAnswer::Refused(Refusal {
+    Refusal {
         kind: RefusalKind::FileOrAxles,
-        file: file,
+        file,
         line: 0,
-    })
+    }
 }
 
-// The name of a file's entry of that number, in the order of the pairs with all nine axles. Its line ends in `=`, CR LF.
-pub fn copy_entry_name(file: u32, entry: u32, output: &mut [u8]) -> NameAnswer
+// The name of a file's entry of that number, in the order of the pairs with all nine axles.
+pub fn copy_entry_name(file: u32, entry: u32, output: &mut [u8]) -> Result<Named, Refusal>
     ensures { Copies file (entry_name file entry) output.old output.new result }
 {
-    let standing = find_standing(file, entry);
-    let section = standing.section;
-    let place = standing.entry;
-    if tables::section_count(file) <= section {
-        return refuse(file);
-    }
-    let mut line = [0u8; LINE_SIZE];
-    let end = tables::write_entry(file, section, place, b"", &mut line, 0);
-    copy_name(file, section, &line, end - 3, output)
+    let Some(standing) = find_standing(file, entry) else {
+        return Err(absent(file));
+    };
+    let name = tables::name(file, standing.section, standing.entry);
+    copy_name(file, standing.section, name, output)
 }
 
-// The heading of a file's section of that number, brackets included. Its line ends in CR LF.
-pub fn copy_heading(file: u32, section: u32, output: &mut [u8]) -> NameAnswer
+// The heading of a file's section of that number, brackets included.
+pub fn copy_heading(file: u32, section: u32, output: &mut [u8]) -> Result<Named, Refusal>
     ensures { Copies file (heading_name file section) output.old output.new result }
 {
     let place = section as usize;
     if tables::section_count(file) <= place {
-        return refuse(file);
+        return Err(absent(file));
     }
-    let mut line = [0u8; LINE_SIZE];
-    let end = tables::write_heading(file, place, &mut line, 0);
-    copy_name(file, place, &line, end - 2, output)
+    copy_name(file, place, tables::heading(file, place), output)
 }
 
-// The number of the kind of an entry; one that is no kind's where there is no such file or entry. Before the row of
-// entry k stand k entries, the heading of its section and those of the sections before.
-fn kind_number(file: u32, entry: u32) -> u8
-    ensures { row_kind result ≡ entry_kind file entry }
+// The number of the kind of an entry that stands there. Before the row of entry k stand k entries, the heading of its
+// section and those of the sections before.
+fn kind_number(file: u32, entry: u32, standing: Standing) -> u8
+    requires { Stands file entry standing }
+    ensures { entry_kind file entry ≡ some (kind_of result) }
 {
-    let standing = find_standing(file, entry);
-    let section = standing.section;
-    if tables::section_count(file) <= section {
-        return tables::row_kinds::HEADING;
-    }
-    tables::row_kinds::row_kind(file, entry as usize + section + 1)
+    tables::row_kinds::row_kind(file, entry as usize + standing.section + 1)
 }
 
 // What a filled value of a file's entry of that number must look like.
-pub fn kind_of_entry(file: u32, entry: u32) -> KindAnswer
-    ensures { kind_answer_is result ≡ kind_answer_of file (entry_kind file entry) }
+pub fn kind_of_entry(file: u32, entry: u32) -> Result<Shape, Refusal>
+    ensures { answer_is result ≡ kind_answer_of file (entry_kind file entry) }
 {
-    let kind = kind_number(file, entry);
-    if numbers::KIND_COUNT <= kind {
-        return KindAnswer::Refused(Refusal {
-            kind: RefusalKind::FileOrAxles,
-            file: file,
-            line: 0,
-        });
-    }
-    KindAnswer::Shaped(kinds::shapes::shape_of(kind))
+    let Some(standing) = find_standing(file, entry) else {
+        return Err(absent(file));
+    };
+    Ok(kinds::shapes::shape_of(kind_number(file, entry, standing)))
 }
 
 // The word of that number of a file's entry.
-pub fn copy_word(file: u32, entry: u32, word: u32, output: &mut [u8]) -> NameAnswer
+pub fn copy_word(file: u32, entry: u32, word: u32, output: &mut [u8]) -> Result<Named, Refusal>
     ensures { Copies file (entry_word file entry word) output.old output.new result }
 {
-    let kind = kind_number(file, entry);
-    let shape = kinds::shapes::shape_of(kind);
-    if shape.words <= word {
-        return refuse(file);
+    let Some(standing) = find_standing(file, entry) else {
+        return Err(absent(file));
+    };
+    let kind = kind_number(file, entry, standing);
+    if kinds::shapes::shape_of(kind).words <= word {
+        return Err(absent(file));
     }
-    let standing = find_standing(file, entry);
-    let section = standing.section;
-    let place = word as usize;
-    let row = kinds::words::word_row(kind, place);
-    let size = kinds::words::word_length(kind, place);
-    copy_name(file, section, &row, size, output)
+    copy_name(
+        file,
+        standing.section,
+        kinds::words::word_of(kind, word as usize),
+        output,
+    )
 }

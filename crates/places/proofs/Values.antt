@@ -1,16 +1,12 @@
 -- Values at pairs that lie within their text. Assumes nothing.
-use Prim.Native.Nat.{ℕ, zero, suc, ◌+◌, ◌-◌, ◌≤◌, ◌<◌}
+use Prim.Native.Nat.{ℕ, zero, suc, ◌+◌, ◌≤◌, ◌<◌}
 use native.Mathlib.Omega.{arith}
-use native.Mathlib.Nat.{add-zero, add-sub_cancel_left}
-use mathlib.Core.Path.{◌≡◌, refl}
+use native.Mathlib.Nat.{add-zero}
+use mathlib.Core.Path.{◌≡◌}
 use mathlib.Core.List.{List}
-use lib.ListN.{length, take, drop, length-drop}
+use lib.ListN.{length, drop, length-drop}
 use lib.Seq.{length-take-le}
-use Rattle.places.specs.Places.{Pair, start_of, length_of, pairs_at, value_at, value_of, Within}
-
--- the part of the text that a pair's start and length give
-pub part-value : (t p : List ℕ) (k a n : ℕ) → a ≡ start_of p k → n ≡ length_of p k → take (a + n - a) (drop a t) ≡ value_of t p k
-part-value t p k a n e f = rw (add-sub_cancel_left, e, f) refl
+use Rattle.places.specs.Places.{Pair, start_of, length_of, pairs_at, value_at, Within}
 
 -- a pair's length is its value's
 pub value-length : (t : List ℕ) (x : Pair) → x.0 + x.1 ≤ length t → length (value_at t x) ≡ x.1

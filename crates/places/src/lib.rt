@@ -47,9 +47,5 @@ pub fn clear(places: &mut [u32], n: usize)
     requires { n ≤ length places.old }
     ensures { places.new ≡ cleared n places.old }
 {
-    let mut i = 0;
-    while i < n {
-        places[i] = 0;
-        i += 1;
-    }
+    places[..n].fill(0);
 }

@@ -1,5 +1,5 @@
 -- Why an entry is due or not, and a file given or not: the values that decide, each with its test (01, Due entries and row 11; 02, 2/14).
-use Rattle.std.specs.Prelude.{ℕ, ◌+◌, ◌-◌, Bool, true, false, cond, ◌&&◌, ◌||◌, List, [], ◌∷◌, ◌++◌, length, replicate}
+use Rattle.std.specs.Prelude.{ℕ, ◌+◌, ◌-◌, Bool, true, false, cond, ◌&&◌, ◌||◌, List, [], ◌∷◌, ◌++◌, length, replicate, slice_index}
 use Prim.Native.String.{String}
 use Rattle.tables.specs.File.{File, ac2, acc, drift, suspension, gas, opacity, file_number, of_number}
 use Rattle.tables.specs.Value.{place_of, of}
@@ -134,6 +134,10 @@ abbrev pub reason_numbers : List (List Reason) → List ℕ
 reason_numbers gs = padded (numbers_from 1 gs)
 
 -- ---- for the contracts of the code
+
+-- the four numbers of a reason
+abbrev pub four : List ℕ → List ℕ
+four r = slice_index r 0 ∷ slice_index r 1 ∷ slice_index r 2 ∷ slice_index r 3 ∷ []
 
 -- a file's number and the entries of its own that conditions look at; the number of its entries for one that it has not
 abbrev pub own_of : File → OwnEntries

@@ -2,13 +2,11 @@
 // that decide, each with its file, its entry and the test that it must pass. Tests, too, are answered here, of a value alone.
 #![tactic(auto)]
 
-ghost use Rattle.std.specs.Prelude.{◌≡◌, true};
+ghost use Rattle.std.specs.Prelude.{◌≡◌, ◌++◌, true};
 ghost use Rattle.tables.specs.File.{File};
-ghost use Rattle.due.specs.Conditions.{is200, is210};
-ghost use Rattle.rules.specs.Slices.{stated_of};
 ghost use Rattle.due.specs.Booking.{category_in};
 ghost use Rattle.reasons.specs.Tests.{is_test, test_of, passes_some};
-ghost use Rattle.reasons.specs.Reasons.{reason_numbers, reasons_of, own_of, own_numbered};
+ghost use Rattle.reasons.specs.Reasons.{four, reason_numbers, reasons_of, own_of, own_numbered};
 ghost use Rattle.reasons.specs.Asked.{asked_number, asked_of, entry_asked, entry_reasons, file_asked, file_reasons, is_of_seven, field_entry};
 
 use due::{Condition, Version};
@@ -102,7 +100,7 @@ const OPACITY_ENTRIES: OwnEntries = OwnEntries {
 };
 
 // The seven of the identification answer, in the order of its fields.
-const FIELDS: [u32; 7] = [
+static FIELDS: [u32; 7] = [
     (pairs::GAS_MARCA_ANALIZZATORE - pairs::GAS_FIRST) as u32,
     (pairs::GAS_TIPO_ANALIZZATORE - pairs::GAS_FIRST) as u32,
     (pairs::GAS_NUM_OMOLOGA_ANALIZZATORE - pairs::GAS_FIRST) as u32,
@@ -112,50 +110,23 @@ const FIELDS: [u32; 7] = [
     VERSION,
 ];
 
+#[tactic(auto, unfolding(kinds::specs::Value::words_of, kinds::specs::Value::numbered_lists))]
 fn category_of(value: &[u8]) -> usize
     ensures { result ≡ category_in value.now }
 {
     kinds::word_index(CATEGORIES, value)
 }
 
-fn is_200(version: Version) -> bool
-    ensures { result ≡ is200 version }
-{
-    match version {
-        Version::V200 => true,
-        Version::V210 => false,
-        Version::OtherVersion => false,
-    }
-}
-
-fn is_210(version: Version) -> bool
-    ensures { result ≡ is210 version }
-{
-    match version {
-        Version::V200 => false,
-        Version::V210 => true,
-        Version::OtherVersion => false,
-    }
-}
-
-fn has_nine(stem: &[u8]) -> bool
-    ensures { result ≡ (stated_of stem.now).nine }
-{
-    let stated = rules::stated_of(stem);
-    stated.nine
-}
-
 // Whether there is a test of this number.
+#[tactic(auto, unfolding(crate::specs::Tests::test_of))]
 pub fn is_test(test: u32) -> bool
     ensures { result ≡ is_test test }
 {
-    match test {
-        1..=15 => true,
-        _ => false,
-    }
+    matches!(test, 1..=15)
 }
 
 // Whether a value passes the test of this number; none passes where there is no such test.
+#[tactic(auto, unfolding(crate::specs::Tests::passes, crate::specs::Tests::test_of))]
 pub fn passes(test: u32, value: &[u8]) -> bool
     ensures { result ≡ passes_some (test_of test) value.now }
 {
@@ -172,38 +143,27 @@ pub fn passes(test: u32, value: &[u8]) -> bool
         NO_DIRECTIVE => due::is_nessuna(value),
         SERIAL_LINK => due::is_serial(value),
         EXTERNAL_COUNTER => due::is_external(value),
-        VERSION_200 => is_200(due::version_of(value)),
-        VERSION_210 => is_210(due::version_of(value)),
-        NINE_STEM => has_nine(value),
+        VERSION_200 => due::version_of(value) == Version::V200,
+        VERSION_210 => due::version_of(value) == Version::V210,
+        NINE_STEM => rules::stated_of(value).nine,
         _ => false,
     }
 }
 
 // What a condition asks of its entries, as a number.
+#[tactic(auto, unfolding(crate::specs::Asked::asked_of))]
 fn asked_number(condition: Condition) -> u32
     ensures { result ≡ asked_number (asked_of condition) }
 {
     match condition {
         Condition::Always => ALWAYS,
         Condition::Free => FREE,
-        Condition::CodiceCIC => WHEN,
-        Condition::Alimentazione => WHEN,
-        Condition::DieselEntry => WHEN,
-        Condition::CarDirective => WHEN,
-        Condition::MotorcycleDirective => WHEN,
-        Condition::COMinAcc => WHEN,
-        Condition::ExternalCounter => WHEN,
-        Condition::SpeedTest => WHEN,
-        Condition::DeviceKey => WHEN,
-        Condition::DeviceChecksum => WHEN,
-        Condition::CounterKey => WHEN,
-        Condition::CounterChecksum => WHEN,
-        Condition::SpeedTestKey => WHEN,
-        Condition::SpeedTestChecksum => WHEN,
+        _ => WHEN,
     }
 }
 
 // What is asked of an entry, 0 where there is no such entry.
+#[tactic(auto, unfolding(crate::specs::Asked::entry_asked))]
 pub fn entry_asked(file: u32, entry: u32) -> u32
     ensures { result ≡ entry_asked file entry }
 {
@@ -214,24 +174,34 @@ pub fn entry_asked(file: u32, entry: u32) -> u32
 }
 
 // What is asked of a file, 0 where there is no such file.
+#[tactic(auto, unfolding(crate::specs::Asked::file_asked, crate::specs::Asked::given_asked, tables::specs::File::of_number))]
 pub fn file_asked(file: u32) -> u32
     ensures { result ≡ file_asked file }
 {
     match file {
         AC2 => ALWAYS,
         ACC => ONLY_WHEN,
-        DRIFT => FREE,
-        SUSPENSION => FREE,
-        GAS => WHEN,
-        IDENTIFICATION => WHEN,
-        OPACITY => WHEN,
+        DRIFT | SUSPENSION => FREE,
+        GAS | IDENTIFICATION | OPACITY => WHEN,
         _ => 0,
     }
 }
 
-// Four numbers for each of at most three reasons: its test, the file and the entry of its value, its group. Of a group
-// one reason must hold.
-const NO_REASONS: [u32; 12] = [0, 0, 0, 0, 0, 0, 0, 0, 0, 0, 0, 0];
+// A reason in numbers: its test, the file and the entry of its value, its group. Of a group one reason must hold.
+type Reason = [u32; 4];
+
+const NO_REASON: Reason = [0; 4];
+
+// At most three. One array of numbers, as the C interface hands it out.
+fn joined(a: Reason, b: Reason, c: Reason) -> [u32; 12]
+    ensures { result ≡ four a ++ (four b ++ four c) }
+{
+    [
+        a[0], a[1], a[2], a[3], b[0], b[1], b[2], b[3], c[0], c[1], c[2], c[3],
+    ]
+}
+
+const NO_REASONS: [u32; 12] = [0; 12];
 
 // Whose own entries are looked at for the file of this number; of a file without links no condition looks at any.
 fn own_of(file: u32) -> OwnEntries
@@ -244,147 +214,75 @@ fn own_of(file: u32) -> OwnEntries
 }
 
 // The reasons of a condition in the file that has these entries.
+#[tactic(auto, unfolding(crate::specs::Reasons::reasons_of, tables::specs::Value::place_of, kinds::specs::Value::word_index, lines::specs::Bytes::same_bytes, tables::specs::File::entries, tables::specs::Section::entries_of, tables::specs::File::sections, tables::specs::File::fixed_sections, tables::specs::File::axle_sections, tables::specs::Entries::new_booking))]
 fn condition_reasons(condition: Condition, own: OwnEntries) -> [u32; 12]
     ensures { (f : File) → own ≡ own_of f → result ≡ reason_numbers (reasons_of f condition) }
 {
     match condition {
         Condition::Always => NO_REASONS,
         Condition::Free => NO_REASONS,
-        Condition::CodiceCIC => [
-            MOPED, AC2, CATEGORY, 1, SIX_BYTES, AC2, PLATE, 2, 0, 0, 0, 0,
-        ],
-        Condition::Alimentazione => [NOT_O, AC2, CATEGORY, 1, 0, 0, 0, 0, 0, 0, 0, 0],
-        Condition::DieselEntry => [DIESEL, AC2, FUEL, 1, 0, 0, 0, 0, 0, 0, 0, 0],
-        Condition::CarDirective => [PETROL, AC2, FUEL, 1, M_OR_N, AC2, CATEGORY, 2, 0, 0, 0, 0],
-        Condition::MotorcycleDirective => [
-            PETROL, AC2, FUEL, 1, MOTORCYCLE, AC2, CATEGORY, 2, 0, 0, 0, 0,
-        ],
-        Condition::COMinAcc => [
-            LATE_DIRECTIVE,
-            AC2,
-            CAR_DIRECTIVE,
-            1,
-            0,
-            0,
-            0,
-            0,
-            0,
-            0,
-            0,
-            0,
-        ],
-        Condition::ExternalCounter => [
-            EXTERNAL_COUNTER,
-            own.file,
-            own.counterlink,
-            1,
-            0,
-            0,
-            0,
-            0,
-            0,
-            0,
-            0,
-            0,
-        ],
-        Condition::SpeedTest => [
-            MOPED,
-            AC2,
-            CATEGORY,
-            1,
-            NO_DIRECTIVE,
-            AC2,
-            MOTORCYCLE_DIRECTIVE,
-            1,
-            0,
-            0,
-            0,
-            0,
-        ],
-        Condition::DeviceKey => [
-            VERSION_210,
-            own.file,
-            own.version,
-            1,
-            SERIAL_LINK,
-            own.file,
-            own.link,
-            2,
-            0,
-            0,
-            0,
-            0,
-        ],
-        Condition::DeviceChecksum => [
-            VERSION_200,
-            own.file,
-            own.version,
-            1,
-            SERIAL_LINK,
-            own.file,
-            own.link,
-            2,
-            0,
-            0,
-            0,
-            0,
-        ],
-        Condition::CounterKey => [
-            VERSION_210,
-            own.file,
-            own.counterversion,
-            1,
-            EXTERNAL_COUNTER,
-            own.file,
-            own.counterlink,
-            2,
-            0,
-            0,
-            0,
-            0,
-        ],
-        Condition::CounterChecksum => [
-            VERSION_200,
-            own.file,
-            own.counterversion,
-            1,
-            EXTERNAL_COUNTER,
-            own.file,
-            own.counterlink,
-            2,
-            0,
-            0,
-            0,
-            0,
-        ],
-        Condition::SpeedTestKey => [
-            VERSION_210,
-            own.file,
-            own.benchversion,
-            1,
-            MOPED,
-            AC2,
-            CATEGORY,
-            2,
-            NO_DIRECTIVE,
-            AC2,
-            MOTORCYCLE_DIRECTIVE,
-            2,
-        ],
-        Condition::SpeedTestChecksum => [
-            VERSION_200,
-            own.file,
-            own.benchversion,
-            1,
-            MOPED,
-            AC2,
-            CATEGORY,
-            2,
-            NO_DIRECTIVE,
-            AC2,
-            MOTORCYCLE_DIRECTIVE,
-            2,
-        ],
+        Condition::CodiceCIC => joined(
+            [MOPED, AC2, CATEGORY, 1],
+            [SIX_BYTES, AC2, PLATE, 2],
+            NO_REASON,
+        ),
+        Condition::Alimentazione => joined([NOT_O, AC2, CATEGORY, 1], NO_REASON, NO_REASON),
+        Condition::DieselEntry => joined([DIESEL, AC2, FUEL, 1], NO_REASON, NO_REASON),
+        Condition::CarDirective => joined(
+            [PETROL, AC2, FUEL, 1],
+            [M_OR_N, AC2, CATEGORY, 2],
+            NO_REASON,
+        ),
+        Condition::MotorcycleDirective => joined(
+            [PETROL, AC2, FUEL, 1],
+            [MOTORCYCLE, AC2, CATEGORY, 2],
+            NO_REASON,
+        ),
+        Condition::COMinAcc => joined(
+            [LATE_DIRECTIVE, AC2, CAR_DIRECTIVE, 1],
+            NO_REASON,
+            NO_REASON,
+        ),
+        Condition::ExternalCounter => joined(
+            [EXTERNAL_COUNTER, own.file, own.counterlink, 1],
+            NO_REASON,
+            NO_REASON,
+        ),
+        Condition::SpeedTest => joined(
+            [MOPED, AC2, CATEGORY, 1],
+            [NO_DIRECTIVE, AC2, MOTORCYCLE_DIRECTIVE, 1],
+            NO_REASON,
+        ),
+        Condition::DeviceKey => joined(
+            [VERSION_210, own.file, own.version, 1],
+            [SERIAL_LINK, own.file, own.link, 2],
+            NO_REASON,
+        ),
+        Condition::DeviceChecksum => joined(
+            [VERSION_200, own.file, own.version, 1],
+            [SERIAL_LINK, own.file, own.link, 2],
+            NO_REASON,
+        ),
+        Condition::CounterKey => joined(
+            [VERSION_210, own.file, own.counterversion, 1],
+            [EXTERNAL_COUNTER, own.file, own.counterlink, 2],
+            NO_REASON,
+        ),
+        Condition::CounterChecksum => joined(
+            [VERSION_200, own.file, own.counterversion, 1],
+            [EXTERNAL_COUNTER, own.file, own.counterlink, 2],
+            NO_REASON,
+        ),
+        Condition::SpeedTestKey => joined(
+            [VERSION_210, own.file, own.benchversion, 1],
+            [MOPED, AC2, CATEGORY, 2],
+            [NO_DIRECTIVE, AC2, MOTORCYCLE_DIRECTIVE, 2],
+        ),
+        Condition::SpeedTestChecksum => joined(
+            [VERSION_200, own.file, own.benchversion, 1],
+            [MOPED, AC2, CATEGORY, 2],
+            [NO_DIRECTIVE, AC2, MOTORCYCLE_DIRECTIVE, 2],
+        ),
     }
 }
 
@@ -400,10 +298,14 @@ pub fn file_reasons(file: u32) -> [u32; 12]
     ensures { result ≡ file_reasons file }
 {
     match file {
-        ACC => [NOT_L, AC2, CATEGORY, 1, NINE_STEM, 0, 0, 1, 0, 0, 0, 0],
-        GAS => [PETROL, AC2, FUEL, 1, 0, 0, 0, 0, 0, 0, 0, 0],
-        IDENTIFICATION => [SERIAL_LINK, GAS, LINK, 1, 0, 0, 0, 0, 0, 0, 0, 0],
-        OPACITY => [DIESEL, AC2, FUEL, 1, M_OR_N, AC2, CATEGORY, 2, 0, 0, 0, 0],
+        ACC => joined([NOT_L, AC2, CATEGORY, 1], [NINE_STEM, 0, 0, 1], NO_REASON),
+        GAS => joined([PETROL, AC2, FUEL, 1], NO_REASON, NO_REASON),
+        IDENTIFICATION => joined([SERIAL_LINK, GAS, LINK, 1], NO_REASON, NO_REASON),
+        OPACITY => joined(
+            [DIESEL, AC2, FUEL, 1],
+            [M_OR_N, AC2, CATEGORY, 2],
+            NO_REASON,
+        ),
         _ => NO_REASONS,
     }
 }
@@ -412,10 +314,7 @@ pub fn file_reasons(file: u32) -> [u32; 12]
 pub fn is_of_seven(field: u32) -> bool
     ensures { result ≡ is_of_seven field }
 {
-    match field {
-        3..=9 => true,
-        _ => false,
-    }
+    matches!(field, 3..=9)
 }
 
 // The entry of gas whose value that field is.

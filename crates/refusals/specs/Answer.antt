@@ -1,5 +1,5 @@
 -- What a call answers, and what a part of one gives to the part after it (01, Judging).
-use Rattle.std.specs.Prelude.{ℕ, Bool, cond}
+use Rattle.std.specs.Prelude.{ℕ, Bool, cond, Result, Ok, Err}
 use Rattle.refusals.specs.Refusals.{number_of}
 use Rattle.refusals.specs.declared.Refusal.{Refusal}
 
@@ -11,6 +11,11 @@ pub data Answer (A : Type 0) : Type 0 where
 -- what the code's refusal says
 abbrev pub refusal_of : {A : Type 0} → Refusal → Answer A
 refusal_of x = refusal (number_of x.kind) x.file x.line
+
+-- what the code's result says
+abbrev pub answer_is : {A : Type 0} → Result A Refusal → Answer A
+answer_is (Err x) = refusal_of x
+answer_is (Ok a) = acceptance a
 
 -- where the test fails, this refusal
 abbrev pub require : {A : Type 0} → Bool → ℕ → ℕ → ℕ → Answer A → Answer A

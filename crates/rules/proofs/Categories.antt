@@ -1,6 +1,6 @@
 -- What the rules ask of a category, as tables over 01's list of categories. Assumes nothing.
-use Prim.Native.Nat.{ℕ, ◌<◌, ◌≤◌}
-use mathlib.Core.Path.{◌≡◌, sym}
+use Prim.Native.Nat.{ℕ}
+use mathlib.Core.Path.{◌≡◌}
 use mathlib.Core.Bool.{cond, ◌||◌}
 use mathlib.Core.List.{List, [], ◌∷◌}
 use lib.Dec.{eqb}
@@ -15,7 +15,7 @@ use Rattle.rules.specs.declared.VehicleType.{VehicleType}
 use Rattle.rules.specs.declared.VehicleType.TheVariants.{Leggero, Pesante, Motoveicolo, NoType}
 use Rattle.rules.specs.declared.Descriptions.{Descriptions}
 use Rattle.rules.specs.declared.Descriptions.TheVariants.{OfM1, OfM2M3, OfN, OfO, OfNone}
-use Rattle.rules.proofs.Tests.{table-in, table-past}
+use Rattle.rules.proofs.Tests.{table-at}
 
 abbrev type_for : List ℕ → VehicleType
 type_for w =
@@ -30,23 +30,18 @@ descriptions_for w =
     (cond (eqb (get_or w 0 0) 78) OfN
     (cond (eqb (get_or w 0 0) 79) OfO OfNone)))
 
+-- the tables, as the code has them; a number that is no category's has what the rules say of no word
+abbrev pub types : List VehicleType
+types = Leggero ∷ Pesante ∷ Pesante ∷ Leggero ∷ Pesante ∷ Pesante ∷ Leggero ∷ Leggero ∷ Pesante ∷ Pesante ∷ Motoveicolo ∷ Motoveicolo ∷ Motoveicolo ∷ Motoveicolo ∷ Motoveicolo ∷ Motoveicolo ∷ Motoveicolo ∷ []
+
+abbrev pub described : List Descriptions
+described = OfM1 ∷ OfM2M3 ∷ OfM2M3 ∷ OfN ∷ OfN ∷ OfN ∷ OfO ∷ OfO ∷ OfO ∷ OfO ∷ OfNone ∷ OfNone ∷ OfNone ∷ OfNone ∷ OfNone ∷ OfNone ∷ OfNone ∷ []
+
 module _ (k : ℕ) where
-  pub type-in : k < 17
-      → get_or (Leggero ∷ Pesante ∷ Pesante ∷ Leggero ∷ Pesante ∷ Pesante ∷ Leggero ∷ Leggero ∷ Pesante ∷ Pesante ∷ Motoveicolo ∷ Motoveicolo ∷ Motoveicolo ∷ Motoveicolo ∷ Motoveicolo ∷ Motoveicolo ∷ Motoveicolo ∷ []) k Leggero
-      ≡ type_of k
+  pub type-at : get_or types k NoType ≡ type_of k
   unfolding type_of is_m is_n is_o is_l is_word word_index same_bytes words
-  type-in h = table-in type_for Leggero (words categories) k h
+  type-at = table-at type_for (words categories) k
 
-  pub type-past : 17 ≤ k → NoType ≡ type_of k
-  unfolding type_of is_m is_n is_o is_l is_word word_index same_bytes words
-  type-past h = sym (table-past type_for (words categories) k h)
-
-  pub descriptions-in : k < 17
-      → get_or (OfM1 ∷ OfM2M3 ∷ OfM2M3 ∷ OfN ∷ OfN ∷ OfN ∷ OfO ∷ OfO ∷ OfO ∷ OfO ∷ OfNone ∷ OfNone ∷ OfNone ∷ OfNone ∷ OfNone ∷ OfNone ∷ OfNone ∷ []) k OfM1
-      ≡ descriptions_of k
+  pub descriptions-at : get_or described k OfNone ≡ descriptions_of k
   unfolding descriptions_of is_m is_n is_o is_word word_index same_bytes words
-  descriptions-in h = table-in descriptions_for OfM1 (words categories) k h
-
-  pub descriptions-past : 17 ≤ k → OfNone ≡ descriptions_of k
-  unfolding descriptions_of is_m is_n is_o is_word word_index same_bytes words
-  descriptions-past h = sym (table-past descriptions_for (words categories) k h)
+  descriptions-at = table-at descriptions_for (words categories) k

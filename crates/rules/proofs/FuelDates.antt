@@ -14,7 +14,7 @@ use Rattle.kinds.specs.Digits.{all_digits, number_from}
 use Rattle.kinds.specs.Kind.{DataPrimaImm}
 use Rattle.kinds.specs.Value.{is_leap, days_in, is_year, is_gregorian, are_digits, is_first_date, is_first_day, day_of, month_of, year_of, kind_ok}
 use Rattle.kinds.specs.Meaning.{day_number, day_read}
-use Rattle.kinds.specs.declared.NumberRead.TheVariants as NumberRead
+use Rattle.std.specs.Prelude.{Some}
 use Rattle.kinds.proofs.Laws.{by-test, digits-length, digits-all, digits-drop}
 use Rattle.kinds.proofs.Readings.{part-most, parts-told, same-date}
 use Rattle.rules.specs.Bookings.{period_at, is_month_only, compared_date, period_of}
@@ -88,7 +88,7 @@ module _ (v : List ℕ) (e : is_first_day v ≡ true) where
       let second : ltb (day_number (compared_date v)) (july2002 + 1) ≡ ltb (day_number v) july2002 = before 7 2002 (omega arith) (omega arith) in
       rw (e, first, second) refl
 
-pub period-by-month : (v : List ℕ) (day : ℕ) → day_read v ≡ NumberRead.Of day → period_of v ≡ by_month day
+pub period-by-month : (v : List ℕ) (day : ℕ) → day_read v ≡ Some day → period_of v ≡ by_month day
 unfolding day_read
 period-by-month v day e =
     let r = read_of (is_first_day v) (day_number v) day e in

@@ -21,20 +21,19 @@ use Rattle.tables.specs.File.{File, ac2, acc}
 use Rattle.tables.specs.Value.{of}
 use Rattle.due.specs.Booking.{is_l, is_petrol, fuel_in, booking_in}
 use Rattle.due.specs.declared.Fuel.TheVariants.{Petrol, Diesel, OtherFuel}
-use Rattle.rules.specs.Rule.{Rule, all_hold, first_broken}
+use Rattle.rules.specs.Rule.{Rule, RuleCheck, all_hold, first_broken}
 use Rattle.rules.specs.Bookings.{parking_brake_fits, descriptions_of, descriptions, year_fits, directive_of, period_at, compared_date, period_of, petrol_word, petrol_fits, diesel_fits, fuel_fits, old_brake_fits, number_is, count_of, parking_axles_fit, old_rules}
 use Rattle.rules.specs.Differences.{difference, difference_fits}
 use Rattle.rules.specs.Identification.{same_fields}
 use Rattle.rules.specs.declared.BrokenRule.{BrokenRule}
-use Rattle.rules.specs.declared.RuleCheck.{RuleCheck}
-use Rattle.rules.specs.declared.RuleCheck.TheVariants.{Kept, Broken}
+use Rattle.std.specs.Prelude.{Ok, Err}
 use Rattle.rules.proofs.Tests.{word-here, word-later, word-last, number_of}
 
 -- ---- the first broken rule
 
 abbrev is_kept : RuleCheck → Bool
-is_kept Kept = true
-is_kept (Broken b) = false
+is_kept (Ok u) = true
+is_kept (Err b) = false
 
 module _ (f : File) where
   kept_test : (rs : List Rule) → is_kept (first_broken f rs) ≡ all_hold rs
@@ -46,21 +45,21 @@ module _ (f : File) where
       (λ h. rw h refl)
 
   -- none is broken: all hold
-  pub kept-all : (rs : List Rule) → first_broken f rs ≡ Kept → all_hold rs ≡ true
+  pub kept-all : (rs : List Rule) → first_broken f rs ≡ Ok tt → all_hold rs ≡ true
   kept-all rs e = sym (kept_test rs) ∙ ap is_kept e
 
   -- one is broken: not all hold
-  pub broken-not : (rs : List Rule) (b : BrokenRule) → first_broken f rs ≡ Broken b → all_hold rs ≡ false
+  pub broken-not : (rs : List Rule) (b : BrokenRule) → first_broken f rs ≡ Err b → all_hold rs ≡ false
   broken-not rs b e = sym (kept_test rs) ∙ ap is_kept e
 
   -- all hold: none is broken
-  pub all-kept : (rs : List Rule) → all_hold rs ≡ true → first_broken f rs ≡ Kept
+  pub all-kept : (rs : List Rule) → all_hold rs ≡ true → first_broken f rs ≡ Ok tt
   unfolding first_broken all_hold
   all-kept [] e = refl
   all-kept (r ∷ rs) e = rw (and_left r.holds (all_hold rs) e) (all-kept rs (and_right r.holds (all_hold rs) e))
 
   -- rules after others: the first broken of the others, or else theirs
-  pub first-kept : (rs qs : List Rule) → first_broken f rs ≡ Kept → first_broken f (rs ++ qs) ≡ first_broken f qs
+  pub first-kept : (rs qs : List Rule) → first_broken f rs ≡ Ok tt → first_broken f (rs ++ qs) ≡ first_broken f qs
   unfolding first_broken all_hold
   first-kept rs qs e = after rs (kept-all rs e)
     where
@@ -68,7 +67,7 @@ module _ (f : File) where
       after [] h = refl
       after (r ∷ rs) h = rw (and_left r.holds (all_hold rs) h) (after rs (and_right r.holds (all_hold rs) h))
 
-  pub first-broken : (rs qs : List Rule) (b : BrokenRule) → first_broken f rs ≡ Broken b → first_broken f (rs ++ qs) ≡ Broken b
+  pub first-broken : (rs qs : List Rule) (b : BrokenRule) → first_broken f rs ≡ Err b → first_broken f (rs ++ qs) ≡ Err b
   unfolding first_broken
   first-broken [] qs b e = let z : ◌≡◌ {A = ℕ} 0 1 = cc in absurd (omega arith)
   first-broken (r ∷ rs) qs b e =

@@ -24,7 +24,7 @@ use Rattle.rules.specs.Differences.{difference_fits, differences_from}
 use Rattle.rules.specs.Rules.{rules_of}
 use Rattle.rules.specs.Identification.{seven_of}
 use Rattle.rules.specs.Marks.{is_marked}
-use Rattle.rules.specs.declared.RuleCheck.TheVariants.{Kept}
+use Rattle.std.specs.Prelude.{Ok}
 use Rattle.refusals.specs.declared.RefusalKind.TheVariants.{BookingRule, DifferenceRule}
 use Rattle.places.proofs.Values.{within-at, value-length}
 use Rattle.tables.proofs.Numbers.{first-pairs}
@@ -49,7 +49,7 @@ module _ (t p : List ℕ) where
   module _ (b : Booking) (e : b ≡ booking_in (new_values t p)) where
     pub new-broken : first_broken ac2 (new_rules (new_values t p))
         ≡ cond (type_is (type_of b.category) (value_of t p 1))
-        (cond (parking_brake_fits b.category (value_of t p 10)) Kept (broken 10 BookingRule))
+        (cond (parking_brake_fits b.category (value_of t p 10)) (Ok tt) (broken 10 BookingRule))
         (broken 1 BookingRule)
     unfolding first_broken new_rules place_of word_index same_bytes entries sections fixed_sections axle_sections entries_of new_booking pairs_at first_pair rooms
     new-broken = rw e refl
@@ -61,7 +61,7 @@ module _ (t p : List ℕ) where
         (cond (year_fits (value_of t p 4) (value_of u p 14))
         (cond (fuel_fits (new_values t p) (value_of u p 15))
         (cond (old_brake_fits (value_of t p 10) (value_of u p 16))
-        (cond (parking_axles_fit (value_of t p 11) (value_of u p 17)) Kept
+        (cond (parking_axles_fit (value_of t p 11) (value_of u p 17)) (Ok tt)
         (broken 5 BookingRule)) (broken 4 BookingRule)) (broken 3 BookingRule)) (broken 2 BookingRule)) (broken 1 BookingRule)) (broken 0 BookingRule)
     unfolding first_broken old_rules place_of word_index same_bytes entries sections fixed_sections axle_sections entries_of new_booking old_booking pairs_at first_pair rooms room
     old-broken u = rw e refl
@@ -97,7 +97,7 @@ difference-step t p n i h =
     let e : axle_place_of suspension i "Differenza%" ≡ 61 + 3 * i - 43 = omega arith in
     rw (q, a, b, d, e) refl
 
-pub difference-end : (t p : List ℕ) (n i : ℕ) → n ≤ i → first_broken suspension (differences_from (values_of suspension n t p) i (n - i)) ≡ Kept
+pub difference-end : (t p : List ℕ) (n i : ℕ) → n ≤ i → first_broken suspension (differences_from (values_of suspension n t p) i (n - i)) ≡ (Ok tt)
 unfolding first_broken differences_from
 difference-end t p n i h =
     let q : n - i ≡ 0 = omega arith in
@@ -118,15 +118,15 @@ module _ (t p : List ℕ) (a : List (List ℕ)) (n : ℕ) where
   unfolding rules_of
   axle-rules = refl
 
-  pub drift-rules : first_broken drift (rules_of drift a (values_of drift n t p) n) ≡ Kept
+  pub drift-rules : first_broken drift (rules_of drift a (values_of drift n t p) n) ≡ (Ok tt)
   unfolding rules_of first_broken
   drift-rules = refl
 
-  pub gas-rules : first_broken gas (rules_of gas a (values_of gas n t p) n) ≡ Kept
+  pub gas-rules : first_broken gas (rules_of gas a (values_of gas n t p) n) ≡ (Ok tt)
   unfolding rules_of first_broken
   gas-rules = refl
 
-  pub opacity-rules : first_broken opacity (rules_of opacity a (values_of opacity n t p) n) ≡ Kept
+  pub opacity-rules : first_broken opacity (rules_of opacity a (values_of opacity n t p) n) ≡ (Ok tt)
   unfolding rules_of first_broken
   opacity-rules = refl
 

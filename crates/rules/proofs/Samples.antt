@@ -11,7 +11,7 @@ use Rattle.kinds.specs.Kind.{D, H, Deriva, Revs, DataPrimaImm, words, categories
 use Rattle.kinds.specs.Digits.{all_digits, number_from}
 use Rattle.kinds.specs.Value.{is_leap, days_in, is_gregorian, are_digits, is_year, is_first_date, is_first_day, is_number, word_index, is_word, kind_ok}
 use Rattle.kinds.specs.Meaning.{drift_read, day_number}
-use Rattle.kinds.specs.declared.DriftRead.TheVariants as DriftRead
+use Rattle.std.specs.Prelude.{Some}
 use Rattle.kinds.proofs.Samples.{drift-minus, drift-most, drift-three, first-day-unknown, first-month-unknown, leap-2000, leap-1900, hour-24, revs-by-hand}
 use Rattle.serial.specs.Identification.{sum, checksum}
 use Rattle.serial.proofs.Samples.{sample, sample-checksum}
@@ -75,8 +75,8 @@ counts-as = (refl, refl, refl)
 -- 01, Established samples: "Together, as a single statement"
 pub established :
     ((sum sample ≡ 465) × (checksum sample ≡ bytes "D1"))
-    × (drift_read (bytes "-5.00") ≡ DriftRead.Of (neg_ℤ (pos 500)))
-    × (drift_read (bytes "99.99") ≡ DriftRead.Of (pos 9999))
+    × (drift_read (bytes "-5.00") ≡ Some (neg_ℤ (pos 500)))
+    × (drift_read (bytes "99.99") ≡ Some (pos 9999))
     × (kind_ok Deriva (bytes "100.00") ≡ false)
     × (kind_ok DataPrimaImm (bytes "00031994") ≡ true)
     × (kind_ok DataPrimaImm (bytes "02001997") ≡ false)

@@ -1,5 +1,5 @@
 -- The rules of bookings, over values: AC2's own, and ACC against AC2 (01, Bookings).
-use Rattle.std.specs.Prelude.{ℕ, suc, Bool, false, cond, not, ◌&&◌, ◌||◌, List, [], ◌∷◌, ◌++◌, eqb, ltb, get_or, drop}
+use Rattle.std.specs.Prelude.{ℕ, Bool, false, cond, not, ◌&&◌, ◌||◌, ◌==◌, List, [], ◌∷◌, ◌++◌, eqb, ltb, get_or, drop, count_by}
 use Prim.Native.String.{String}
 use Rattle.lines.specs.Bytes.{same_bytes}
 use Rattle.lines.specs.Text.{bytes}
@@ -143,9 +143,8 @@ unfoldable pub number_is : List ℕ → ℕ → Bool
 number_is v n = is_number 9 v && eqb (number v) n
 
 -- how many bytes of the list are x
-unfoldable pub count_of : ℕ → List ℕ → ℕ
-count_of x [] = 0
-count_of x (b ∷ s) = cond (eqb b x) (suc (count_of x s)) (count_of x s)
+abbrev pub count_of : ℕ → List ℕ → ℕ
+count_of x s = count_by (λ b. b == x) s
 
 -- "NumAssiStazionamento is the number of S in PosAssiStaz"
 unfoldable pub parking_axles_fit : List ℕ → List ℕ → Bool

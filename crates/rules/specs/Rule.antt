@@ -1,11 +1,10 @@
 -- A rule of 12 or 13: the entry whose line a refusal carries, the refusal, and whether the values keep it (01, Judging: rows 12 and 13).
-use Rattle.std.specs.Prelude.{ℕ, Bool, true, cond, ◌&&◌, List, [], ◌∷◌}
+use Rattle.std.specs.Prelude.{ℕ, Bool, true, cond, ◌&&◌, List, [], ◌∷◌, Result, Ok, Err}
 use Prim.Native.String.{String}
 use Rattle.tables.specs.File.{File}
 use Rattle.tables.specs.Value.{place_of, axle_place_of}
 use Rattle.refusals.specs.declared.RefusalKind.{RefusalKind}
-use Rattle.rules.specs.declared.RuleCheck.{RuleCheck}
-use Rattle.rules.specs.declared.RuleCheck.TheVariants.{Kept, Broken}
+use Rattle.rules.specs.declared.BrokenRule.{BrokenRule}
 
 -- an entry of the fixed sections, or of the axle that follows k axles
 pub data EntryName : Type 0 where
@@ -23,8 +22,12 @@ pub record Rule : Type 0 where
   pub kind : RefusalKind
   pub holds : Bool
 
+-- all rules are kept, or one is broken
+abbrev pub RuleCheck : Type 0
+RuleCheck = Result Unit BrokenRule
+
 abbrev pub broken : ℕ → RefusalKind → RuleCheck
-broken place k = Broken (record { entry = place; kind = k })
+broken place k = Err (record { entry = place; kind = k })
 
 unfoldable pub all_hold : List Rule → Bool
 all_hold [] = true
@@ -32,5 +35,5 @@ all_hold (r ∷ rs) = r.holds && all_hold rs
 
 -- the first rule that does not hold, by the place of its entry; which line that is, only the judge knows
 unfoldable pub first_broken : File → List Rule → RuleCheck
-first_broken f [] = Kept
+first_broken f [] = Ok tt
 first_broken f (r ∷ rs) = cond r.holds (first_broken f rs) (broken (place_in f r.entry) r.kind)

@@ -1,10 +1,9 @@
 -- The rules of each file (01, Judging: "then 12 or 13").
 use Rattle.std.specs.Prelude.{ℕ, List, []}
 use Rattle.tables.specs.File.{File, ac2, acc, drift, suspension, gas, opacity}
-use Rattle.rules.specs.Rule.{Rule, first_broken}
+use Rattle.rules.specs.Rule.{Rule, RuleCheck, first_broken}
 use Rattle.tables.specs.Value.{values_of}
 use Rattle.due.specs.Values.{new_values}
-use Rattle.rules.specs.declared.RuleCheck.{RuleCheck}
 use Rattle.rules.specs.Bookings.{new_rules, old_rules}
 use Rattle.rules.specs.Differences.{differences_from}
 

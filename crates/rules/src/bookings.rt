@@ -1,23 +1,22 @@
 // The rules of bookings (01, Bookings; row 12): AC2's own, and ACC against AC2. Each test is of values.
-ghost use Rattle.std.specs.Prelude.{◌≡◌, cond, List, [], ◌∷◌, ℕ, ◌-◌, ◌≤◌, eqb};
+ghost use Rattle.std.specs.Prelude.{◌≡◌, cond, List, [], ◌∷◌, map, ℕ, ◌-◌, ◌≤◌, Some, Ok};
 ghost use Rattle.kinds.specs.Value.{is_word};
 ghost use Rattle.kinds.specs.Meaning.{day_read};
-ghost use Rattle.kinds.specs.declared.NumberRead.{NumberRead};
 ghost use Rattle.tables.specs.File.{ac2, acc};
 ghost use Rattle.tables.specs.Value.{values_of, Held};
 ghost use Rattle.due.specs.Values.{new_values};
 ghost use Rattle.due.specs.Booking.{booking_in};
 ghost use Rattle.rules.specs.Rule.{broken, first_broken};
-ghost use Rattle.rules.specs.Bookings.{type_of, type_is, parking_brake_fits, descriptions_of, descriptions, year_fits, directive_of, period_of, petrol_word, petrol_fits, diesel_fits, fuel_fits, old_brake_fits, number_is, count_of, special_words, parking_axles_fit, new_rules, old_rules};
+ghost use Rattle.rules.specs.Bookings.{type_of, type_is, parking_brake_fits, descriptions_of, descriptions, year_fits, directive_of, period_of, petrol_word, petrol_fits, diesel_fits, fuel_fits, old_brake_fits, number_is, count_of, parking_axles_fit, new_rules, old_rules};
 ghost use Rattle.rules.specs.declared.Directive.{Directive};
 ghost use Rattle.refusals.specs.declared.RefusalKind.{RefusalKind};
 
-use crate::{BrokenRule, Descriptions, Directive, Period, PetrolWord, RuleCheck, VehicleType};
+use crate::{BrokenRule, Descriptions, Directive, Period, PetrolWord, VehicleType};
 use tables::pairs;
 
 // ---- categories
 
-const TYPES: [VehicleType; 17] = [
+static TYPES: [VehicleType; 17] = [
     VehicleType::Leggero, // M1
     VehicleType::Pesante, // M2
     VehicleType::Pesante, // M3
@@ -40,13 +39,10 @@ const TYPES: [VehicleType; 17] = [
 fn vehicle_type(category: usize) -> VehicleType
     ensures { result ≡ type_of category }
 {
-    if category < 17 {
-        return TYPES[category];
-    }
-    VehicleType::NoType
+    TYPES.get(category).map_or(VehicleType::NoType, |x| *x)
 }
 
-const DESCRIPTIONS: [Descriptions; 17] = [
+static DESCRIPTIONS: [Descriptions; 17] = [
     Descriptions::OfM1, // M1
     Descriptions::OfM2M3, // M2
     Descriptions::OfM2M3, // M3
@@ -69,10 +65,9 @@ const DESCRIPTIONS: [Descriptions; 17] = [
 fn descriptions_of(category: usize) -> Descriptions
     ensures { result ≡ descriptions_of category }
 {
-    if category < 17 {
-        return DESCRIPTIONS[category];
-    }
-    Descriptions::OfNone
+    DESCRIPTIONS
+        .get(category)
+        .map_or(Descriptions::OfNone, |x| *x)
 }
 
 // ---- AC2's own rules
@@ -88,100 +83,95 @@ fn type_fits(category: usize, value: &[u8]) -> bool
     }
 }
 
+#[tactic(auto, unfolding(crate::specs::Bookings::parking_brake_fits))]
 fn parking_brake_fits(category: usize, value: &[u8]) -> bool
     ensures { result ≡ parking_brake_fits category value.now }
 {
-    if due::is_l(category) {
-        return true;
-    }
-    !lines::equal(value, b"NON PRESENTE")
+    due::is_l(category) || !lines::equal(value, b"NON PRESENTE")
 }
 
 // A booking rule of the entry of this pair, in the file whose first pair is `first`.
-fn broken_booking(first: usize, pair: usize) -> RuleCheck
+fn keep(holds: bool, first: usize, pair: usize) -> Result<(), BrokenRule>
     requires { first ≤ pair }
-    ensures { result ≡ broken (pair - first) RefusalKind.BookingRule }
+    ensures { result ≡ cond holds (Ok tt) (broken (pair - first) RefusalKind.BookingRule) }
 {
-    RuleCheck::Broken(BrokenRule {
+    if holds {
+        return Ok(());
+    }
+    Err(BrokenRule {
         entry: pair - first,
         kind: refusals::RefusalKind::BookingRule,
     })
 }
 
 // b is what AC2 says.
-pub fn check_new_booking(b: due::Booking, booking: &[u8], places: &[u32]) -> RuleCheck
+pub fn check_new_booking(b: due::Booking, booking: &[u8], places: &[u32]) -> Result<(), BrokenRule>
     requires { Held ac2 0 booking.now places.now × (b ≡ booking_in (new_values booking.now places.now)) }
     ensures { result ≡ first_broken ac2 (new_rules (new_values booking.now places.now)) }
 {
-    if !type_fits(
-        b.category,
-        places::value_of(booking, places, pairs::AC2_TIPO_VEICOLO),
-    ) {
-        return broken_booking(pairs::AC2_FIRST, pairs::AC2_TIPO_VEICOLO);
-    }
-    if !parking_brake_fits(
-        b.category,
-        places::value_of(booking, places, pairs::AC2_AZIONAMENTO_FRENO_STAZIONAMENTO),
-    ) {
-        return broken_booking(pairs::AC2_FIRST, pairs::AC2_AZIONAMENTO_FRENO_STAZIONAMENTO);
-    }
-    RuleCheck::Kept
+    let kind = places::value_of(booking, places, pairs::AC2_TIPO_VEICOLO);
+    let brake = places::value_of(booking, places, pairs::AC2_AZIONAMENTO_FRENO_STAZIONAMENTO);
+    keep(
+        type_fits(b.category, kind),
+        pairs::AC2_FIRST,
+        pairs::AC2_TIPO_VEICOLO,
+    )?;
+    keep(
+        parking_brake_fits(b.category, brake),
+        pairs::AC2_FIRST,
+        pairs::AC2_AZIONAMENTO_FRENO_STAZIONAMENTO,
+    )
 }
 
 // ---- ACC against AC2
 
-fn is_either(value: &[u8], first: &[u8], second: &[u8]) -> bool
-    ensures { result ≡ is_word (first.now ∷ second.now ∷ []) value.now }
+// One of the words.
+fn is_among(words: &[&[u8]], value: &[u8]) -> bool
+    ensures { result ≡ is_word (map (λ w. w.now) words.now) value.now }
 {
-    if lines::equal(value, first) {
-        return true;
-    }
-    lines::equal(value, second)
+    words.iter().any(|word| lines::equal(value, word))
 }
 
-// One of three words, or one of the two that M1 and N share.
-fn is_description(value: &[u8], first: &[u8], second: &[u8], third: &[u8]) -> bool
-    ensures { result ≡ is_word (first.now ∷ second.now ∷ third.now ∷ special_words) value.now }
-{
-    if lines::equal(value, first) {
-        return true;
-    }
-    if lines::equal(value, second) {
-        return true;
-    }
-    if lines::equal(value, third) {
-        return true;
-    }
-    is_either(value, b"TRASPORTO SPECIFICO", b"USO SPECIALE")
-}
-
+#[tactic(auto, unfolding(kinds::specs::Value::is_word, kinds::specs::Value::word_index))]
 fn description_fits(category: usize, old: &[u8]) -> bool
     ensures { result ≡ is_word (descriptions (descriptions_of category)) old.now }
 {
     match descriptions_of(category) {
-        Descriptions::OfM1 => is_description(old, b"AUTOVETTURA", b"PROMISCUO", b"AUTOCARAVAN"),
-        Descriptions::OfM2M3 => lines::equal(old, b"AUTOBUS"),
-        Descriptions::OfN => is_description(
+        Descriptions::OfM1 => is_among(
+            &[
+                b"AUTOVETTURA",
+                b"PROMISCUO",
+                b"AUTOCARAVAN",
+                b"TRASPORTO SPECIFICO",
+                b"USO SPECIALE",
+            ],
             old,
-            b"AUTOCARRO",
-            b"TRATTORE STRADALE",
-            b"TRATTORE PER SEMIRIMORCHIO",
         ),
-        Descriptions::OfO => is_either(old, b"RIMORCHIO", b"SEMIRIMORCHIO"),
+        Descriptions::OfM2M3 => is_among(&[b"AUTOBUS"], old),
+        Descriptions::OfN => is_among(
+            &[
+                b"AUTOCARRO",
+                b"TRATTORE STRADALE",
+                b"TRATTORE PER SEMIRIMORCHIO",
+                b"TRASPORTO SPECIFICO",
+                b"USO SPECIALE",
+            ],
+            old,
+        ),
+        Descriptions::OfO => is_among(&[b"RIMORCHIO", b"SEMIRIMORCHIO"], old),
         Descriptions::OfNone => false,
     }
 }
 
+#[tactic(auto, unfolding(crate::specs::Bookings::year_fits))]
 fn year_fits(date: &[u8], old: &[u8]) -> bool
     ensures { result ≡ year_fits date.now old.now }
 {
-    if date.len() < 4 {
-        return lines::equal(old, b"");
-    }
-    lines::equal(old, &date[4..])
+    lines::equal(old, &date[date.len().min(4)..])
 }
 
 // By the place in the list of petrol directives.
+#[tactic(auto, unfolding(crate::specs::Bookings::directive_of, kinds::specs::Value::words_of, kinds::specs::Value::numbered_lists))]
 fn directive_of(value: &[u8]) -> Directive
     ensures { result ≡ directive_of value.now }
 {
@@ -197,7 +187,7 @@ fn directive_of(value: &[u8]) -> Directive
 // Of every value that reads as this day, the number yyyymmdd. Both fuel dates are the first of their month, and day 00 counts as
 // that day (02, 3/14): so the month decides, whose first number is that of its day 00.
 fn period_at(day: u32) -> Period
-    ensures { (v : List ℕ) → day_read v ≡ NumberRead.Of day → result ≡ period_of v }
+    ensures { (v : List ℕ) → day_read v ≡ Some day → result ≡ period_of v }
 {
     if day < 19861000 {
         return Period::Before1986;
@@ -212,39 +202,19 @@ fn period_of(date: &[u8]) -> Period
     ensures { result ≡ period_of date.now }
 {
     match kinds::read_day(date) {
-        kinds::NumberRead::Of(day) => period_at(day),
-        kinds::NumberRead::Wrong => Period::Later,
-    }
-}
-
-fn rt1902_word(period: Period) -> PetrolWord
-    ensures { result ≡ petrol_word Directive.Rt1902 period }
-{
-    match period {
-        Period::Before1986 => PetrolWord::Under86,
-        Period::Before2002 => PetrolWord::NoCat,
-        Period::Later => PetrolWord::NoWord,
-    }
-}
-
-fn nessuna_word(period: Period) -> PetrolWord
-    ensures { result ≡ petrol_word Directive.Nessuna period }
-{
-    match period {
-        Period::Before1986 => PetrolWord::Under86,
-        Period::Before2002 => PetrolWord::NoWord,
-        Period::Later => PetrolWord::NoWord,
+        Some(day) => period_at(day),
+        None => Period::Later,
     }
 }
 
 fn petrol_word(directive: Directive, period: Period) -> PetrolWord
     ensures { result ≡ petrol_word directive period }
 {
-    match directive {
-        Directive::Nessuna => nessuna_word(period),
-        Directive::Rt1902 => rt1902_word(period),
-        Directive::Catalyst => PetrolWord::Cat,
-        Directive::NoDirective => PetrolWord::NoWord,
+    match (directive, period) {
+        (Directive::Catalyst, _) => PetrolWord::Cat,
+        (Directive::Nessuna | Directive::Rt1902, Period::Before1986) => PetrolWord::Under86,
+        (Directive::Rt1902, Period::Before2002) => PetrolWord::NoCat,
+        _ => PetrolWord::NoWord,
     }
 }
 
@@ -259,6 +229,7 @@ fn petrol_fits(word: PetrolWord, old: &[u8]) -> bool
     }
 }
 
+#[tactic(auto, unfolding(crate::specs::Bookings::diesel_fits))]
 fn diesel_fits(turbo: &[u8], corrector: &[u8], old: &[u8]) -> bool
     ensures { result ≡ diesel_fits turbo.now corrector.now old.now }
 {
@@ -296,43 +267,31 @@ fn fuel_fits(fuel: due::Fuel, booking: &[u8], places: &[u32], old: &[u8]) -> boo
     }
 }
 
+#[tactic(auto, unfolding(crate::specs::Bookings::old_brake_fits))]
 fn old_brake_fits(new: &[u8], old: &[u8]) -> bool
     ensures { result ≡ old_brake_fits new.now old.now }
 {
-    if !lines::equal(new, b"ELETTRICO") {
-        return lines::equal(old, new);
+    if lines::equal(new, b"ELETTRICO") {
+        return is_among(&[b"MANO", b"PEDALE"], old);
     }
-    is_either(old, b"MANO", b"PEDALE")
-}
-
-fn one_if_s(c: u8) -> usize
-    ensures { (result ≡ cond (eqb c 83) 1 0) × (result ≤ 1) }
-{
-    if c == b'S' { 1 } else { 0 }
+    lines::equal(old, new)
 }
 
 // How many bytes of the part are S.
 fn count_s(part: &[u8]) -> usize
     ensures { result ≡ count_of 83 part.now }
 {
-    let mut n = 0;
-    let mut i = 0;
-    while i < part.len() {
-        n += one_if_s(part[i]);
-        i += 1;
-    }
-    n
+    part.iter().filter(|c| **c == b'S').count()
 }
 
+#[tactic(auto, unfolding(crate::specs::Bookings::number_is, kinds::specs::Meaning::number_read))]
 pub fn number_is(value: &[u8], n: usize) -> bool
     ensures { result ≡ number_is value.now n }
 {
-    match kinds::read_number(value) {
-        kinds::NumberRead::Of(m) => (m as usize) == n,
-        kinds::NumberRead::Wrong => false,
-    }
+    kinds::read_number(value).is_some_and(|m| m as usize == n)
 }
 
+#[tactic(auto, unfolding(crate::specs::Bookings::parking_axles_fit))]
 fn parking_axles_fit(positions: &[u8], old: &[u8]) -> bool
     ensures { result ≡ parking_axles_fit positions.now old.now }
 {
@@ -340,48 +299,53 @@ fn parking_axles_fit(positions: &[u8], old: &[u8]) -> bool
 }
 
 // b is what AC2 says, `text` is ACC.
-pub fn check_old_booking(b: due::Booking, booking: &[u8], text: &[u8], places: &[u32]) -> RuleCheck
+pub fn check_old_booking(
+    b: due::Booking,
+    booking: &[u8],
+    text: &[u8],
+    places: &[u32],
+) -> Result<(), BrokenRule>
     requires { Held ac2 0 booking.now places.now × (b ≡ booking_in (new_values booking.now places.now)) × Held acc 0 text.now places.now }
     ensures { result ≡ first_broken acc (old_rules (new_values booking.now places.now) (values_of acc 0 text.now places.now)) }
 {
-    let fuel = b.fuel;
-    if !lines::equal(
-        places::value_of(text, places, pairs::ACC_TIPO_VEICOLO),
-        places::value_of(booking, places, pairs::AC2_TIPO_VEICOLO),
-    ) {
-        return broken_booking(pairs::ACC_FIRST, pairs::ACC_TIPO_VEICOLO);
-    }
-    if !description_fits(
-        b.category,
-        places::value_of(text, places, pairs::ACC_DESCRIZIONE_VEICOLO),
-    ) {
-        return broken_booking(pairs::ACC_FIRST, pairs::ACC_DESCRIZIONE_VEICOLO);
-    }
-    if !year_fits(
-        places::value_of(booking, places, pairs::AC2_DATA_PRIMA_IMM),
-        places::value_of(text, places, pairs::ACC_ANNO_PRIMA_IMM),
-    ) {
-        return broken_booking(pairs::ACC_FIRST, pairs::ACC_ANNO_PRIMA_IMM);
-    }
-    if !fuel_fits(
-        fuel,
-        booking,
-        places,
-        places::value_of(text, places, pairs::ACC_ALIMENTAZIONE_1),
-    ) {
-        return broken_booking(pairs::ACC_FIRST, pairs::ACC_ALIMENTAZIONE_1);
-    }
-    if !old_brake_fits(
-        places::value_of(booking, places, pairs::AC2_AZIONAMENTO_FRENO_STAZIONAMENTO),
-        places::value_of(text, places, pairs::ACC_FRENO_STAZIONAMENTO),
-    ) {
-        return broken_booking(pairs::ACC_FIRST, pairs::ACC_FRENO_STAZIONAMENTO);
-    }
-    if !parking_axles_fit(
-        places::value_of(booking, places, pairs::AC2_POS_ASSI_STAZ),
-        places::value_of(text, places, pairs::ACC_NUM_ASSI_STAZIONAMENTO),
-    ) {
-        return broken_booking(pairs::ACC_FIRST, pairs::ACC_NUM_ASSI_STAZIONAMENTO);
-    }
-    RuleCheck::Kept
+    let kind = places::value_of(booking, places, pairs::AC2_TIPO_VEICOLO);
+    let date = places::value_of(booking, places, pairs::AC2_DATA_PRIMA_IMM);
+    let brake = places::value_of(booking, places, pairs::AC2_AZIONAMENTO_FRENO_STAZIONAMENTO);
+    let positions = places::value_of(booking, places, pairs::AC2_POS_ASSI_STAZ);
+    let old_kind = places::value_of(text, places, pairs::ACC_TIPO_VEICOLO);
+    let description = places::value_of(text, places, pairs::ACC_DESCRIZIONE_VEICOLO);
+    let year = places::value_of(text, places, pairs::ACC_ANNO_PRIMA_IMM);
+    let fuel = places::value_of(text, places, pairs::ACC_ALIMENTAZIONE_1);
+    let old_brake = places::value_of(text, places, pairs::ACC_FRENO_STAZIONAMENTO);
+    let axles = places::value_of(text, places, pairs::ACC_NUM_ASSI_STAZIONAMENTO);
+    keep(
+        lines::equal(old_kind, kind),
+        pairs::ACC_FIRST,
+        pairs::ACC_TIPO_VEICOLO,
+    )?;
+    keep(
+        description_fits(b.category, description),
+        pairs::ACC_FIRST,
+        pairs::ACC_DESCRIZIONE_VEICOLO,
+    )?;
+    keep(
+        year_fits(date, year),
+        pairs::ACC_FIRST,
+        pairs::ACC_ANNO_PRIMA_IMM,
+    )?;
+    keep(
+        fuel_fits(b.fuel, booking, places, fuel),
+        pairs::ACC_FIRST,
+        pairs::ACC_ALIMENTAZIONE_1,
+    )?;
+    keep(
+        old_brake_fits(brake, old_brake),
+        pairs::ACC_FIRST,
+        pairs::ACC_FRENO_STAZIONAMENTO,
+    )?;
+    keep(
+        parking_axles_fit(positions, axles),
+        pairs::ACC_FIRST,
+        pairs::ACC_NUM_ASSI_STAZIONAMENTO,
+    )
 }

@@ -18,71 +18,54 @@ fn same_field(answer: &[u8], last: usize, end: usize, text: &[u8], places: &[u32
 }
 
 // 15: whether the seven fields of the answer are gas's seven values.
+#[tactic(auto, unfolding(crate::specs::Identification::same_fields), using(crate::proofs::Rules::seven_at))]
 pub fn same_fields(answer: &[u8], ends: serial::FieldEnds, text: &[u8], places: &[u32]) -> bool
     requires { Ordered (length answer.now) ends × Held gas 0 text.now places.now }
     ensures { result ≡ same_fields (seven_in answer.now ends) (seven_of (values_of gas 0 text.now places.now)) }
 {
-    if !same_field(
+    same_field(
         answer,
         ends.id,
         ends.mar,
         text,
         places,
         pairs::GAS_MARCA_ANALIZZATORE,
-    ) {
-        return false;
-    }
-    if !same_field(
+    ) && same_field(
         answer,
         ends.mar,
         ends.model,
         text,
         places,
         pairs::GAS_TIPO_ANALIZZATORE,
-    ) {
-        return false;
-    }
-    if !same_field(
+    ) && same_field(
         answer,
         ends.model,
         ends.numom,
         text,
         places,
         pairs::GAS_NUM_OMOLOGA_ANALIZZATORE,
-    ) {
-        return false;
-    }
-    if !same_field(
+    ) && same_field(
         answer,
         ends.numom,
         ends.numser,
         text,
         places,
         pairs::GAS_NUM_SERIE_ANALIZZATORE,
-    ) {
-        return false;
-    }
-    if !same_field(
+    ) && same_field(
         answer,
         ends.numser,
         ends.datasca,
         text,
         places,
         pairs::GAS_DATA_SCADENZA_ANALIZZATORE,
-    ) {
-        return false;
-    }
-    if !same_field(
+    ) && same_field(
         answer,
         ends.datasca,
         ends.numver,
         text,
         places,
         pairs::GAS_NUM_VERS_SOFTWARE_ANALIZZATORE,
-    ) {
-        return false;
-    }
-    same_field(
+    ) && same_field(
         answer,
         ends.numver,
         ends.vermctcnet,

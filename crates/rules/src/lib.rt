@@ -8,21 +8,20 @@ mod identification; // identification.rt: the identification answer against gas
 mod marks; // marks.rt: what acceptance says of a result file
 mod slices; // slices.rt: the stem, and which slices are due and read
 
-ghost use Rattle.std.specs.Prelude.{◌≡◌, ◌≤◌};
+ghost use Rattle.std.specs.Prelude.{◌≡◌, ◌≤◌, Ok};
 ghost use Rattle.tables.specs.File.{ac2, of_number, most_axles};
 ghost use Rattle.due.specs.Values.{new_values};
 ghost use Rattle.tables.specs.Value.{Held, NumberHeld};
 ghost use Rattle.due.specs.Booking.{booking_in};
 ghost use Rattle.rules.specs.Rules.{first_broken_at};
-ghost use Rattle.rules.specs.declared.RuleCheck.{RuleCheck};
 
 pub use identification::same_fields;
 pub use marks::is_marked;
 pub use slices::{good_stem, identification_right, is_read, slice_right, stated_of};
-use tables::{AC2, ACC, DRIFT, GAS, OPACITY, SUSPENSION};
+use tables::{AC2, ACC, SUSPENSION};
 
 // The word that TipoVeicolo must be.
-#[derive(Clone, Copy)]
+#[derive(Debug, PartialEq, Eq, Clone, Copy)]
 pub enum VehicleType {
     Leggero,
     Pesante,
@@ -31,7 +30,7 @@ pub enum VehicleType {
 }
 
 // The words that DescrizioneVeicolo may be.
-#[derive(Clone, Copy)]
+#[derive(Debug, PartialEq, Eq, Clone, Copy)]
 pub enum Descriptions {
     OfM1,
     OfM2M3,
@@ -41,7 +40,7 @@ pub enum Descriptions {
 }
 
 // DirettivaEmissioniGasBenzinaAuto: Catalyst is 91/441/CEE or 98/69/CE.
-#[derive(Clone, Copy)]
+#[derive(Debug, PartialEq, Eq, Clone, Copy)]
 pub enum Directive {
     Nessuna,
     Rt1902,
@@ -50,7 +49,7 @@ pub enum Directive {
 }
 
 // Where a day of first registration stands to 01/10/1986 and 01/07/2002.
-#[derive(Clone, Copy)]
+#[derive(Debug, PartialEq, Eq, Clone, Copy)]
 pub enum Period {
     Before1986,
     Before2002,
@@ -58,7 +57,7 @@ pub enum Period {
 }
 
 // What ACC's Alimentazione_1 must be with BENZINA.
-#[derive(Clone, Copy)]
+#[derive(Debug, PartialEq, Eq, Clone, Copy)]
 pub enum PetrolWord {
     Cat,
     Under86,
@@ -67,7 +66,7 @@ pub enum PetrolWord {
 }
 
 // What the caller states: whether the stem's first digit is 9.
-#[derive(Clone, Copy)]
+#[derive(Debug, PartialEq, Eq, Clone, Copy)]
 pub struct Stated {
     pub nine: bool,
 }
@@ -79,12 +78,6 @@ pub struct BrokenRule {
     pub kind: refusals::RefusalKind,
 }
 
-#[derive(Clone, Copy)]
-pub enum RuleCheck {
-    Kept,
-    Broken(BrokenRule),
-}
-
 // 12 and 13: the first rule of the file, by its number, that its values and AC2's do not keep. b is what AC2 says.
 pub fn first_broken(
     file: u32,
@@ -93,17 +86,14 @@ pub fn first_broken(
     booking: &[u8],
     text: &[u8],
     places: &[u32],
-) -> RuleCheck
+) -> Result<(), BrokenRule>
     requires { (axles ≤ most_axles) × Held ac2 0 booking.now places.now × (b ≡ booking_in (new_values booking.now places.now)) × NumberHeld file axles text.now places.now }
-    ensures { result ≡ of_number RuleCheck.Kept (λ f. first_broken_at f axles booking.now text.now places.now) file }
+    ensures { result ≡ of_number (Ok tt) (λ f. first_broken_at f axles booking.now text.now places.now) file }
 {
     match file {
         AC2 => bookings::check_new_booking(b, booking, places),
         ACC => bookings::check_old_booking(b, booking, text, places),
-        DRIFT => RuleCheck::Kept,
         SUSPENSION => differences::check_differences(axles, text, places),
-        GAS => RuleCheck::Kept,
-        OPACITY => RuleCheck::Kept,
-        _ => RuleCheck::Kept,
+        _ => Ok(()),
     }
 }

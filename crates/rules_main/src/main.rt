@@ -10,17 +10,15 @@
 // F is one digit. With file 1 the second part is empty: AC2 is the file.
 #![tactic(auto)]
 
-ghost use Rattle.std.specs.Prelude.{◌≡◌, true, ◌+◌, ◌*◌, ◌<◌, ◌≤◌, min, length};
+ghost use Rattle.std.specs.Prelude.{◌≡◌, true, ◌+◌, ◌*◌, ◌<◌, ◌≤◌, length, IfOk, IfSome};
 ghost use Rattle.places.specs.Places.{place_size, pairs_at, Within};
 ghost use Rattle.tables.specs.File.{ac2, gas as gas_file, entries, first_pair, least_places, of_number, most_axles};
 ghost use Rattle.serial.specs.Reading.{Ordered};
 ghost use Rattle.tables.specs.Value.{Held, NumberHeld};
 
 use due::{Booking, Conditions, Due};
-use files::TextAnswer;
-use refusals::RefusalKind;
-use rules::{RuleCheck, Stated};
-use serial::{FieldEnds, IdentificationRead};
+use rules::Stated;
+use serial::FieldEnds;
 use std::io;
 use std::io::{BufWriter, Read, Write};
 
@@ -29,74 +27,42 @@ use std::io::{BufWriter, Read, Write};
 // 01, Judging: "at least 278 numbers"; 02, 2/14: two more for each entry of opacity.
 const LEAST_PLACES: usize = 388;
 
-// An axle count that no file has: the file was refused.
-const NOT_READ: usize = 10;
+// As many axles as a file has at most (01, Results).
+const MOST_AXLES: usize = 9;
 
-fn print_number(out: &mut impl Write, n: u32) -> io::Result<()> {
-    write!(out, " {n}")
-}
-
-fn print_refused(out: &mut impl Write, kind: RefusalKind, line: u32) -> io::Result<()> {
-    out.write_all(b"refused")?;
-    print_number(out, refusals::refusal_number(kind))?;
-    out.write_all(b", line")?;
-    print_number(out, line)
-}
-
-fn axles_of(file: u32, sections: usize) -> usize {
-    let fixed = tables::fixed_section_count(file);
-    if sections < fixed {
-        return NOT_READ;
-    }
-    sections - fixed
-}
-
-// The axle count of a file, which is 0 for a file without axles; its pairs and lines are filled.
+// The axle count of a file, which is 0 for a file without axles; its pairs and lines are filled. None where it is refused.
 fn read_file(
     out: &mut impl Write,
     file: u32,
     text: &[u8],
     places: &mut [u32],
     lines: &mut [u32],
-) -> io::Result<usize>
+) -> io::Result<Option<usize>>
     requires { (least_places ≤ length places.old) × (64 ≤ length lines.old) }
-    ensures { length places.new ≡ length places.old }
+    ensures same_length { length places.new ≡ length places.old }
+    ensures few { IfOk result (λ r. IfSome r (λ n. n ≤ most_axles)) }
 {
     match files::read_text(file, text, places, lines) {
-        TextAnswer::Faulty(x) => {
-            let kind = x.kind;
-            print_refused(out, kind, x.line)?;
-            out.write_all(b"\n")?;
-            Ok(NOT_READ)
+        Err(x) => {
+            let number = refusals::refusal_number(x.kind);
+            let line = x.line;
+            writeln!(out, "refused {number}, line {line}")?;
+            Ok(None)
         }
-        TextAnswer::Sections(count) => Ok(axles_of(file, count)),
+        Ok(count) => Ok(
+            count
+                .checked_sub(tables::fixed_section_count(file))
+                .filter(|n| *n <= MOST_AXLES),
+        ),
     }
 }
 
-fn read_booking(out: &mut impl Write, text: &[u8], places: &mut [u32]) -> io::Result<usize>
+fn read_booking(out: &mut impl Write, text: &[u8], places: &mut [u32]) -> io::Result<Option<usize>>
     requires { least_places ≤ length places.old }
     ensures { length places.new ≡ length places.old }
 {
     let mut lines = [0u32; 64];
     read_file(out, 1, text, places, &mut lines)
-}
-
-// AC2, then the file, whose axle count and lines are handed back.
-fn read_both(
-    out: &mut impl Write,
-    file: u32,
-    booking: &[u8],
-    text: &[u8],
-    places: &mut [u32],
-    lines: &mut [u32],
-) -> io::Result<usize>
-    requires { (least_places ≤ length places.old) × (64 ≤ length lines.old) }
-    ensures { length places.new ≡ length places.old }
-{
-    if read_booking(out, booking, places)? != 0 {
-        return Ok(NOT_READ);
-    }
-    read_file(out, file, text, places, lines)
 }
 
 // ---- pairs within their text
@@ -136,12 +102,10 @@ fn pairs_within(text: &[u8], places: &[u32], first: usize, count: usize) -> bool
     requires { place_size * (first + count) ≤ length places.now }
     ensures { result ≡ true → Within text.now (pairs_at places.now first count) }
 {
-    let mut i = 0;
-    while i < count {
+    for i in 0..count {
         if !pair_within(text, places, first + i) {
             return false;
         }
-        i += 1;
     }
     true
 }
@@ -156,39 +120,21 @@ fn is_held(file: u32, axles: usize, text: &[u8], places: &[u32]) -> bool
 
 // ---- an entry by its name
 
-// Where the line that holds this place begins.
-fn line_start(text: &[u8], place: usize) -> usize
-    requires { place ≤ length text.now }
-    ensures { result ≤ place }
-{
-    let mut i = place;
-    while 0 < i {
-        if text[i - 1] == b'\n' {
-            return i;
-        }
-        i -= 1;
-    }
-    i
-}
-
-// The name of the entry whose value starts here, as it stands in the text.
+// The name of the entry whose value starts here, as it stands in the text: from the line's first byte up to the `=`.
 fn print_name(out: &mut impl Write, text: &[u8], start: usize) -> io::Result<()> {
-    if start == 0 {
+    let Some((_, before)) = text.get(..start).and_then(|t| t.split_last()) else {
         return Ok(());
+    };
+    match before.rsplit(|b| *b == b'\n').next() {
+        Some(name) => out.write_all(name),
+        None => Ok(()),
     }
-    if text.len() < start {
-        return Ok(());
-    }
-    let equals = start - 1;
-    let from = line_start(text, equals);
-    out.write_all(&text[from..equals])
 }
 
 fn print_line(out: &mut impl Write, lines: &[u32], entry: usize) -> io::Result<()> {
-    if entry < lines.len() {
-        print_number(out, lines[entry])
-    } else {
-        Ok(())
+    match lines.get(entry) {
+        Some(line) => write!(out, " {line}"),
+        None => Ok(()),
     }
 }
 
@@ -209,9 +155,7 @@ fn print_refusal(
     if count <= entry {
         return out.write_all(b"none\n");
     }
-    out.write_all(b"refused")?;
-    print_number(out, number)?;
-    out.write_all(b", line")?;
+    write!(out, "refused {number}, line")?;
     print_line(out, lines, entry)?;
     out.write_all(b": ")?;
     print_name(
@@ -225,19 +169,15 @@ fn print_refusal(
 // ---- due entries
 
 fn print_due(out: &mut impl Write, due: Due) -> io::Result<()> {
-    match due {
-        Due::IsDue => out.write_all(b"due     "),
-        Due::NotDue => out.write_all(b"not due "),
-        Due::IsFree => out.write_all(b"free    "),
-    }
+    out.write_all(match due {
+        Due::IsDue => b"due     ",
+        Due::NotDue => b"not due ",
+        Due::IsFree => b"free    ",
+    })
 }
 
 fn print_found(out: &mut impl Write, filled: bool) -> io::Result<()> {
-    if filled {
-        out.write_all(b"filled  ")
-    } else {
-        out.write_all(b"empty   ")
-    }
+    out.write_all(if filled { b"filled  " } else { b"empty   " })
 }
 
 fn differs(due: Due, filled: bool) -> bool {
@@ -278,10 +218,8 @@ fn show_entries(
 ) -> io::Result<()>
     requires { place_size * (first + count) ≤ length places.now }
 {
-    let mut i = 0;
-    while i < count {
+    for i in 0..count {
         show_entry(out, due::due_of(file, i, c), text, places, first + i)?;
-        i += 1;
     }
     Ok(())
 }
@@ -329,10 +267,9 @@ fn show_rules(
 {
     let b = due::booking_of(booking, places);
     match rules::first_broken(file, axles, b, booking, text, places) {
-        RuleCheck::Kept => out.write_all(b"kept\n"),
-        RuleCheck::Broken(x) => {
-            let kind = x.kind;
-            let number = refusals::refusal_number(kind);
+        Ok(()) => out.write_all(b"kept\n"),
+        Err(x) => {
+            let number = refusals::refusal_number(x.kind);
             print_refusal(out, number, x.entry, file, axles, text, places, lines)
         }
     }
@@ -373,22 +310,19 @@ fn show_file(
 ) -> io::Result<()> {
     let mut places = [0u32; LEAST_PLACES];
     let mut lines = [0u32; 64];
-    let axles = read_both(out, file, booking, text, &mut places, &mut lines)?;
-    if axles < NOT_READ {
-        show_held(out, all_rules, file, axles, booking, text, &places, &lines)
-    } else {
-        Ok(())
+    if read_booking(out, booking, &mut places)? != Some(0) {
+        return Ok(());
+    }
+    match read_file(out, file, text, &mut places, &mut lines)? {
+        Some(axles) => show_held(out, all_rules, file, axles, booking, text, &places, &lines),
+        None => Ok(()),
     }
 }
 
 // ---- the stem and the slices
 
 fn print_verdict(out: &mut impl Write, right: bool) -> io::Result<()> {
-    if right {
-        out.write_all(b"right")
-    } else {
-        out.write_all(b"wrong")
-    }
+    out.write_all(if right { b"right" } else { b"wrong" })
 }
 
 fn show_stem(out: &mut impl Write, stem: &[u8]) -> io::Result<()> {
@@ -400,9 +334,7 @@ fn show_stem(out: &mut impl Write, stem: &[u8]) -> io::Result<()> {
 }
 
 fn show_slice(out: &mut impl Write, file: u32, stated: Stated, booking: Booking) -> io::Result<()> {
-    out.write_all(b"file")?;
-    print_number(out, file)?;
-    out.write_all(b": left out ")?;
+    write!(out, "file {file}: left out ")?;
     print_verdict(out, rules::slice_right(file, stated, booking, false))?;
     out.write_all(b", given ")?;
     print_verdict(out, rules::slice_right(file, stated, booking, true))?;
@@ -415,12 +347,10 @@ fn show_slice(out: &mut impl Write, file: u32, stated: Stated, booking: Booking)
 
 // Files 1 to 5 and 7; of slice 6, which is no such file, `answer` has the cases.
 fn show_slices(out: &mut impl Write, stated: Stated, booking: Booking) -> io::Result<()> {
-    let mut file = 1;
-    while file < 6 {
+    for file in [1, 2, 3, 4, 5, 7] {
         show_slice(out, file, stated, booking)?;
-        file += 1;
     }
-    show_slice(out, 7, stated, booking)
+    Ok(())
 }
 
 fn show_booking(out: &mut impl Write, booking: &[u8], stem: &[u8], places: &[u32]) -> io::Result<()>
@@ -439,7 +369,7 @@ fn show_booking(out: &mut impl Write, booking: &[u8], stem: &[u8], places: &[u32
 
 fn show_given(out: &mut impl Write, booking: &[u8], stem: &[u8]) -> io::Result<()> {
     let mut places = [0u32; LEAST_PLACES];
-    if read_booking(out, booking, &mut places)? == 0 {
+    if read_booking(out, booking, &mut places)? == Some(0) {
         show_booking(out, booking, stem, &places)
     } else {
         Ok(())
@@ -490,8 +420,8 @@ fn show_read(out: &mut impl Write, answer: &[u8], gas: &[u8], places: &[u32]) ->
     requires { Held gas_file 0 gas.now places.now }
 {
     match serial::read_identification(answer) {
-        IdentificationRead::Malformed => out.write_all(b"refused 14\n"),
-        IdentificationRead::Fields(e) => {
+        None => out.write_all(b"refused 14\n"),
+        Some(e) => {
             show_fields(out, answer, e)?;
             show_equal(out, answer, e, gas, places)
         }
@@ -528,7 +458,7 @@ fn show_answer(out: &mut impl Write, gas: &[u8], answer: &[u8]) -> io::Result<()
     if gas.len() == 0 {
         return show_answered(out, answer, gas, &places);
     }
-    if read_file(out, 5, gas, &mut places, &mut lines)? == 0 {
+    if read_file(out, 5, gas, &mut places, &mut lines)? == Some(0) {
         show_answered(out, answer, gas, &places)
     } else {
         Ok(())
@@ -539,16 +469,8 @@ fn show_answer(out: &mut impl Write, gas: &[u8], answer: &[u8]) -> io::Result<()
 
 // The file number that stands in the title at this place; 0 where none does.
 fn file_at(title: &[u8], place: usize) -> u32 {
-    if title.len() <= place {
-        return 0;
-    }
-    match title[place] {
-        b'1' => 1,
-        b'2' => 2,
-        b'3' => 3,
-        b'4' => 4,
-        b'5' => 5,
-        b'7' => 7,
+    match title.get(place) {
+        Some(digit @ (b'1'..=b'5' | b'7')) => u32::from(*digit - b'0'),
         _ => 0,
     }
 }
@@ -567,89 +489,44 @@ fn show_with(
     }
 }
 
-fn starts_with(title: &[u8], word: &[u8]) -> bool {
-    if title.len() < word.len() {
-        return false;
-    }
-    lines::equal(&title[..word.len()], word)
-}
-
 fn show_case(out: &mut impl Write, title: &[u8], first: &[u8], second: &[u8]) -> io::Result<()> {
-    if starts_with(title, b"due") {
+    if title.starts_with(b"due") {
         show_with(out, false, file_at(title, 4), first, second)
-    } else if starts_with(title, b"rules") {
+    } else if title.starts_with(b"rules") {
         show_with(out, true, file_at(title, 6), first, second)
-    } else if starts_with(title, b"stem") {
+    } else if title.starts_with(b"stem") {
         show_stem(out, first)
-    } else if starts_with(title, b"given") {
+    } else if title.starts_with(b"given") {
         show_given(out, first, second)
-    } else if starts_with(title, b"answer") {
+    } else if title.starts_with(b"answer") {
         show_answer(out, first, second)
     } else {
         Ok(())
     }
 }
 
-// Where the next byte 00 from `at` on is, or the end.
-fn part_end(input: &[u8], at: usize) -> usize
-    requires { at ≤ length input.now }
-    ensures { (at ≤ result) × (result ≤ length input.now) }
+// The part before the first byte 00, and what stands behind that byte.
+fn split_part(input: &[u8]) -> (&[u8], &[u8])
+    ensures no_longer { length result.1.now ≤ length input.now }
+    ensures shorter { 0 < length input.now → length result.1.now < length input.now }
 {
-    let mut i = at;
-    while i < input.len() {
-        if input[i] == 0 {
-            return i;
-        }
-        i += 1;
+    match input.iter().position(|b| *b == 0) {
+        Some(end) => (&input[..end], &input[end + 1..]),
+        None => (input, &input[input.len()..]),
     }
-    i
-}
-
-// The place after a byte 00 at `end`, or the end.
-fn after(input: &[u8], end: usize) -> usize
-    ensures { result ≡ min (end + 1) (length input.now) }
-{
-    if end < input.len() {
-        end + 1
-    } else {
-        input.len()
-    }
-}
-
-fn print_title(out: &mut impl Write, title: &[u8]) -> io::Result<()> {
-    out.write_all(b"-- ")?;
-    out.write_all(title)?;
-    out.write_all(b"\n")
-}
-
-// The case that begins at this place; the place after it, and whether it could be written.
-fn show_next(out: &mut impl Write, input: &[u8], at: usize) -> (usize, io::Result<()>)
-    requires { at < length input.now }
-    ensures { (at < result.0) × (result.0 ≤ length input.now) }
-{
-    let title = part_end(input, at);
-    let from = after(input, title);
-    let first = part_end(input, from);
-    let next = after(input, first);
-    let second = part_end(input, next);
-    let written = match print_title(out, &input[at..title]) {
-        Err(error) => Err(error),
-        Ok(()) => show_case(
-            out,
-            &input[at..title],
-            &input[from..first],
-            &input[next..second],
-        ),
-    };
-    (after(input, second), written)
 }
 
 fn show_all(out: &mut impl Write, input: &[u8]) -> io::Result<()> {
-    let mut at = 0;
-    while at < input.len() {
-        let (next, written) = show_next(out, input, at);
-        written?;
-        at = next;
+    let mut input = input;
+    while !input.is_empty() {
+        let (title, rest) = split_part(input);
+        let (first, rest) = split_part(rest);
+        let (second, rest) = split_part(rest);
+        out.write_all(b"-- ")?;
+        out.write_all(title)?;
+        out.write_all(b"\n")?;
+        show_case(out, title, first, second)?;
+        input = rest;
     }
     Ok(())
 }

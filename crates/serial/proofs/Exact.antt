@@ -8,14 +8,13 @@ use lib.Dec.{eqb}
 use lib.ListN.{length, get_or, drop, length-append}
 use lib.Seq.{length-take-le}
 use borrow.Author.Tests.{eqb-true, eq-eqb}
+use Rattle.std.specs.Prelude.{Option, Some, None}
 use Rattle.lines.specs.Bytes.{part, same_bytes, without}
 use Rattle.lines.specs.Text.{bytes}
 use Rattle.lines.proofs.Bytes.{same-is, same_refl}
 use Rattle.serial.specs.Identification.{separated, ten_fields, checksum, identification_of, address_ok, field_ok, all_fields_ok, seven_ok}
 use Rattle.serial.specs.Reading.{framed, checksum_ok, end_of, ends_of, Ordered, address_in, seven_in, head_ok, read_fields, front, summed, read_identification}
 use Rattle.serial.specs.declared.FieldEnds.{FieldEnds}
-use Rattle.serial.specs.declared.IdentificationRead.{IdentificationRead}
-use Rattle.serial.specs.declared.IdentificationRead.TheVariants.{Malformed, Fields}
 use Rattle.serial.proofs.Tests.{both}
 use Rattle.serial.proofs.Places.{framed-size, ends-ordered}
 use Rattle.serial.proofs.Fields.{drop-take, address-of, seven-of, ten-joined, field_after, field-stands, last-stands, field, address}
@@ -23,12 +22,12 @@ use Rattle.serial.proofs.Frame.{frame-sound, whole, whole_length, whole-front, w
 
 -- ---- what is read was written
 
-abbrev accepted : IdentificationRead → Bool
-accepted Malformed = false
-accepted (Fields e) = true
+abbrev accepted : Option FieldEnds → Bool
+accepted None = false
+accepted (Some e) = true
 
 -- a test that leads on to fields held
-held : (b : Bool) (r : IdentificationRead) (e : FieldEnds) → cond b r Malformed ≡ Fields e → (b ≡ true) × (r ≡ Fields e)
+held : (b : Bool) (r : Option FieldEnds) (e : FieldEnds) → cond b r None ≡ Some e → (b ≡ true) × (r ≡ Some e)
 held true r e q = (refl, q)
 held false r e q = absurd (true≢false (sym (ap accepted q)))
 
@@ -56,7 +55,7 @@ front_ends s e h k =
     let i : field_after s 1 ≡ bytes "ID" = same-is _ _ q.1 in
     record { ten = sym (rw (g, i) at (ten-joined s e)); address = q.0; seven = k; ordered = ends-ordered s e }
 
-front-sound : (s : List ℕ) (e : FieldEnds) → read_fields s ≡ Fields e → Front s e
+front-sound : (s : List ℕ) (e : FieldEnds) → read_fields s ≡ Some e → Front s e
 unfolding read_fields ends_of
 front-sound s e q =
     let a = held (eqb (ends_of s).vermctcnet (length s)) _ e q in
@@ -84,7 +83,7 @@ written t e h w f =
       short = h.0;
     }
 
-pub read-sound : (t : List ℕ) (e : FieldEnds) → read_identification t ≡ Fields e → Written t e
+pub read-sound : (t : List ℕ) (e : FieldEnds) → read_identification t ≡ Some e → Written t e
 unfolding read_identification
 read-sound t e q =
     let a = held (framed t) _ e q in
@@ -99,7 +98,7 @@ ends_in t = ends_of (front t)
 
 -- the answer is read, and these are its parts
 pub record Found (t v : List ℕ) (fs : List (List ℕ)) : Type 0 where
-  pub read : read_identification t ≡ Fields (ends_in t)
+  pub read : read_identification t ≡ Some (ends_in t)
   pub address : address_in t (ends_in t) ≡ v
   pub seven : seven_in t (ends_in t) ≡ fs
 
@@ -177,7 +176,7 @@ module _ (v a b c d e f g : List ℕ) (ok : address_ok v ≡ true)
   unfolding all_fields_ok
   seven-good = ap all_fields_ok cut_again.seven ∙ rw (oka, okb, okc, okd, oke, okf, okg) refl
 
-  fields_read : read_fields head ≡ Fields (ends_of head)
+  fields_read : read_fields head ≡ Some (ends_of head)
   unfolding read_fields
   fields_read = rw (eq-eqb (ends_of head).vermctcnet (length head) cut_again.end, cut_again.first, seven-good) refl
 

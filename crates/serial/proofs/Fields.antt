@@ -1,14 +1,16 @@
 -- Bytes are cut into fields at each 17 hex exactly as fields are joined by it. Assumes nothing.
 use Prim.Native.Nat.{ℕ, zero, suc, ◌+◌, ◌-◌, ◌≤◌, ◌<◌}
+use native.Mathlib.Numerals.{add-one, one-add}
 use native.Mathlib.Omega.{arith}
 use native.Mathlib.Nat.{add-sub_cancel_left, sub-zero}
-use mathlib.Core.Path.{◌≡◌, refl, ap, sym, ◌∙◌}
-use mathlib.Core.Bool.{Bool, true, false, cond, not, ◌&&◌}
+use mathlib.Core.Path.{◌≡◌, refl, ap, ap₂, sym, ◌∙◌}
+use mathlib.Core.Bool.{true, not, ◌&&◌}
 use mathlib.Core.List.{List, [], ◌∷◌, ◌++◌}
 use lib.Dec.{leb, eqb}
-use lib.ListN.{length, take, drop, length-drop}
+use lib.ListN.{length, get_or, take, drop, length-drop}
 use lib.Seq.{drop-drop, take_all, take_at, drop_at, take-nil, take-take}
 use borrow.Author.Tests.{leb-true, eqb-true, ne_eqb, not-true}
+use Rattle.std.proofs.lemmas.List.Sums.{split_at_first, passes_at_first}
 use Rattle.lines.specs.Bytes.{part, is_printable, all_printable, without, before}
 use Rattle.kinds.specs.Digits.{is_digit, all_digits}
 use Rattle.serial.specs.Identification.{separated, address_ok, field_ok}
@@ -52,14 +54,10 @@ seven-of m t e o =
 -- ---- fields that were cut, joined again
 
 cut : (s : List ℕ) → before 23 s < length s → take (before 23 s) s ++ 23 ∷ drop (suc (before 23 s)) s ≡ s
-unfolding before
-cut [] h = absurd (omega arith)
-cut (c ∷ s) h = on (eqb c 23) refl h (cut s)
-  where
-    on : (t : Bool) → eqb c 23 ≡ t → cond t 0 (suc (before 23 s)) < suc (length s) → (before 23 s < length s → take (before 23 s) s ++ 23 ∷ drop (suc (before 23 s)) s ≡ s)
-        → take (cond t 0 (suc (before 23 s))) (c ∷ s) ++ 23 ∷ drop (suc (cond t 0 (suc (before 23 s)))) (c ∷ s) ≡ c ∷ s
-    on true q h ih = ap (λ (n : ℕ). n ∷ s) (sym (eqb-true c 23 q))
-    on false q h ih = ap (λ (l : List ℕ). c ∷ l) (ih (omega arith))
+cut s h =
+    let n = before 23 s in
+    let e : get_or s n 0 ≡ 23 = eqb-true _ 23 (passes_at_first (λ b. eqb b 23) s 0 h) in
+    sym (split_at_first (λ b. eqb b 23) s 0 h ∙ ap₂ (λ (x : ℕ) (l : List ℕ). take n s ++ x ∷ l) e (ap (λ (m : ℕ). drop m s) (add-one n)))
 
 -- a field that ends before the bytes do, and the fields behind it
 next : (s : List ℕ) (i : ℕ) (f : List ℕ) (fs : List (List ℕ)) → field_end s i < length s → separated f fs ≡ drop (field_end s i + 1) s
@@ -106,18 +104,18 @@ ten-joined s e =
 -- ---- fields that were joined, cut again
 
 before-joined : (f s : List ℕ) → without 23 f ≡ true → before 23 (f ++ 23 ∷ s) ≡ length f
-unfolding before without
+unfolding without
 before-joined [] s e = refl
 before-joined (c ∷ f) s e =
     let r = both (not (eqb c 23)) (without 23 f) e in
-    rw (not-true (eqb c 23) r.0) (ap suc (before-joined f s r.1))
+    rw (not-true (eqb c 23) r.0, one-add) (ap suc (before-joined f s r.1))
 
 before_last : (f : List ℕ) → without 23 f ≡ true → before 23 f ≡ length f
-unfolding before without
+unfolding without
 before_last [] e = refl
 before_last (c ∷ f) e =
     let r = both (not (eqb c 23)) (without 23 f) e in
-    rw (not-true (eqb c 23) r.0) (ap suc (before_last f r.1))
+    rw (not-true (eqb c 23) r.0, one-add) (ap suc (before_last f r.1))
 
 pub field-stands : (s : List ℕ) (i : ℕ) (f rest : List ℕ) → without 23 f ≡ true → drop i s ≡ f ++ 23 ∷ rest
     → (part s i (field_end s i) ≡ f) × (drop (field_end s i + 1) s ≡ rest)

@@ -13,11 +13,9 @@ use Rattle.serial.specs.Identification.{sum}
 
 module _ (s : List ℕ) (i : ℕ) (h : i < length s) where
   pub before_more : (x : ℕ) → (get_or s i 0 ≡ x → ⊥) → i + before x (drop i s) ≡ i + 1 + before x (drop (i + 1) s)
-  unfolding before
   before_more x q = rw (add-one i, drop-cons s i 0 h, ne_eqb _ _ q) (omega arith)
 
   pub before-stop : (x : ℕ) → get_or s i 0 ≡ x → i + before x (drop i s) ≡ i
-  unfolding before
   before-stop x q = rw (drop-cons s i 0 h, eq-eqb _ _ q) (add-zero i)
 
   pub sum_more : (n : ℕ) → (n + sum (drop i s)) % 256 ≡ ((n + get_or s i 0) % 256 + sum (drop (i + 1) s)) % 256
@@ -25,7 +23,6 @@ module _ (s : List ℕ) (i : ℕ) (h : i < length s) where
   sum_more n = rw (add-one i, drop-cons s i 0 h) (omega arith)
 
 pub before-end : (x : ℕ) (s : List ℕ) (i : ℕ) → length s ≤ i → i + before x (drop i s) ≡ i
-unfolding before
 before-end x s i h = rw (drop_of_length-le s h) (add-zero i)
 
 pub sum-end : (s : List ℕ) (i n : ℕ) → length s ≤ i → n < 256 → (n + sum (drop i s)) % 256 ≡ n

@@ -1,11 +1,9 @@
 -- The identification answer as it is read: its frame, its checksum, its ten fields (01, Identification answer; refusal 14).
-use Rattle.std.specs.Prelude.{ℕ, zero, suc, ◌+◌, ◌-◌, ◌<◌, ◌≤◌, ◌/◌, ◌%◌, Bool, cond, ◌&&◌, List, [], ◌∷◌, leb, eqb, length, get_or, take, drop}
+use Rattle.std.specs.Prelude.{ℕ, zero, suc, ◌+◌, ◌-◌, ◌<◌, ◌≤◌, ◌/◌, ◌%◌, Bool, cond, ◌&&◌, List, [], ◌∷◌, leb, eqb, length, get_or, take, drop, Option, Some, None}
 use Rattle.lines.specs.Bytes.{part, same_bytes, before}
 use Rattle.lines.specs.Text.{bytes}
 use Rattle.serial.specs.Identification.{sum, hex_digit, address_ok, all_fields_ok}
 use Rattle.serial.specs.declared.FieldEnds.{FieldEnds}
-use Rattle.serial.specs.declared.IdentificationRead.{IdentificationRead}
-use Rattle.serial.specs.declared.IdentificationRead.TheVariants.{Malformed, Fields}
 
 -- "at most 512 bytes", 02 hex first, 03 hex last; two checksum bytes fit between
 unfoldable pub framed : List ℕ → Bool
@@ -62,9 +60,9 @@ head_ok s e =
 
 -- The ten fields of what stands before the checksum. They are exactly ten where the tenth ends with the list:
 -- of fewer the tenth end would be past it, of more before it.
-unfoldable pub read_fields : List ℕ → IdentificationRead
+unfoldable pub read_fields : List ℕ → Option FieldEnds
 read_fields s =
-    cond (eqb (ends_of s).vermctcnet (length s)) (cond (head_ok s (ends_of s)) (cond (all_fields_ok (seven_in s (ends_of s))) (Fields (ends_of s)) Malformed) Malformed) Malformed
+    cond (eqb (ends_of s).vermctcnet (length s)) (cond (head_ok s (ends_of s)) (cond (all_fields_ok (seven_in s (ends_of s))) (Some (ends_of s)) None) None) None
 
 -- what stands before the checksum
 abbrev pub front : List ℕ → List ℕ
@@ -75,6 +73,6 @@ abbrev pub summed : List ℕ → List ℕ
 summed t = part t 1 (length t - 3)
 
 -- the frame, then the checksum, then the fields; places are those of the answer itself
-unfoldable pub read_identification : List ℕ → IdentificationRead
+unfoldable pub read_identification : List ℕ → Option FieldEnds
 read_identification t =
-    cond (framed t) (cond (checksum_ok (summed t) (get_or t (length t - 3) 0) (get_or t (length t - 2) 0)) (read_fields (front t)) Malformed) Malformed
+    cond (framed t) (cond (checksum_ok (summed t) (get_or t (length t - 3) 0) (get_or t (length t - 2) 0)) (read_fields (front t)) None) None

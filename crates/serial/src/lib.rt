@@ -2,7 +2,7 @@
 // No entry of a file is known here.
 #![tactic(auto)]
 
-ghost use Rattle.std.specs.Prelude.{◌≡◌, ◌+◌, ◌<◌, ◌≤◌, ◌%◌, length};
+ghost use Rattle.std.specs.Prelude.{◌≡◌, IsTrue, ◌+◌, ◌<◌, ◌≤◌, ◌%◌, length};
 ghost use Rattle.lines.specs.Bytes.{part};
 ghost use Rattle.serial.specs.Identification.{sum, hex_digit, address_ok, field_ok, all_fields_ok};
 ghost use Rattle.serial.specs.Reading.{framed, checksum_ok, field_end, ends_of, Ordered, seven_in, head_ok, read_fields, read_identification};
@@ -10,7 +10,7 @@ ghost use Rattle.serial.specs.Reading.{framed, checksum_ok, field_end, ends_of, 
 // Where each field ends, as a place in the answer: that of the 17 hex behind it, for the last that of the checksum.
 // A field starts one place after the end of the field before it, so Mar is `&answer[id + 1..mar]`.
 // `model` stands for Mod, which is a reserved word.
-#[derive(Clone, Copy)]
+#[derive(Debug, PartialEq, Eq, Clone, Copy)]
 pub struct FieldEnds {
     pub gas: usize,
     pub address: usize,
@@ -24,90 +24,61 @@ pub struct FieldEnds {
     pub vermctcnet: usize,
 }
 
-#[derive(Clone, Copy)]
-pub enum IdentificationRead {
-    Malformed,
-    Fields(FieldEnds),
-}
-
-fn wide(x: u8) -> u32
-    ensures { (result ≡ x) × (result < 256) }
-{
-    x as u32
-}
-
 fn sum_modulo_256(part: &[u8]) -> u32
     ensures { result ≡ sum part.now % 256 }
 {
     let mut total = 0;
-    let mut i = 0;
-    while i < part.len() {
-        total = (total + wide(part[i])) % 256;
-        i += 1;
+    for &b in part {
+        total = (total + u32::from(b)) % 256;
     }
     total
 }
 
 // A capital hexadecimal digit.
+#[tactic(auto, unfolding(crate::specs::Identification::hex_digit))]
 fn hex_digit(n: u32) -> u32
     requires { n < 16 }
     ensures { result ≡ hex_digit n }
 {
-    if n < 10 {
-        return 48 + n;
-    }
-    55 + n
+    if n < 10 { 48 + n } else { 55 + n }
 }
 
 // Whether the two bytes are the checksum of the part.
+#[tactic(auto, unfolding(crate::specs::Reading::checksum_ok))]
 fn checksum_ok(part: &[u8], high: u8, low: u8) -> bool
     ensures { result ≡ checksum_ok part.now high low }
 {
     let total = sum_modulo_256(part);
-    if wide(high) != hex_digit(total / 16) {
-        return false;
-    }
-    wide(low) == hex_digit(total % 16)
+    u32::from(high) == hex_digit(total / 16) && u32::from(low) == hex_digit(total % 16)
 }
 
+#[tactic(auto, unfolding(crate::specs::Identification::address_ok))]
 fn address_ok(part: &[u8]) -> bool
     ensures { result ≡ address_ok part.now }
 {
-    if part.len() < 1 {
-        return false;
-    }
-    if 3 < part.len() {
-        return false;
-    }
-    kinds::all_digits(part)
+    1 <= part.len() && part.len() <= 3 && kinds::all_digits(part)
 }
 
+#[tactic(auto, unfolding(crate::specs::Identification::field_ok))]
 fn field_ok(part: &[u8]) -> bool
     ensures { result ≡ field_ok part.now }
 {
-    if part.len() < 1 {
-        return false;
-    }
-    if 64 < part.len() {
-        return false;
-    }
-    lines::all_printable(part)
+    1 <= part.len() && part.len() <= 64 && lines::all_printable(part)
 }
 
 // Where the field that starts at a place ends: at the next 17 hex, or with the bytes.
 fn field_end(front: &[u8], from: usize) -> usize
     ensures { (result ≡ field_end front.now from) × (from ≤ result) × (result ≤ from + length front.now) }
 {
-    let mut i = from;
-    while i < front.len() {
+    for i in from..front.len() {
         if front[i] == 0x17 {
             return i;
         }
-        i += 1;
     }
-    i
+    from.max(front.len())
 }
 
+#[tactic(auto, unfolding(crate::specs::Reading::ends_of, crate::specs::Reading::end_of))]
 fn ends_of(front: &[u8]) -> FieldEnds
     requires { length front.now ≤ 512 }
     ensures { result ≡ ends_of front.now }
@@ -137,20 +108,14 @@ fn ends_of(front: &[u8]) -> FieldEnds
 }
 
 // GAS, an address, ID.
+#[tactic(auto, unfolding(crate::specs::Reading::head_ok))]
 fn head_ok(front: &[u8], e: FieldEnds) -> bool
     requires { (1 ≤ e.gas) × Ordered (length front.now) e }
     ensures { result ≡ head_ok front.now e }
 {
-    let gas = e.gas;
-    let address = e.address;
-    let id = e.id;
-    if !lines::equal(&front[1..gas], b"GAS") {
-        return false;
-    }
-    if !address_ok(&front[gas + 1..address]) {
-        return false;
-    }
-    lines::equal(&front[address + 1..id], b"ID")
+    lines::equal(&front[1..e.gas], b"GAS")
+        && address_ok(&front[e.gas + 1..e.address])
+        && lines::equal(&front[e.address + 1..e.id], b"ID")
 }
 
 // Whether the field between two ends is good.
@@ -162,78 +127,55 @@ fn field_between(front: &[u8], last: usize, end: usize) -> bool
 }
 
 // Mar to VerMCTCNet.
+#[tactic(auto, unfolding(crate::specs::Identification::all_fields_ok))]
 fn seven_ok(front: &[u8], e: FieldEnds) -> bool
     requires { Ordered (length front.now) e }
     ensures { result ≡ all_fields_ok (seven_in front.now e) }
 {
-    if !field_between(front, e.id, e.mar) {
-        return false;
-    }
-    if !field_between(front, e.mar, e.model) {
-        return false;
-    }
-    if !field_between(front, e.model, e.numom) {
-        return false;
-    }
-    if !field_between(front, e.numom, e.numser) {
-        return false;
-    }
-    if !field_between(front, e.numser, e.datasca) {
-        return false;
-    }
-    if !field_between(front, e.datasca, e.numver) {
-        return false;
-    }
-    field_between(front, e.numver, e.vermctcnet)
+    field_between(front, e.id, e.mar)
+        && field_between(front, e.mar, e.model)
+        && field_between(front, e.model, e.numom)
+        && field_between(front, e.numom, e.numser)
+        && field_between(front, e.numser, e.datasca)
+        && field_between(front, e.datasca, e.numver)
+        && field_between(front, e.numver, e.vermctcnet)
 }
 
 // The ten fields of what stands before the checksum.
-fn read_fields(front: &[u8]) -> IdentificationRead
+#[tactic(auto, unfolding(crate::specs::Reading::read_fields))]
+fn read_fields(front: &[u8]) -> Option<FieldEnds>
     requires { length front.now ≤ 512 }
     ensures { result ≡ read_fields front.now }
 {
     let e = ends_of(front);
-    let last = e.vermctcnet;
-    if last != front.len() {
-        return IdentificationRead::Malformed;
+    if e.vermctcnet != front.len() {
+        return None;
     }
-    if !head_ok(front, e) {
-        return IdentificationRead::Malformed;
-    }
-    if !seven_ok(front, e) {
-        return IdentificationRead::Malformed;
-    }
-    IdentificationRead::Fields(e)
+    (head_ok(front, e) && seven_ok(front, e)).then_some(e)
 }
 
 // At most 512 bytes, 02 hex first, 03 hex last.
+#[tactic(auto, unfolding(crate::specs::Reading::framed))]
 fn is_framed(answer: &[u8]) -> bool
-    ensures { result ≡ framed answer.now }
+    ensures value { result ≡ framed answer.now }
+    ensures size { IsTrue result → (4 ≤ length answer.now) × (length answer.now ≤ 512) }
 {
     let n = answer.len();
-    if 512 < n {
-        return false;
-    }
-    if n < 4 {
-        return false;
-    }
-    if answer[0] != 0x02 {
-        return false;
-    }
-    answer[n - 1] == 0x03
+    n <= 512 && 4 <= n && answer[0] == 0x02 && answer[n - 1] == 0x03
 }
 
 // The answer's fields, or that it is not of the form.
-pub fn read_identification(answer: &[u8]) -> IdentificationRead
+#[tactic(auto, unfolding(crate::specs::Reading::read_identification))]
+pub fn read_identification(answer: &[u8]) -> Option<FieldEnds>
     ensures { result ≡ read_identification answer.now }
 {
     if !is_framed(answer) {
-        return IdentificationRead::Malformed;
+        return None;
     }
     let n = answer.len();
     let end = n - 3;
     if !checksum_ok(&answer[1..end], answer[end], answer[n - 2]) {
-        return IdentificationRead::Malformed;
+        return None;
     }
     read_fields(&answer[..end])
 }

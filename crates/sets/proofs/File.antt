@@ -1,4 +1,6 @@
 -- One file of a set: what the judge lets through is what is lawful and fits, for any file. Assumes nothing.
+use Rattle.rules.specs.Rule.{RuleCheck}
+use Rattle.std.specs.Prelude.{Ok, Err}
 use Prim.Native.Nat.{ℕ, ◌<◌}
 use native.Mathlib.Omega.{arith}
 use mathlib.Core.Path.{◌≡◌, refl, sym, subst}
@@ -25,8 +27,6 @@ use Rattle.rules.specs.Rule.{Rule, all_hold, first_broken}
 use Rattle.rules.specs.Rules.{rules_of}
 use Rattle.rules.specs.Slices.{old_booking_right, slice_right, is_read}
 use Rattle.rules.specs.declared.Stated.{Stated}
-use Rattle.rules.specs.declared.RuleCheck.{RuleCheck}
-use Rattle.rules.specs.declared.RuleCheck.TheVariants.{Kept, Broken}
 use Rattle.rules.proofs.Laws.{kept-all, all-kept}
 use Rattle.sets.specs.Records.{is_given, EachAsDue}
 use Rattle.sets.specs.Judge.{FileCheck, passed, failed, check_due, check_rule, file_checks, first_failed, FileRead, not_read, file_read, checked_file, judge_read, judge_reading, judge_text, judge_booking, judge_file}
@@ -49,9 +49,9 @@ passed-due f c vs h =
 rule-passed : (f : File) (rs : List Rule) → check_rule (first_broken f rs) ≡ passed → all_hold rs ≡ true
 rule-passed f rs e = kept-all f rs (on (first_broken f rs) e)
   where
-    on : (c : RuleCheck) → check_rule c ≡ passed → c ≡ Kept
-    on Kept e = refl
-    on (Broken b) e = clash (cc)
+    on : (c : RuleCheck) → check_rule c ≡ passed → c ≡ Ok tt
+    on (Ok tt) e = refl
+    on (Err b) e = clash (cc)
 
 -- what a lawful record keeps of a file that is read; a: AC2's values
 pub record RulesKept (f : File) (a : List (List ℕ)) (n : ℕ) (vs : List (List ℕ)) : Type 0 where

@@ -1,4 +1,5 @@
 -- Slice 6: the judge lets through exactly the identification answer of an address and gas's seven values. Assumes nothing.
+use Rattle.std.specs.Prelude.{Option, Some, None}
 use Prim.Native.Nat.{ℕ, ◌≤◌}
 use Prim.Native.String.{String}
 use native.Mathlib.Omega.{arith}
@@ -23,10 +24,9 @@ use Rattle.due.specs.Due.{condition_at, condition_of, exceptions}
 use Rattle.rules.specs.Slices.{identification_right}
 use Rattle.rules.specs.Identification.{seven_of, same_fields}
 use Rattle.rules.proofs.Laws.{fields-same, fields-refl}
+use Rattle.serial.specs.declared.FieldEnds.{FieldEnds}
 use Rattle.serial.specs.Identification.{identification_of, address_ok, field_ok, all_fields_ok, seven_ok}
 use Rattle.serial.specs.Reading.{read_identification, address_in, seven_in}
-use Rattle.serial.specs.declared.IdentificationRead.{IdentificationRead}
-use Rattle.serial.specs.declared.IdentificationRead.TheVariants.{Malformed, Fields}
 use Rattle.serial.proofs.Exact.{Written, read-sound, Found, read-complete}
 use Rattle.sets.specs.Records.{is_given, Address, EachAsDue}
 use Rattle.sets.specs.Judge.{judge_fields, judge_identification}
@@ -93,9 +93,9 @@ identification-sound gas_given g s v e =
     let r = given (is_given s) i.1 in
     (i.0, r.0, r.1)
   where
-    fields : (r : IdentificationRead) → read_identification s ≡ r → judge_fields g s r ≡ acceptance v → (address_ok v ≡ true) × (s ≡ identification_of v (seven_of g))
-    fields Malformed q e = clash (cc)
-    fields (Fields x) q e =
+    fields : (r : Option FieldEnds) → read_identification s ≡ r → judge_fields g s r ≡ acceptance v → (address_ok v ≡ true) × (s ≡ identification_of v (seven_of g))
+    fields None q e = clash (cc)
+    fields (Some x) q e =
         let i = require-inv (same_fields (seven_in s x) (seven_of g)) 15 identification_number 0 (acceptance (address_in s x)) v e in
         let f : seven_in s x ≡ seven_of g = fields-same (seven_in s x) (seven_of g) i.0 in
         let a : address_in s x ≡ v = cc i.1 in

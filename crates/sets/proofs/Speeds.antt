@@ -1,4 +1,5 @@
 -- 02, 1/14: "An accepted set tells a typed speed from a measured one". Assumes nothing.
+use Rattle.std.specs.Prelude.{Some}
 use Prim.Native.Nat.{ℕ}
 use mathlib.Core.Path.{◌≡◌, refl}
 use mathlib.Core.Bool.{true}
@@ -8,7 +9,6 @@ use Rattle.kinds.specs.Kind.{Revs}
 use Rattle.kinds.specs.Value.{kind_ok, word_index}
 use Rattle.kinds.specs.Meaning.{revs, revs_read}
 use Rattle.kinds.specs.declared.Revs as K
-use Rattle.kinds.specs.declared.RevsRead.TheVariants as RevsRead
 use Rattle.kinds.proofs.Readings.{revs-reads}
 use Rattle.tables.specs.Section.{entries_of}
 use Rattle.tables.specs.Entries.{protocol, measurement, analyser, counter, speed_test, all_key_dates, all_key_bodies, analysis, fuel_analysis}
@@ -34,7 +34,7 @@ gas-kept n vs k = k
 
 -- of a lawful record with gas the idle speed reads, and the mark is what its reading says
 pub speed-told : (st : Stated) (r : Record) → Lawful st r → r.given gas ≡ true
-    → (s : K.Revs) × (revs_read (of gas (r.values gas) idle_speed) ≡ RevsRead.Of s) × (is_by_hand gas (r.values gas) ≡ s.byhand)
+    → (s : K.Revs) × (revs_read (of gas (r.values gas) idle_speed) ≡ Some s) × (is_by_hand gas (r.values gas) ≡ s.byhand)
 unfolding is_by_hand is_read
 speed-told st r l g =
     let v : List ℕ = of gas (r.values gas) idle_speed in

@@ -1,8 +1,8 @@
 -- The judge of a set (01, Judging; 02, 2/14): the answer and the places, by one definition over the inputs.
-use Rattle.std.specs.Prelude.{ℕ, Bool, cond, List, [], ◌∷◌, map, leb, ltb, length, get_or}
+use Rattle.std.specs.Prelude.{ℕ, Bool, cond, List, [], ◌∷◌, map, leb, ltb, length, get_or, Option, Some, None, Ok, Err}
 use Rattle.places.specs.Places.{Pair, value_at, set_pairs, cleared}
 use Rattle.refusals.specs.Refusals.{number_of}
-use Rattle.refusals.specs.Answer.{Answer, refusal, acceptance, refusal_of, require, followed, given_by}
+use Rattle.refusals.specs.Answer.{Answer, refusal, acceptance, require, followed, given_by}
 use Rattle.tables.specs.File.{File, ac2, acc, drift, suspension, gas, opacity, files, file_number, identification_number, first_pair, least_places}
 use Rattle.reading.specs.Reading.{Reading, refused, read}
 use Rattle.files.specs.Files.{read_file, axles_of, is_by_hand}
@@ -10,29 +10,19 @@ use Rattle.due.specs.Booking.{booking_in}
 use Rattle.due.specs.Conditions.{conditions_of}
 use Rattle.due.specs.Due.{first_not_as_due}
 use Rattle.due.specs.declared.Conditions.{Conditions}
-use Rattle.rules.specs.Rule.{first_broken}
+use Rattle.rules.specs.Rule.{RuleCheck, first_broken}
 use Rattle.rules.specs.Rules.{rules_of}
 use Rattle.rules.specs.Slices.{good_stem, slice_right, is_read, identification_right}
 use Rattle.rules.specs.Identification.{seven_of, same_fields}
 use Rattle.rules.specs.Marks.{is_marked}
 use Rattle.rules.specs.declared.Stated.{Stated}
-use Rattle.rules.specs.declared.RuleCheck.{RuleCheck}
-use Rattle.rules.specs.declared.RuleCheck.TheVariants.{Kept, Broken}
 use Rattle.serial.specs.Reading.{read_identification, address_in, seven_in}
-use Rattle.serial.specs.declared.IdentificationRead.{IdentificationRead}
-use Rattle.serial.specs.declared.IdentificationRead.TheVariants.{Malformed, Fields}
+use Rattle.serial.specs.declared.FieldEnds.{FieldEnds}
 use Rattle.sets.specs.Records.{Caller, stated_in, Slices, is_given}
 use Rattle.sets.specs.declared.Figures.{Figures}
 use Rattle.sets.specs.declared.Acceptance.{Acceptance}
-use Rattle.sets.specs.declared.SetAnswer.{SetAnswer}
-use Rattle.sets.specs.declared.SetAnswer.TheVariants.{Accepted, Refused}
 
--- ---- the answer
-
--- the code's acceptance is the definition's; a refusal by this paper's number
-abbrev pub answer_is : SetAnswer → Answer Acceptance
-answer_is (Accepted a) = acceptance a
-answer_is (Refused x) = refusal_of x
+-- ---- what acceptance carries
 
 -- what acceptance takes from a file of n axles with these values: "a mark .., set exactly when it is given with CodErrore filled";
 -- 02, 1/14: whether its idle speed was entered by hand. Of a file that is not given no value is there, so none is set (`not-given`).
@@ -74,8 +64,8 @@ check_due f c vs = cond (ltb (first_not_as_due f c vs) (length vs)) (failed 10 (
 
 -- 12 or 13
 abbrev pub check_rule : RuleCheck → FileCheck
-check_rule Kept = passed
-check_rule (Broken b) = failed (number_of b.kind) b.entry
+check_rule (Ok x) = passed
+check_rule (Err b) = failed (number_of b.kind) b.entry
 
 -- "all of 10 .. then 12 or 13": a for AC2's values, own for the file's, n for its axles
 abbrev pub file_checks : File → List (List ℕ) → List (List ℕ) → ℕ → List FileCheck
@@ -131,9 +121,9 @@ judge_file f stated a s =
 -- ---- slice 6
 
 -- 14, 15
-abbrev pub judge_fields : List (List ℕ) → List ℕ → IdentificationRead → Answer (List ℕ)
-judge_fields g s Malformed = refusal 14 identification_number 0
-judge_fields g s (Fields e) = require (same_fields (seven_in s e) (seven_of g)) 15 identification_number 0 (acceptance (address_in s e))
+abbrev pub judge_fields : List (List ℕ) → List ℕ → Option FieldEnds → Answer (List ℕ)
+judge_fields g s None = refusal 14 identification_number 0
+judge_fields g s (Some e) = require (same_fields (seven_in s e) (seven_of g)) 15 identification_number 0 (acceptance (address_in s e))
 
 -- 11, 14, 15; what it gives is the address
 unfoldable pub judge_identification : Bool → List (List ℕ) → List ℕ → Answer (List ℕ)

@@ -22,10 +22,3 @@ pub struct Acceptance {
     pub gasbyhand: bool,
     pub opacitymark: bool,
 }
-
-// The answer of a judged set.
-#[derive(Clone, Copy)]
-pub enum SetAnswer {
-    Accepted(Acceptance),
-    Refused(refusals::Refusal),
-}

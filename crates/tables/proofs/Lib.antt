@@ -2,7 +2,6 @@ pub mod Names
 pub mod Files
 pub mod Sections
 pub mod Find
-pub mod Headings
 pub mod NameRows
 pub mod Listed
 pub mod Rows

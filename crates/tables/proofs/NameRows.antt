@@ -1,13 +1,12 @@
 -- Names by their rows, and where a section's entries stand in their group: one law for every group. Assumes nothing.
-use Prim.Native.Nat.{ℕ, zero, suc, ◌+◌, ◌-◌, ◌≤◌, ◌<◌}
+use Prim.Native.Nat.{ℕ, zero, suc, ◌+◌, ◌≤◌, ◌<◌}
 use native.Mathlib.Omega.{arith}
 use mathlib.Core.Path.{◌≡◌, refl, ap, sym, ◌∙◌}
-use mathlib.Core.List.{List, [], ◌∷◌, map}
-use lib.Dec.{ltb}
-use lib.ListN.{length, get_or, take, drop, replicate, length-append, length-map, get_or-map}
-use lib.Seq.{take_at, get_or-take, get_or-drop}
-use borrow.Author.Tests.{ltb-true, ltb-false}
-use Rattle.kinds.proofs.ByKind.{map_at}
+use mathlib.Core.List.{List, []}
+use lib.Dec.{ltb, eqb}
+use lib.ListN.{length, get_or, take, drop}
+use lib.Seq.{get_or-take, get_or-drop}
+use borrow.Author.Tests.{ltb-true, ltb-false, eqb-true, eqb-false}
 use Rattle.kinds.proofs.Laws.{by-test}
 use Rattle.tables.specs.Section.{Entry, Section}
 use Rattle.tables.specs.Entries.{
@@ -49,79 +48,41 @@ use Rattle.tables.specs.File.{
   axles_from,
   axle_entries,
 }
-use Rattle.tables.specs.Row.{names, name_in, entries_in, most_rows}
-use Rattle.tables.specs.Groups.{testers, gas_entries, group, group_of, in_row, tag_of, Lent, InRow, row_name, StandsAt, row_size}
-use Rattle.tables.proofs.Files.{of-file, of-any}
+use Rattle.tables.specs.Row.{names, name_in, entries_in, entry_in, index_of}
+use Rattle.tables.specs.Groups.{testers, gas_entries, group, group_of, StandsAt}
+use Rattle.std.proofs.lemmas.List.{drop-take, drop-map, take-map}
+use Rattle.tables.proofs.Files.{of-file, of_others}
 use Rattle.tables.proofs.Sections.{at-file, entries_none, drift-entries, suspension-entries}
-
-module _ {A B : Type 0} (f : A → B) where
-  map-take : (n : ℕ) (l : List A) → take n (map f l) ≡ map f (take n l)
-  map-take zero l = refl
-  map-take (suc n) [] = refl
-  map-take (suc n) (x ∷ l) = ap (λ (m : List B). f x ∷ m) (map-take n l)
-
-  map-drop : (n : ℕ) (l : List A) → drop n (map f l) ≡ map f (drop n l)
-  map-drop zero l = refl
-  map-drop (suc n) [] = refl
-  map-drop (suc n) (x ∷ l) = map-drop n l
-
-  map-part : (s n : ℕ) (l : List A) → take n (drop s (map f l)) ≡ map f (take n (drop s l))
-  map-part s n l = rw (map-drop s l) (map-take n (drop s l))
-
--- ---- names in lent rows
-
-module _ {ns : List (List ℕ)} {rows : List (List ℕ)} {lengths tags : List ℕ} (l : Lent ns rows lengths tags) where
-  pub tags-many : length tags ≡ length ns
-  tags-many = ap length l.tags-are ∙ length-map ns tag_of
-
-  pub rows-many : length rows ≡ length ns
-  rows-many = ap length l.rows_are ∙ length-map ns in_row
-
-  pub lengths-many : length lengths ≡ length ns
-  lengths-many = ap length l.lengths-are ∙ length-map ns length
-
-  pub tag_is : (k : ℕ) → get_or tags k 0 ≡ tag_of (get_or ns k [])
-  unfolding tag_of
-  tag_is k = ap (λ (ts : List ℕ). get_or ts k 0) l.tags-are ∙ get_or-map tag_of ns k []
-
-  length_at : (k : ℕ) → get_or lengths k 0 ≡ length (get_or ns k [])
-  length_at k = ap (λ (ks : List ℕ). get_or ks k 0) l.lengths-are ∙ get_or-map length ns k []
-
-  row_at : (k : ℕ) → k < length ns → get_or rows k [] ≡ in_row (get_or ns k [])
-  row_at k h = ap (λ (rs : List (List ℕ)). get_or rs k []) l.rows_are ∙ map_at in_row ns k [] [] h
-
-  pub in-row : (k : ℕ) → k < length ns → InRow rows lengths k
-  unfolding in_row
-  in-row k h =
-      let n = get_or ns k [] in
-      record {
-        row_in = rw rows-many h;
-        length-in = rw lengths-many h;
-        fits = rw (length_at k, row_at k h) (omega (arith, length-append n (replicate (row_size - length n) 32)));
-      }
-
-  -- the first bytes of the row are the name
-  pub row-name : (k : ℕ) → k < length ns → row_name rows lengths k ≡ get_or ns k []
-  unfolding in_row
-  row-name k h =
-      let n = get_or ns k [] in
-      rw (length_at k, row_at k h) (take_at n (replicate (row_size - length n) 32) (length n) refl)
 
 -- ---- a section in its group
 
 module _ {n c s : ℕ} (h : StandsAt n c s) where
+  -- the names of a section
+  pub section-names : drop s (take (s + length (entries_in (table_of n) c)) (names (group_of n))) ≡ names (entries_in (table_of n) c)
+  section-names =
+      let m = length (entries_in (table_of n) c) in
+      drop-take s m (names (group_of n)) ∙ ap (take m) (drop-map (λ x. x.name) s (group_of n)) ∙ take-map (λ x. x.name) m (drop s (group_of n)) ∙ ap names h.are
+
+  -- what is looked for among them, in the names ns that are lent
+  pub found-there : {m r : ℕ} (p : List ℕ) {ns : List (List ℕ)} → m ≡ length (entries_in (table_of n) c) → ns ≡ names (group_of n) → r ≡ s + index_of p (drop s (take (s + m) ns))
+      → r ≡ s + entry_in (table_of n) c p
+  found-there {m} {r} p {ns} k g e =
+      e
+      ∙ ap (λ (i : ℕ). s + index_of p (drop s (take (s + i) ns))) k
+      ∙ ap (λ (xs : List (List ℕ)). s + index_of p (drop s (take (s + length (entries_in (table_of n) c)) xs))) g
+      ∙ ap (λ (xs : List (List ℕ)). s + index_of p xs) section-names
+
   pub listed_at : (i : ℕ) → i < length (entries_in (table_of n) c) → name_in (group_of n) (s + i) ≡ name_in (entries_in (table_of n) c) i
   unfolding name_in
   listed_at i l =
       let m = length (entries_in (table_of n) c) in
-      let ns = names (group_of n) in
-      sym (get_or-drop s ns i [])
-      ∙ sym (get_or-take m (drop s ns) i [] l)
-      ∙ ap (λ (xs : List (List ℕ)). get_or xs i []) (map-part (λ x. x.name) s m (group_of n) ∙ ap names h.are)
+      sym (get_or-take (s + m) (names (group_of n)) (s + i) [] (omega (arith, l)))
+      ∙ sym (get_or-drop s (take (s + m) (names (group_of n))) i [])
+      ∙ ap (λ (ns : List (List ℕ)). get_or ns i []) section-names
 
 -- ---- where sections stand
 
-group_at : (f : File) {n : ℕ} → n ≡ file_number f → group_of n ≡ group f
+pub group_at : (f : File) {n : ℕ} → n ≡ file_number f → group_of n ≡ group f
 unfolding group_of
 group_at f e = ap group_of e ∙ of-file new_booking group f
 
@@ -185,72 +146,13 @@ stands-other (suc (suc (suc (suc (suc (suc zero)))))) c o t = stands-no 6 c 0 re
 stands-other (suc (suc (suc (suc (suc (suc (suc zero))))))) c o t = stands-none opacity refl c 0 (omega arith) (omega arith)
 stands-other (suc (suc (suc (suc (suc (suc (suc (suc n)))))))) c o t = stands-no (suc (suc (suc (suc (suc (suc (suc (suc n)))))))) c 0 refl (omega arith)
 
--- ---- the names of a file's group, lent
+-- ---- the group of a number
 
-pub lent-as : (n : ℕ) (g : List Entry) {rows : List (List ℕ)} {lengths tags : List ℕ} → group_of n ≡ g → rows ≡ map in_row (names g) → lengths ≡ map length (names g) → tags ≡ map tag_of (names g)
-    → Lent (names (group_of n)) rows lengths tags
-lent-as n g e r k t = rw e (record { rows_are = r; lengths-are = k; tags-are = t })
-
--- row i of the group, and its name
-pub record Listed (n i : ℕ) (rows : List (List ℕ)) (lengths : List ℕ) : Type 0 where
-  pub row : InRow rows lengths i
-  pub name : row_name rows lengths i ≡ name_in (group_of n) i
-
-pub listed : (n : ℕ) (g : List Entry) {rows : List (List ℕ)} {lengths : List ℕ} (i : ℕ) → group_of n ≡ g → rows ≡ map in_row (names g) → lengths ≡ map length (names g) → i < length (group_of n)
-    → Listed n i rows lengths
-unfolding name_in
-listed n g {rows} {lengths} i e r k h =
-    let l : Lent (names (group_of n)) rows lengths (map tag_of (names g)) = lent-as n g e r k refl in
-    let m : i < length (names (group_of n)) = rw (length-map (group_of n) (λ x. x.name)) h in
-    record { row = in-row l i m; name = row-name l i m }
-
--- the group of each number
-pub acc-group : {n : ℕ} → n ≡ file_number acc → group_of n ≡ old_booking
+pub testers-group : (n : ℕ) → 3 ≤ n → n < 5 → group_of n ≡ testers
 unfolding group
-acc-group e = group_at acc e
+testers-group n a b = by-test (eqb n 3) (λ e. group_at drift (eqb-true n 3 e)) (λ e. group_at suspension (omega (arith, eqb-false n 3 e)))
 
-pub drift-group : {n : ℕ} → n ≡ file_number drift → group_of n ≡ testers
-unfolding group
-drift-group e = group_at drift e
-
-pub suspension-group : {n : ℕ} → n ≡ file_number suspension → group_of n ≡ testers
-unfolding group
-suspension-group e = group_at suspension e
-
-pub gas-group : {n : ℕ} → n ≡ file_number gas → group_of n ≡ gas_entries
-unfolding group
-gas-group e = group_at gas e
-
-pub opacity-group : {n : ℕ} → n ≡ file_number opacity → group_of n ≡ opacity_analysis
-unfolding group
-opacity-group e = group_at opacity e
-
-pub other-group : (n : ℕ) → (((((Unit {0} × (n ≡ 2 → ⊥)) × (n ≡ 3 → ⊥)) × (n ≡ 4 → ⊥)) × (n ≡ 5 → ⊥)) × (n ≡ 7 → ⊥)) → group_of n ≡ new_booking
-unfolding group group_of of_number
-other-group zero t = refl
-other-group (suc zero) t = refl
-other-group (suc (suc zero)) t = absurd (t.0.0.0.0.1 refl)
-other-group (suc (suc (suc zero))) t = absurd (t.0.0.0.1 refl)
-other-group (suc (suc (suc (suc zero)))) t = absurd (t.0.0.1 refl)
-other-group (suc (suc (suc (suc (suc zero))))) t = absurd (t.0.1 refl)
-other-group (suc (suc (suc (suc (suc (suc zero)))))) t = refl
-other-group (suc (suc (suc (suc (suc (suc (suc zero))))))) t = absurd (t.1 refl)
-other-group (suc (suc (suc (suc (suc (suc (suc (suc n)))))))) t = refl
-
-few-of : (f : File) → length (group f) ≤ most_rows
-unfolding group testers gas_entries new_booking old_booking tester protocol measurement sixteen drift_axle suspension_axle analyser counter speed_test all_key_dates
-    all_key_bodies analysis fuel_analysis opacimeter opacity_test opacity_keys opacity_analysis
-few-of ac2 = omega arith
-few-of acc = omega arith
-few-of drift = omega arith
-few-of suspension = omega arith
-few-of gas = omega arith
-few-of opacity = omega arith
-
-few-else : length new_booking ≤ most_rows
-unfolding new_booking
-few-else = omega arith
-
-pub group-few : (n : ℕ) → length (group_of n) ≤ most_rows
-unfolding group_of
-group-few n = of-any new_booking group (λ g. length g ≤ most_rows) few-else few-of n
+pub other-group : (n : ℕ) → (n ≡ 2 → ⊥) → (n ≡ 3 → ⊥) → (n ≡ 4 → ⊥) → (n ≡ 5 → ⊥) → (n ≡ 7 → ⊥) → group_of n ≡ new_booking
+unfolding group group_of
+other-group n h2 h3 h4 h5 h7 =
+    of_others new_booking group n (λ e. refl) (λ e. absurd (h2 e)) (λ e. absurd (h3 e)) (λ e. absurd (h4 e)) (λ e. absurd (h5 e)) (λ e. absurd (h7 e))

@@ -1,14 +1,12 @@
 -- Rows of a table. Assumes nothing.
 use Prim.Native.Nat.{ℕ, zero, suc, ◌+◌, ◌≤◌, ◌<◌}
 use native.Mathlib.Omega.{arith}
-use native.Mathlib.Numerals.{add-one}
 use mathlib.Core.Path.{◌≡◌, refl, ap, sym, ◌∙◌}
-use mathlib.Core.Option.{Option, none, some}
+use mathlib.Core.Option.{none, some}
 use mathlib.Core.List.{List, [], ◌∷◌, map}
-use lib.ListN.{length, get_or, set, take, length-append, length-map, get_or-eq_default}
-use lib.Seq.{take-suc, take-suc-set, take_all}
+use lib.ListN.{length, get_or, get_or-map, take, length-append, length-map}
 use borrow.Author.Tests.{le-ltb, lt-ltb}
-use Rattle.kinds.specs.Kind.{Kind, numbered, kind_of}
+use Rattle.kinds.specs.Kind.{numbered, kind_of}
 use Rattle.kinds.proofs.Laws.{kind_count}
 use Rattle.tables.specs.Section.{Section, entries_of}
 use Rattle.tables.specs.Entries.{
@@ -32,26 +30,9 @@ use Rattle.tables.specs.Entries.{
   opacity_keys,
   opacity_analysis,
 }
-use Rattle.tables.specs.File.{
-  File,
-  ac2,
-  acc,
-  drift,
-  suspension,
-  gas,
-  opacity,
-  file_number,
-  table_of,
-  all_sections,
-  sections,
-  fixed_sections,
-  axle_sections,
-  axles_from,
-  axle_entries,
-}
+use Rattle.tables.specs.File.{File, ac2, acc, drift, suspension, gas, opacity, table_of, all_sections, sections, fixed_sections, axle_sections, axles_from, axle_entries}
 use Rattle.tables.specs.Row.{entries_in, row_count, rows_before, most_rows, row_kinds, row_kind, entries_before}
 use Rattle.tables.proofs.Files.{of-any}
-use Rattle.tables.proofs.Sections.{at-file}
 
 pub rows-le : (t : List Section) (c : ℕ) → rows_before t c ≤ row_count t
 unfolding row_count
@@ -113,24 +94,9 @@ number_at [] r l = absurd (omega arith)
 number_at (n ∷ ns) zero l = refl
 number_at (n ∷ ns) (suc r) l = number_at ns r (omega arith)
 
-pub past-rows : (ns : List ℕ) (r : ℕ) → length ns ≤ r → row_kind 255 ≡ get_or (map row_kind ns) r none
-past-rows ns r l = heading-row 255 (omega arith) ∙ sym (get_or-eq_default (map row_kind ns) none (omega (arith, length-map ns row_kind)))
+pub number-or : (ns : List ℕ) (r : ℕ) → row_kind (get_or ns r 255) ≡ get_or (map row_kind ns) r none
+number-or ns r = sym (get_or-map row_kind ns r 255) ∙ ap (get_or (map row_kind ns) r) (heading-row 255 (omega arith))
 
 -- the numbers of a file's rows
-module _ (f : File) (n : ℕ) (t : n ≡ file_number f) (ns : List ℕ) (k : map row_kind ns ≡ row_kinds (all_sections f)) where
-  pub numbers-many : row_count (table_of n) ≡ length ns
-  numbers-many = ap row_count (at-file f t) ∙ sym (kinds-count (all_sections f)) ∙ sym (ap length k) ∙ length-map ns row_kind
-
-  -- once they are put, they are the kinds of the table's rows
-  pub numbers-put : (ks : List ℕ) → take (length ns) ks ≡ ns → map row_kind (take (row_count (table_of n)) ks) ≡ row_kinds (table_of n)
-  numbers-put ks e = ap (λ (m : ℕ). map row_kind (take m ks)) numbers-many ∙ ap (map row_kind) e ∙ k ∙ ap row_kinds (sym (at-file f t))
-
-  pub kind-of-row : (x r : ℕ) → row_kind x ≡ get_or (map row_kind ns) r none → row_kind x ≡ get_or (row_kinds (table_of n)) r none
-  kind-of-row x r e = e ∙ ap (λ (ks : List (Option Kind)). get_or ks r none) (k ∙ ap row_kinds (sym (at-file f t)))
-
--- numbers that are put one by one
-pub put_next : (ns ks : List ℕ) (r : ℕ) → take r ks ≡ take r ns → r < length ns → r < length ks → take (r + 1) (set ks r (get_or ns r 0)) ≡ take (r + 1) ns
-put_next ns ks r e l m = rw (add-one r, take-suc-set ks r (get_or ns r 0) m, take-suc ns r 0 l, e)
-
-pub put-end : (ns ks : List ℕ) (r : ℕ) → take r ks ≡ take r ns → r ≡ length ns → take (length ns) ks ≡ ns
-put-end ns ks r e l = ap (λ (m : ℕ). take m ks) (sym l) ∙ e ∙ take_all r ns (omega arith)
+pub numbers-many : (n : ℕ) (ns : List ℕ) → map row_kind ns ≡ row_kinds (table_of n) → row_count (table_of n) ≡ length ns
+numbers-many n ns k = sym (kinds-count (table_of n)) ∙ sym (ap length k) ∙ length-map ns row_kind

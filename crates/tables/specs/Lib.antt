@@ -4,4 +4,5 @@ pub mod File
 pub mod Row
 pub mod Value
 pub mod Test
+pub mod Tags
 pub mod Groups

@@ -1,45 +1,27 @@
-// The names of the entries by groups of files that share them, each name once, in a row of its own with blanks after it;
-// beside them their lengths and tags. An array is laid out where it is used: a reader takes those of its file once, and
-// lends them to each look-up.
-ghost use Rattle.std.specs.Prelude.{◌≡◌, map, length};
-ghost use Rattle.tables.specs.Entries.{new_booking, old_booking, opacity_analysis};
+// The names of the entries by groups of files that share them, each name once, with its tag in a list beside it. Static
+// data: nothing is laid out or copied where a name is looked up or written.
 ghost use Rattle.tables.specs.Row.{names};
-ghost use Rattle.tables.specs.Groups.{testers, gas_entries, in_row, tag_of};
+ghost use Rattle.tables.specs.Groups.{group_of, Lent};
 
-// As many bytes as the longest name has.
-pub type Row = [u8; 34];
+use crate::lookup::Group;
+use crate::{ACC, DRIFT, GAS, OPACITY, SUSPENSION};
 
-const NEW_BOOKING_ROWS: [Row; 12] = [
-    *b"TargaNominale                     ",
-    *b"TipoVeicolo                       ",
-    *b"CategoriaInternazionale           ",
-    *b"CodiceCIC                         ",
-    *b"DataPrimaImm                      ",
-    *b"Alimentazione_1                   ",
-    *b"Turbo                             ",
-    *b"CorrettorePressione               ",
-    *b"DirettivaEmissioniGasBenzinaAuto  ",
-    *b"DirettivaEmissioniGasMotociclo    ",
-    *b"AzionamentoFrenoStazionamento     ",
-    *b"PosAssiStaz                       ",
+static NEW_BOOKING_NAMES: [&[u8]; 12] = [
+    b"TargaNominale",
+    b"TipoVeicolo",
+    b"CategoriaInternazionale",
+    b"CodiceCIC",
+    b"DataPrimaImm",
+    b"Alimentazione_1",
+    b"Turbo",
+    b"CorrettorePressione",
+    b"DirettivaEmissioniGasBenzinaAuto",
+    b"DirettivaEmissioniGasMotociclo",
+    b"AzionamentoFrenoStazionamento",
+    b"PosAssiStaz",
 ];
 
-const NEW_BOOKING_LENGTHS: [u8; 12] = [
-    13, // TargaNominale
-    11, // TipoVeicolo
-    23, // CategoriaInternazionale
-    9, // CodiceCIC
-    12, // DataPrimaImm
-    15, // Alimentazione_1
-    5, // Turbo
-    19, // CorrettorePressione
-    32, // DirettivaEmissioniGasBenzinaAuto
-    30, // DirettivaEmissioniGasMotociclo
-    29, // AzionamentoFrenoStazionamento
-    11, // PosAssiStaz
-];
-
-const NEW_BOOKING_TAGS: [u8; 12] = [
+static NEW_BOOKING_TAGS: [u8; 12] = [
     176, // TargaNominale
     248, // TipoVeicolo
     199, // CategoriaInternazionale
@@ -54,25 +36,16 @@ const NEW_BOOKING_TAGS: [u8; 12] = [
     76, // PosAssiStaz
 ];
 
-const OLD_BOOKING_ROWS: [Row; 6] = [
-    *b"TipoVeicolo                       ",
-    *b"DescrizioneVeicolo                ",
-    *b"AnnoPrimaImm                      ",
-    *b"Alimentazione_1                   ",
-    *b"FrenoStazionamento                ",
-    *b"NumAssiStazionamento              ",
+static OLD_BOOKING_NAMES: [&[u8]; 6] = [
+    b"TipoVeicolo",
+    b"DescrizioneVeicolo",
+    b"AnnoPrimaImm",
+    b"Alimentazione_1",
+    b"FrenoStazionamento",
+    b"NumAssiStazionamento",
 ];
 
-const OLD_BOOKING_LENGTHS: [u8; 6] = [
-    11, // TipoVeicolo
-    18, // DescrizioneVeicolo
-    12, // AnnoPrimaImm
-    15, // Alimentazione_1
-    18, // FrenoStazionamento
-    20, // NumAssiStazionamento
-];
-
-const OLD_BOOKING_TAGS: [u8; 6] = [
+static OLD_BOOKING_TAGS: [u8; 6] = [
     248, // TipoVeicolo
     4, // DescrizioneVeicolo
     217, // AnnoPrimaImm
@@ -81,53 +54,30 @@ const OLD_BOOKING_TAGS: [u8; 6] = [
     22, // NumAssiStazionamento
 ];
 
-const TESTER_ROWS: [Row; 20] = [
-    *b"Marca                             ",
-    *b"Tipo                              ",
-    *b"NumOmologa                        ",
-    *b"NumSerie                          ",
-    *b"DataScadenza                      ",
-    *b"NumVersioneSoftware               ",
-    *b"Note                              ",
-    *b"NumVersioneProtocollo             ",
-    *b"DataVersioneProtocollo            ",
-    *b"TipoCollegamento                  ",
-    *b"CircolareApplicata                ",
-    *b"CodErrore                         ",
-    *b"DataMisura                        ",
-    *b"InizioMisura                      ",
-    *b"FineMisura                        ",
-    *b"Operatore                         ",
-    *b"Deriva                            ",
-    *b"Aderenza%Sx                       ",
-    *b"Aderenza%Dx                       ",
-    *b"Differenza%                       ",
+static TESTER_NAMES: [&[u8]; 20] = [
+    b"Marca",
+    b"Tipo",
+    b"NumOmologa",
+    b"NumSerie",
+    b"DataScadenza",
+    b"NumVersioneSoftware",
+    b"Note",
+    b"NumVersioneProtocollo",
+    b"DataVersioneProtocollo",
+    b"TipoCollegamento",
+    b"CircolareApplicata",
+    b"CodErrore",
+    b"DataMisura",
+    b"InizioMisura",
+    b"FineMisura",
+    b"Operatore",
+    b"Deriva",
+    b"Aderenza%Sx",
+    b"Aderenza%Dx",
+    b"Differenza%",
 ];
 
-const TESTER_LENGTHS: [u8; 20] = [
-    5, // Marca
-    4, // Tipo
-    10, // NumOmologa
-    8, // NumSerie
-    12, // DataScadenza
-    19, // NumVersioneSoftware
-    4, // Note
-    21, // NumVersioneProtocollo
-    22, // DataVersioneProtocollo
-    16, // TipoCollegamento
-    18, // CircolareApplicata
-    9, // CodErrore
-    10, // DataMisura
-    12, // InizioMisura
-    10, // FineMisura
-    9, // Operatore
-    6, // Deriva
-    11, // Aderenza%Sx
-    11, // Aderenza%Dx
-    11, // Differenza%
-];
-
-const TESTER_TAGS: [u8; 20] = [
+static TESTER_TAGS: [u8; 20] = [
     105, // Marca
     220, // Tipo
     126, // NumOmologa
@@ -150,119 +100,63 @@ const TESTER_TAGS: [u8; 20] = [
     152, // Differenza%
 ];
 
-const GAS_ROWS: [Row; 53] = [
-    *b"MarcaAnalizzatore                 ",
-    *b"TipoAnalizzatore                  ",
-    *b"NumOmologaAnalizzatore            ",
-    *b"NumSerieAnalizzatore              ",
-    *b"NumVersSoftwareAnalizzatore       ",
-    *b"DataScadenzaAnalizzatore          ",
-    *b"MarcaContagiri                    ",
-    *b"TipoContagiri                     ",
-    *b"NumOmologaContagiri               ",
-    *b"NumSerieContagiri                 ",
-    *b"NumVersioneSoftwareContagiri      ",
-    *b"DataScadenzaContagiri             ",
-    *b"TipoCollegamentoContagiri         ",
-    *b"NumVersioneProtocolloContagiri    ",
-    *b"MarcaProvaVelocita                ",
-    *b"TipoProvaVelocita                 ",
-    *b"NumOmologaProvaVelocita           ",
-    *b"NumSerieProvaVelocita             ",
-    *b"NumVersioneSoftwareProvaVelocita  ",
-    *b"NumVersioneProtocolloProvaVelocita",
-    *b"DataScadenzaProvaVelocita         ",
-    *b"Note                              ",
-    *b"NumVersioneProtocollo             ",
-    *b"DataVersioneProtocollo            ",
-    *b"TipoCollegamento                  ",
-    *b"CircolareApplicata                ",
-    *b"IDChiaveRS                        ",
-    *b"DataRegChiaveRS                   ",
-    *b"IDChiaveContagiriRS               ",
-    *b"DataRegChiaveContagiriRS          ",
-    *b"IDChiaveProvaVelocitaRS           ",
-    *b"DataRegChiaveProvaVelocitaRS      ",
-    *b"ChecksumRS                        ",
-    *b"ModuloChiaveRS                    ",
-    *b"EsponenteChiaveRS                 ",
-    *b"ChecksumContagiriRS               ",
-    *b"ModuloChiaveContagiriRS           ",
-    *b"EsponenteChiaveContagiriRS        ",
-    *b"ChecksumProvaVelocitaRS           ",
-    *b"ModuloChiaveProvaVelocitaRS       ",
-    *b"EsponenteChiaveProvaVelocitaRS    ",
-    *b"CodErrore                         ",
-    *b"DataMisura                        ",
-    *b"InizioMisura                      ",
-    *b"FineMisura                        ",
-    *b"Operatore                         ",
-    *b"COMin                             ",
-    *b"COCorrettoMin                     ",
-    *b"CO2Min                            ",
-    *b"HCMin                             ",
-    *b"O2Min                             ",
-    *b"NumGiriMotoreMin                  ",
-    *b"COMinAcc                          ",
+static GAS_NAMES: [&[u8]; 53] = [
+    b"MarcaAnalizzatore",
+    b"TipoAnalizzatore",
+    b"NumOmologaAnalizzatore",
+    b"NumSerieAnalizzatore",
+    b"NumVersSoftwareAnalizzatore",
+    b"DataScadenzaAnalizzatore",
+    b"MarcaContagiri",
+    b"TipoContagiri",
+    b"NumOmologaContagiri",
+    b"NumSerieContagiri",
+    b"NumVersioneSoftwareContagiri",
+    b"DataScadenzaContagiri",
+    b"TipoCollegamentoContagiri",
+    b"NumVersioneProtocolloContagiri",
+    b"MarcaProvaVelocita",
+    b"TipoProvaVelocita",
+    b"NumOmologaProvaVelocita",
+    b"NumSerieProvaVelocita",
+    b"NumVersioneSoftwareProvaVelocita",
+    b"NumVersioneProtocolloProvaVelocita",
+    b"DataScadenzaProvaVelocita",
+    b"Note",
+    b"NumVersioneProtocollo",
+    b"DataVersioneProtocollo",
+    b"TipoCollegamento",
+    b"CircolareApplicata",
+    b"IDChiaveRS",
+    b"DataRegChiaveRS",
+    b"IDChiaveContagiriRS",
+    b"DataRegChiaveContagiriRS",
+    b"IDChiaveProvaVelocitaRS",
+    b"DataRegChiaveProvaVelocitaRS",
+    b"ChecksumRS",
+    b"ModuloChiaveRS",
+    b"EsponenteChiaveRS",
+    b"ChecksumContagiriRS",
+    b"ModuloChiaveContagiriRS",
+    b"EsponenteChiaveContagiriRS",
+    b"ChecksumProvaVelocitaRS",
+    b"ModuloChiaveProvaVelocitaRS",
+    b"EsponenteChiaveProvaVelocitaRS",
+    b"CodErrore",
+    b"DataMisura",
+    b"InizioMisura",
+    b"FineMisura",
+    b"Operatore",
+    b"COMin",
+    b"COCorrettoMin",
+    b"CO2Min",
+    b"HCMin",
+    b"O2Min",
+    b"NumGiriMotoreMin",
+    b"COMinAcc",
 ];
 
-const GAS_LENGTHS: [u8; 53] = [
-    17, // MarcaAnalizzatore
-    16, // TipoAnalizzatore
-    22, // NumOmologaAnalizzatore
-    20, // NumSerieAnalizzatore
-    27, // NumVersSoftwareAnalizzatore
-    24, // DataScadenzaAnalizzatore
-    14, // MarcaContagiri
-    13, // TipoContagiri
-    19, // NumOmologaContagiri
-    17, // NumSerieContagiri
-    28, // NumVersioneSoftwareContagiri
-    21, // DataScadenzaContagiri
-    25, // TipoCollegamentoContagiri
-    30, // NumVersioneProtocolloContagiri
-    18, // MarcaProvaVelocita
-    17, // TipoProvaVelocita
-    23, // NumOmologaProvaVelocita
-    21, // NumSerieProvaVelocita
-    32, // NumVersioneSoftwareProvaVelocita
-    34, // NumVersioneProtocolloProvaVelocita
-    25, // DataScadenzaProvaVelocita
-    4, // Note
-    21, // NumVersioneProtocollo
-    22, // DataVersioneProtocollo
-    16, // TipoCollegamento
-    18, // CircolareApplicata
-    10, // IDChiaveRS
-    15, // DataRegChiaveRS
-    19, // IDChiaveContagiriRS
-    24, // DataRegChiaveContagiriRS
-    23, // IDChiaveProvaVelocitaRS
-    28, // DataRegChiaveProvaVelocitaRS
-    10, // ChecksumRS
-    14, // ModuloChiaveRS
-    17, // EsponenteChiaveRS
-    19, // ChecksumContagiriRS
-    23, // ModuloChiaveContagiriRS
-    26, // EsponenteChiaveContagiriRS
-    23, // ChecksumProvaVelocitaRS
-    27, // ModuloChiaveProvaVelocitaRS
-    30, // EsponenteChiaveProvaVelocitaRS
-    9, // CodErrore
-    10, // DataMisura
-    12, // InizioMisura
-    10, // FineMisura
-    9, // Operatore
-    5, // COMin
-    13, // COCorrettoMin
-    6, // CO2Min
-    5, // HCMin
-    5, // O2Min
-    16, // NumGiriMotoreMin
-    8, // COMinAcc
-];
-
-const GAS_TAGS: [u8; 53] = [
+static GAS_TAGS: [u8; 53] = [
     185, // MarcaAnalizzatore
     188, // TipoAnalizzatore
     206, // NumOmologaAnalizzatore
@@ -318,123 +212,65 @@ const GAS_TAGS: [u8; 53] = [
     123, // COMinAcc
 ];
 
-const OPACITY_ROWS: [Row; 55] = [
-    *b"MarcaOpacimetro                   ",
-    *b"TipoOpacimetro                    ",
-    *b"NumOmologaOpacimetro              ",
-    *b"NumSerieOpacimetro                ",
-    *b"NumVersSoftwareOpacimetro         ",
-    *b"DataScadenzaOpacimetro            ",
-    *b"MarcaContagiri                    ",
-    *b"TipoContagiri                     ",
-    *b"NumOmologaContagiri               ",
-    *b"NumSerieContagiri                 ",
-    *b"NumVersSoftwareContagiri          ",
-    *b"DataScadenzaContagiri             ",
-    *b"TipoCollegamentoContagiri         ",
-    *b"NumVersioneProtocolloContagiri    ",
-    *b"Targa                             ",
-    *b"NumGiriMotoreMax                  ",
-    *b"LimiteK                           ",
-    *b"DirettivaEmissioni                ",
-    *b"NumGiriMotoreMinMis               ",
-    *b"NumGiriMotoreMaxMis               ",
-    *b"TempOlioMotore                    ",
-    *b"TempMinOlioMotore                 ",
-    *b"ValoreK1                          ",
-    *b"ValoreK2                          ",
-    *b"ValoreK3                          ",
-    *b"ValoreK4                          ",
-    *b"ValoreK5                          ",
-    *b"ValoreK6                          ",
-    *b"ValoreK7                          ",
-    *b"ValoreK8                          ",
-    *b"OpacitaMedia                      ",
-    *b"PressAtmosferica                  ",
-    *b"TempAmbiente                      ",
-    *b"UmiditaRelativa                   ",
-    *b"Esito                             ",
-    *b"Note                              ",
-    *b"NumVersioneProtocollo             ",
-    *b"DataVersioneProtocollo            ",
-    *b"TipoCollegamento                  ",
-    *b"CircolareApplicata                ",
-    *b"IDChiaveRS                        ",
-    *b"DataRegChiaveRS                   ",
-    *b"IDChiaveContagiriRS               ",
-    *b"DataRegChiaveContagiriRS          ",
-    *b"ChecksumRS                        ",
-    *b"ModuloChiaveRS                    ",
-    *b"EsponenteChiaveRS                 ",
-    *b"ChecksumContagiriRS               ",
-    *b"ModuloChiaveContagiriRS           ",
-    *b"EsponenteChiaveContagiriRS        ",
-    *b"CodErrore                         ",
-    *b"DataMisura                        ",
-    *b"InizioMisura                      ",
-    *b"FineMisura                        ",
-    *b"Operatore                         ",
+static OPACITY_NAMES: [&[u8]; 55] = [
+    b"MarcaOpacimetro",
+    b"TipoOpacimetro",
+    b"NumOmologaOpacimetro",
+    b"NumSerieOpacimetro",
+    b"NumVersSoftwareOpacimetro",
+    b"DataScadenzaOpacimetro",
+    b"MarcaContagiri",
+    b"TipoContagiri",
+    b"NumOmologaContagiri",
+    b"NumSerieContagiri",
+    b"NumVersSoftwareContagiri",
+    b"DataScadenzaContagiri",
+    b"TipoCollegamentoContagiri",
+    b"NumVersioneProtocolloContagiri",
+    b"Targa",
+    b"NumGiriMotoreMax",
+    b"LimiteK",
+    b"DirettivaEmissioni",
+    b"NumGiriMotoreMinMis",
+    b"NumGiriMotoreMaxMis",
+    b"TempOlioMotore",
+    b"TempMinOlioMotore",
+    b"ValoreK1",
+    b"ValoreK2",
+    b"ValoreK3",
+    b"ValoreK4",
+    b"ValoreK5",
+    b"ValoreK6",
+    b"ValoreK7",
+    b"ValoreK8",
+    b"OpacitaMedia",
+    b"PressAtmosferica",
+    b"TempAmbiente",
+    b"UmiditaRelativa",
+    b"Esito",
+    b"Note",
+    b"NumVersioneProtocollo",
+    b"DataVersioneProtocollo",
+    b"TipoCollegamento",
+    b"CircolareApplicata",
+    b"IDChiaveRS",
+    b"DataRegChiaveRS",
+    b"IDChiaveContagiriRS",
+    b"DataRegChiaveContagiriRS",
+    b"ChecksumRS",
+    b"ModuloChiaveRS",
+    b"EsponenteChiaveRS",
+    b"ChecksumContagiriRS",
+    b"ModuloChiaveContagiriRS",
+    b"EsponenteChiaveContagiriRS",
+    b"CodErrore",
+    b"DataMisura",
+    b"InizioMisura",
+    b"FineMisura",
+    b"Operatore",
 ];
 
-const OPACITY_LENGTHS: [u8; 55] = [
-    15, // MarcaOpacimetro
-    14, // TipoOpacimetro
-    20, // NumOmologaOpacimetro
-    18, // NumSerieOpacimetro
-    25, // NumVersSoftwareOpacimetro
-    22, // DataScadenzaOpacimetro
-    14, // MarcaContagiri
-    13, // TipoContagiri
-    19, // NumOmologaContagiri
-    17, // NumSerieContagiri
-    24, // NumVersSoftwareContagiri
-    21, // DataScadenzaContagiri
-    25, // TipoCollegamentoContagiri
-    30, // NumVersioneProtocolloContagiri
-    5, // Targa
-    16, // NumGiriMotoreMax
-    7, // LimiteK
-    18, // DirettivaEmissioni
-    19, // NumGiriMotoreMinMis
-    19, // NumGiriMotoreMaxMis
-    14, // TempOlioMotore
-    17, // TempMinOlioMotore
-    8, // ValoreK1
-    8, // ValoreK2
-    8, // ValoreK3
-    8, // ValoreK4
-    8, // ValoreK5
-    8, // ValoreK6
-    8, // ValoreK7
-    8, // ValoreK8
-    12, // OpacitaMedia
-    16, // PressAtmosferica
-    12, // TempAmbiente
-    15, // UmiditaRelativa
-    5, // Esito
-    4, // Note
-    21, // NumVersioneProtocollo
-    22, // DataVersioneProtocollo
-    16, // TipoCollegamento
-    18, // CircolareApplicata
-    10, // IDChiaveRS
-    15, // DataRegChiaveRS
-    19, // IDChiaveContagiriRS
-    24, // DataRegChiaveContagiriRS
-    10, // ChecksumRS
-    14, // ModuloChiaveRS
-    17, // EsponenteChiaveRS
-    19, // ChecksumContagiriRS
-    23, // ModuloChiaveContagiriRS
-    26, // EsponenteChiaveContagiriRS
-    9, // CodErrore
-    10, // DataMisura
-    12, // InizioMisura
-    10, // FineMisura
-    9, // Operatore
-];
-
-const OPACITY_TAGS: [u8; 55] = [
+static OPACITY_TAGS: [u8; 55] = [
     1, // MarcaOpacimetro
     4, // TipoOpacimetro
     22, // NumOmologaOpacimetro
@@ -492,92 +328,30 @@ const OPACITY_TAGS: [u8; 55] = [
     155, // Operatore
 ];
 
-pub fn new_booking_rows() -> [Row; 12]
-    ensures { result ≡ map in_row (names new_booking) }
+// The group of a file; of a number that no file has that of AC2, of which nothing is looked for.
+pub fn group_of(file: u32) -> Group
+    ensures { Lent (names (group_of file)) result }
 {
-    NEW_BOOKING_ROWS
-}
-
-pub fn new_booking_lengths() -> [u8; 12]
-    ensures { result ≡ map length (names new_booking) }
-{
-    NEW_BOOKING_LENGTHS
-}
-
-pub fn new_booking_tags() -> [u8; 12]
-    ensures { result ≡ map tag_of (names new_booking) }
-{
-    NEW_BOOKING_TAGS
-}
-
-pub fn old_booking_rows() -> [Row; 6]
-    ensures { result ≡ map in_row (names old_booking) }
-{
-    OLD_BOOKING_ROWS
-}
-
-pub fn old_booking_lengths() -> [u8; 6]
-    ensures { result ≡ map length (names old_booking) }
-{
-    OLD_BOOKING_LENGTHS
-}
-
-pub fn old_booking_tags() -> [u8; 6]
-    ensures { result ≡ map tag_of (names old_booking) }
-{
-    OLD_BOOKING_TAGS
-}
-
-pub fn tester_rows() -> [Row; 20]
-    ensures { result ≡ map in_row (names testers) }
-{
-    TESTER_ROWS
-}
-
-pub fn tester_lengths() -> [u8; 20]
-    ensures { result ≡ map length (names testers) }
-{
-    TESTER_LENGTHS
-}
-
-pub fn tester_tags() -> [u8; 20]
-    ensures { result ≡ map tag_of (names testers) }
-{
-    TESTER_TAGS
-}
-
-pub fn gas_rows() -> [Row; 53]
-    ensures { result ≡ map in_row (names gas_entries) }
-{
-    GAS_ROWS
-}
-
-pub fn gas_lengths() -> [u8; 53]
-    ensures { result ≡ map length (names gas_entries) }
-{
-    GAS_LENGTHS
-}
-
-pub fn gas_tags() -> [u8; 53]
-    ensures { result ≡ map tag_of (names gas_entries) }
-{
-    GAS_TAGS
-}
-
-pub fn opacity_rows() -> [Row; 55]
-    ensures { result ≡ map in_row (names opacity_analysis) }
-{
-    OPACITY_ROWS
-}
-
-pub fn opacity_lengths() -> [u8; 55]
-    ensures { result ≡ map length (names opacity_analysis) }
-{
-    OPACITY_LENGTHS
-}
-
-pub fn opacity_tags() -> [u8; 55]
-    ensures { result ≡ map tag_of (names opacity_analysis) }
-{
-    OPACITY_TAGS
+    match file {
+        ACC => Group {
+            names: &OLD_BOOKING_NAMES,
+            tags: &OLD_BOOKING_TAGS,
+        },
+        DRIFT | SUSPENSION => Group {
+            names: &TESTER_NAMES,
+            tags: &TESTER_TAGS,
+        },
+        GAS => Group {
+            names: &GAS_NAMES,
+            tags: &GAS_TAGS,
+        },
+        OPACITY => Group {
+            names: &OPACITY_NAMES,
+            tags: &OPACITY_TAGS,
+        },
+        _ => Group {
+            names: &NEW_BOOKING_NAMES,
+            tags: &NEW_BOOKING_TAGS,
+        },
+    }
 }

@@ -2,23 +2,22 @@
 // (from 1), a section and an entry (from 0). No number is forbidden: what there is not, has nothing in it.
 #![tactic(auto)]
 
-mod compare; // compare.rt: headings compared
-pub mod groups; // groups.rt: the names of the entries, with their lengths and tags
+pub mod groups; // groups.rt: the names of the entries, with their tags
+mod headings; // headings.rt: the headings of the sections
+pub mod lookup; // lookup.rt: a group of names, and the look-up among them
 pub mod pairs; // pairs.rt: the pairs of entries that conditions and rules look at
 pub mod row_kinds; // row_kinds.rt: the kinds of the rows
-mod write; // write.rt: lines of headings written
 
-ghost use Rattle.std.specs.Prelude.{◌≡◌, ◌+◌, ◌≤◌, ◌<◌, length, get_or};
-ghost use Rattle.lines.specs.Bytes.{same_bytes};
+ghost use Rattle.std.specs.Prelude.{◌≡◌, ◌+◌, ◌≤◌, length, get_or};
 ghost use Rattle.lines.specs.Line.{heading as heading_line, entry as entry_line, written_line, written_length};
 ghost use Rattle.lines.specs.Writing.{Wrote};
 ghost use Rattle.tables.specs.File.{table_of, of_number, is_file, least_sections, fixed_sections, room as room_of, first_pair, least_places};
-ghost use Rattle.tables.specs.Row.{entries_in, names, name_in, name_at, heading_at, section_of, entry_in, rows_before, entries_before, row_count, row_at};
-ghost use Rattle.tables.specs.Groups.{group_of, tag_of, section_digit, likely_section, PassesTo, Lent, SectionLent, InRow, row_name, StandsAt, IsPlaceOf};
+ghost use Rattle.tables.specs.Row.{entries_in, names, name_at, heading_at, section_of, entry_in, rows_before, entries_before, row_count, row_at};
+ghost use Rattle.tables.specs.Groups.{group_of, section_digit, likely_section, Lent, StandsAt, IsPlaceOf};
 
-use groups::Row;
+use lookup::Group;
 
-// The numbers of the files (01, the set).
+// The numbers of the files (01, the set). Numbers and no enum: the C interface passes them, and each function here takes any.
 pub const AC2: u32 = 1;
 
 pub const ACC: u32 = 2;
@@ -39,30 +38,18 @@ pub const MOST_ROWS: usize = 64;
 
 // Where a section stands: the row of its first entry in its group, how many entries it has, and the rows of its table
 // before it.
-#[derive(Clone, Copy)]
+#[derive(Debug, Clone, Copy, PartialEq, Eq)]
 pub struct SectionPlace {
     pub start: usize,
     pub size: usize,
     pub before: usize,
 }
 
-// A byte as a size.
-fn wide(byte: u8) -> usize
-    ensures { result ≡ byte }
-{
-    byte as usize
-}
-
 // The number that a table has for a file, by the file's number; 0 where it has none.
 fn of_file(table: &[u8], file: u32) -> usize
     ensures { result ≡ get_or table.now file 0 }
 {
-    let n = file as usize;
-    if n < table.len() {
-        table[n] as usize
-    } else {
-        0
-    }
+    table.get(file as usize).map_or(0, |n| usize::from(*n))
 }
 
 // How many sections a file has with all its axles.
@@ -221,7 +208,7 @@ fn section_digit(byte: u8) -> usize
     ensures { result ≡ section_digit byte }
 {
     match byte {
-        b'1'..=b'9' => wide(byte) - 48,
+        b'1'..=b'9' => usize::from(byte - b'0'),
         _ => 0,
     }
 }
@@ -230,118 +217,24 @@ fn section_digit(byte: u8) -> usize
 fn likely_section(part: &[u8]) -> usize
     ensures { result ≡ likely_section part.now }
 {
-    if part.len() < 2 {
-        return 0;
+    match part {
+        [.., digit, _] => section_digit(*digit),
+        _ => 0,
     }
-    section_digit(part[part.len() - 2])
 }
 
-// The section of a heading; the number of sections where it is none of the file's. Only the likely one is compared.
+// The section of a heading; the number of sections where it is none of the file's. No section has that number, so the test
+// that a caller makes for bounds tells this too: no Option, which would be a second test. Only the likely one is compared.
 pub fn find_section(file: u32, part: &[u8]) -> usize
     ensures { result ≡ section_of (table_of file) part.now }
 {
-    let count = section_count(file);
+    let headings = headings::headings_of(file);
     let likely = likely_section(part);
-    if likely < count {
-        if compare::is_heading(file, likely, part) {
-            return likely;
-        }
+    if likely < headings.len() && lines::equal(part, headings[likely]) {
+        likely
+    } else {
+        headings.len()
     }
-    count
-}
-
-// The tag of a part; 0 where it is empty.
-fn tag_of(part: &[u8]) -> u8
-    ensures { result ≡ tag_of part.now }
-{
-    let size = part.len();
-    if size == 0 {
-        return 0;
-    }
-    ((size % 64 * 4 + part[0] as usize + part[size - 1] as usize % 32 * 8) % 256) as u8
-}
-
-// Whether the name in a row is that part.
-fn is_row(rows: &[Row], lengths: &[u8], row: usize, part: &[u8]) -> bool
-    requires { InRow rows.now lengths.now row }
-    ensures { result ≡ same_bytes part.now (row_name rows.now lengths.now row) }
-{
-    let n = wide(lengths[row]);
-    let name = &rows[row][..];
-    lines::same_name(part, &name[..n])
-}
-
-// The line of an entry whose name stands in a row, into `out` from `at` on; the place after it.
-fn write_row(
-    rows: &[Row],
-    lengths: &[u8],
-    row: usize,
-    value: &[u8],
-    out: &mut [u8],
-    at: usize,
-) -> usize
-    requires { InRow rows.now lengths.now row × (at + written_length (entry_line (row_name rows.now lengths.now row) value.now) ≤ length out.old) }
-    ensures { Wrote out.old at (written_line (entry_line (row_name rows.now lengths.now row) value.now)) out.new result }
-{
-    let n = wide(lengths[row]);
-    let name = &rows[row][..];
-    lines::write_entry(out, at, &name[..n], value)
-}
-
-// The first row from `from` on with that tag, one by one; `end` where none before it has it.
-fn next_row(tags: &[u8], from: usize, end: usize, tag: u8) -> usize
-    requires { (from ≤ end) × (end ≤ length tags.now) }
-    ensures { PassesTo tags.now tag from end result }
-{
-    let mut row = from;
-    while row < end {
-        if tags[row] == tag {
-            return row;
-        }
-        row += 1;
-    }
-    row
-}
-
-// Likewise, passing over eight rows at a time while none of the eight has that tag; fewer than eight one by one.
-fn pass_over(tags: &[u8], from: usize, end: usize, tag: u8) -> usize
-    requires { (from ≤ end) × (end ≤ length tags.now) }
-    ensures { PassesTo tags.now tag from end result }
-{
-    let mut row = from;
-    while 8 <= end - row {
-        if !lines::lacks(tags, row, tag) {
-            return row + lines::first_of(tags, row, tag);
-        }
-        row += 8;
-    }
-    next_row(tags, row, end, tag)
-}
-
-// The row of a name among those of a section that stand in its group from `start` to `end`, looked for in table order;
-// `end` where it is none of the section's. A name is compared only where its tag is the part's.
-fn find_listed(
-    file: u32,
-    section: usize,
-    start: usize,
-    end: usize,
-    rows: &[Row],
-    lengths: &[u8],
-    tags: &[u8],
-    part: &[u8],
-) -> usize
-    requires { SectionLent file section start end rows.now lengths.now tags.now }
-    ensures { result ≡ start + entry_in (table_of file) section part.now }
-{
-    let tag = tag_of(part);
-    let mut row = pass_over(tags, start, end, tag);
-    while row < end {
-        if is_row(rows, lengths, row, part) {
-            return row;
-        }
-        row = pass_over(tags, row + 1, end, tag);
-    }
-    row
 }
 
 // The place of a section, for all look-ups under its heading. Of a section that there is not, it is left open where
@@ -349,38 +242,36 @@ fn find_listed(
 pub fn section_place(file: u32, section: usize) -> SectionPlace
     ensures { IsPlaceOf file section result }
 {
-    let start = section_start(file, section);
-    let size = entry_count(file, section);
-    let before = rows_before(file, section);
     SectionPlace {
-        start: start,
-        size: size,
-        before: before,
+        start: section_start(file, section),
+        size: entry_count(file, section),
+        before: rows_before(file, section),
     }
 }
 
-// The row of the entry of a name in a section of that place; the number of rows where it is none of the section's. The
-// names of the file's group are lent.
-pub fn find_row(
-    file: u32,
-    section: usize,
-    place: SectionPlace,
-    rows: &[Row],
-    lengths: &[u8],
-    tags: &[u8],
-    part: &[u8],
-) -> usize
-    requires { IsPlaceOf file section place × Lent (names (group_of file)) rows.now lengths.now tags.now }
+// The row of the entry of a name in a section of that place; the number of rows where it is none of the section's: no Option,
+// for the same reason. The file's group is lent.
+pub fn find_row(file: u32, section: usize, place: SectionPlace, group: Group, part: &[u8]) -> usize
+    requires { IsPlaceOf file section place × Lent (names (group_of file)) group }
     ensures { result ≡ row_at (table_of file) section (entry_in (table_of file) section part.now) }
 {
-    let start = place.start;
-    let end = start + place.size;
-    let row = find_listed(file, section, start, end, rows, lengths, tags, part);
+    let end = place.start + place.size;
+    let row = group.find(place.start, end, part);
     if row < end {
-        place.before + 1 + (row - start)
+        place.before + 1 + (row - place.start)
     } else {
         row_count(file)
     }
+}
+
+// The heading of a section, brackets included; what has no section has the empty heading.
+pub fn heading(file: u32, section: usize) -> &'static [u8]
+    ensures { result.now ≡ heading_at (table_of file) section }
+{
+    headings::headings_of(file)
+        .get(section)
+        .copied()
+        .unwrap_or(b"")
 }
 
 // The line of a section's heading into `out` from `at` on; the place after it.
@@ -388,63 +279,17 @@ pub fn write_heading(file: u32, section: usize, out: &mut [u8], at: usize) -> us
     requires { at + written_length (heading_line (heading_at (table_of file) section)) ≤ length out.old }
     ensures { Wrote out.old at (written_line (heading_line (heading_at (table_of file) section))) out.new result }
 {
-    write::write_heading(file, section, out, at)
+    lines::write_heading(out, at, heading(file, section))
 }
 
-// The line of the entry of a row of a file's group into `out` from `at` on; the place after it.
-fn write_listed(file: u32, row: usize, value: &[u8], out: &mut [u8], at: usize) -> usize
-    requires { (row < length (group_of file)) × (at + written_length (entry_line (name_in (group_of file) row) value.now) ≤ length out.old) }
-    ensures { Wrote out.old at (written_line (entry_line (name_in (group_of file) row) value.now)) out.new result }
+// The name of an entry; what is no entry has the empty name.
+pub fn name(file: u32, section: usize, entry: usize) -> &'static [u8]
+    ensures { result.now ≡ name_at (table_of file) section entry }
 {
-    match file {
-        ACC => write_row(
-            &groups::old_booking_rows(),
-            &groups::old_booking_lengths(),
-            row,
-            value,
-            out,
-            at,
-        ),
-        DRIFT => write_row(
-            &groups::tester_rows(),
-            &groups::tester_lengths(),
-            row,
-            value,
-            out,
-            at,
-        ),
-        SUSPENSION => write_row(
-            &groups::tester_rows(),
-            &groups::tester_lengths(),
-            row,
-            value,
-            out,
-            at,
-        ),
-        GAS => write_row(
-            &groups::gas_rows(),
-            &groups::gas_lengths(),
-            row,
-            value,
-            out,
-            at,
-        ),
-        OPACITY => write_row(
-            &groups::opacity_rows(),
-            &groups::opacity_lengths(),
-            row,
-            value,
-            out,
-            at,
-        ),
-        _ => write_row(
-            &groups::new_booking_rows(),
-            &groups::new_booking_lengths(),
-            row,
-            value,
-            out,
-            at,
-        ),
+    if entry < entry_count(file, section) {
+        groups::group_of(file).names[section_start(file, section) + entry]
+    } else {
+        b""
     }
 }
 
@@ -460,9 +305,5 @@ pub fn write_entry(
     requires { at + written_length (entry_line (name_at (table_of file) section entry) value.now) ≤ length out.old }
     ensures { Wrote out.old at (written_line (entry_line (name_at (table_of file) section entry) value.now)) out.new result }
 {
-    if entry < entry_count(file, section) {
-        write_listed(file, section_start(file, section) + entry, value, out, at)
-    } else {
-        lines::write_entry(out, at, b"", value)
-    }
+    lines::write_entry(out, at, name(file, section, entry), value)
 }

@@ -1,16 +1,17 @@
 // The rows of a file's table, each section's heading and then its entries, by the numbers of their kinds.
 ghost use Rattle.std.specs.Prelude.{◌≡◌, ◌≤◌, map, length, get_or, take};
 ghost use Rattle.std.proofs.Math.Option.{none};
-ghost use Rattle.tables.specs.File.{ac2, acc, drift, suspension, gas, opacity, all_sections, table_of};
+ghost use Rattle.tables.specs.File.{table_of};
 ghost use Rattle.tables.specs.Row.{row_count, row_kinds, row_kind};
 
 use crate::{AC2, ACC, DRIFT, GAS, OPACITY, SUSPENSION};
 use kinds::numbers;
 
 // The number of a row that is a heading, or that the table has not: of no kind, and not the next that a kind will have.
+// Numbers and no enum: the C interface passes them, and one load answers a row's.
 pub const HEADING: u8 = 255;
 
-const AC2_KINDS: [u8; 13] = [
+static AC2_KINDS: [u8; 13] = [
     HEADING, // [DatiLibrettoVeicolo]
     numbers::S_10, // TargaNominale
     numbers::VEHICLE_TYPE, // TipoVeicolo
@@ -26,7 +27,7 @@ const AC2_KINDS: [u8; 13] = [
     numbers::POS_ASSI_STAZ, // PosAssiStaz
 ];
 
-const ACC_KINDS: [u8; 7] = [
+static ACC_KINDS: [u8; 7] = [
     HEADING, // [DatiLibrettoVeicolo]
     numbers::S_64, // TipoVeicolo
     numbers::S_64, // DescrizioneVeicolo
@@ -36,7 +37,7 @@ const ACC_KINDS: [u8; 7] = [
     numbers::N_1, // NumAssiStazionamento
 ];
 
-const DRIFT_KINDS: [u8; 35] = [
+static DRIFT_KINDS: [u8; 35] = [
     HEADING, // [Deriva]
     numbers::S_64, // Marca
     numbers::S_64, // Tipo
@@ -74,7 +75,7 @@ const DRIFT_KINDS: [u8; 35] = [
     numbers::DERIVA, // Deriva
 ];
 
-const SUSPENSION_KINDS: [u8; 53] = [
+static SUSPENSION_KINDS: [u8; 53] = [
     HEADING, // [Sospensioni]
     numbers::S_64, // Marca
     numbers::S_64, // Tipo
@@ -130,7 +131,7 @@ const SUSPENSION_KINDS: [u8; 53] = [
     numbers::N_2, // Differenza%
 ];
 
-const GAS_KINDS: [u8; 55] = [
+static GAS_KINDS: [u8; 55] = [
     HEADING, // [AnalisiGas]
     numbers::S_64, // MarcaAnalizzatore
     numbers::S_64, // TipoAnalizzatore
@@ -188,7 +189,7 @@ const GAS_KINDS: [u8; 55] = [
     numbers::FIXED_3_5, // COMinAcc
 ];
 
-const OPACITY_KINDS: [u8; 56] = [
+static OPACITY_KINDS: [u8; 56] = [
     HEADING, // [AnalisiOpacita]
     numbers::S_64, // MarcaOpacimetro
     numbers::S_64, // TipoOpacimetro
@@ -247,50 +248,18 @@ const OPACITY_KINDS: [u8; 56] = [
     numbers::S_64, // Operatore
 ];
 
-fn ac2_kinds() -> [u8; 13]
-    ensures { map row_kind result ≡ row_kinds (all_sections ac2) }
+// The numbers of a file's rows, in the table's order.
+fn kinds_of(file: u32) -> &'static [u8]
+    ensures { map row_kind result.now ≡ row_kinds (table_of file) }
 {
-    AC2_KINDS
-}
-
-fn acc_kinds() -> [u8; 7]
-    ensures { map row_kind result ≡ row_kinds (all_sections acc) }
-{
-    ACC_KINDS
-}
-
-fn drift_kinds() -> [u8; 35]
-    ensures { map row_kind result ≡ row_kinds (all_sections drift) }
-{
-    DRIFT_KINDS
-}
-
-fn suspension_kinds() -> [u8; 53]
-    ensures { map row_kind result ≡ row_kinds (all_sections suspension) }
-{
-    SUSPENSION_KINDS
-}
-
-fn gas_kinds() -> [u8; 55]
-    ensures { map row_kind result ≡ row_kinds (all_sections gas) }
-{
-    GAS_KINDS
-}
-
-fn opacity_kinds() -> [u8; 56]
-    ensures { map row_kind result ≡ row_kinds (all_sections opacity) }
-{
-    OPACITY_KINDS
-}
-
-// The number of a row among those of a table.
-fn kind_at(numbers: &[u8], row: usize) -> u8
-    ensures { row_kind result ≡ get_or (map row_kind numbers.now) row none }
-{
-    if row < numbers.len() {
-        numbers[row]
-    } else {
-        HEADING
+    match file {
+        AC2 => &AC2_KINDS,
+        ACC => &ACC_KINDS,
+        DRIFT => &DRIFT_KINDS,
+        SUSPENSION => &SUSPENSION_KINDS,
+        GAS => &GAS_KINDS,
+        OPACITY => &OPACITY_KINDS,
+        _ => &[],
     }
 }
 
@@ -299,27 +268,7 @@ fn kind_at(numbers: &[u8], row: usize) -> u8
 pub fn row_kind(file: u32, row: usize) -> u8
     ensures { row_kind result ≡ get_or (row_kinds (table_of file)) row none }
 {
-    match file {
-        AC2 => kind_at(&ac2_kinds(), row),
-        ACC => kind_at(&acc_kinds(), row),
-        DRIFT => kind_at(&drift_kinds(), row),
-        SUSPENSION => kind_at(&suspension_kinds(), row),
-        GAS => kind_at(&gas_kinds(), row),
-        OPACITY => kind_at(&opacity_kinds(), row),
-        _ => HEADING,
-    }
-}
-
-// The numbers into the first of the lent bytes.
-fn put(numbers: &[u8], kinds: &mut [u8])
-    requires { length numbers.now ≤ length kinds.old }
-    ensures { take (length numbers.now) kinds.new ≡ numbers.now }
-{
-    let mut r = 0;
-    while r < numbers.len() {
-        kinds[r] = numbers[r];
-        r += 1;
-    }
+    kinds_of(file).get(row).copied().unwrap_or(HEADING)
 }
 
 // The kind numbers of all rows of the file of a number, in the table's order. The bytes past the rows are left open, and
@@ -328,13 +277,6 @@ pub fn write_kinds(file: u32, kinds: &mut [u8])
     requires { row_count (table_of file) ≤ length kinds.old }
     ensures { map row_kind (take (row_count (table_of file)) kinds.new) ≡ row_kinds (table_of file) }
 {
-    match file {
-        AC2 => put(&ac2_kinds(), kinds),
-        ACC => put(&acc_kinds(), kinds),
-        DRIFT => put(&drift_kinds(), kinds),
-        SUSPENSION => put(&suspension_kinds(), kinds),
-        GAS => put(&gas_kinds(), kinds),
-        OPACITY => put(&opacity_kinds(), kinds),
-        _ => {}
-    }
+    let numbers = kinds_of(file);
+    kinds[..numbers.len()].copy_from_slice(numbers);
 }

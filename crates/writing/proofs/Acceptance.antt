@@ -1,12 +1,12 @@
 -- What is accepted, and what then is written. Assumes nothing.
-use Prim.Native.Nat.{ℕ, ◌≤◌, ◌<◌}
+use Prim.Native.Nat.{ℕ, ◌≤◌}
 use native.Mathlib.Omega.{arith}
 use mathlib.Core.Path.{◌≡◌, refl, ap, ap₂, sym, ◌∙◌}
 use mathlib.Core.Bool.{Bool, true, false, cond}
 use mathlib.Core.List.{List, []}
 use lib.Dec.{leb}
 use lib.ListN.{length, take}
-use borrow.Author.Tests.{leb-true, lt-leb, le-leb}
+use borrow.Author.Tests.{leb-true, le-leb}
 use Rattle.lines.proofs.Bools.{clash}
 use Rattle.lines.specs.Writing.{put}
 use Rattle.places.specs.Places.{pairs_at, Within}
@@ -116,19 +116,9 @@ module _ {file n : ℕ} (r : RightFile file n) {count first : ℕ} (ec : count �
         },
       )
 
--- ---- the three ways out of writing, q the answer of the checks
+-- ---- what has room is written, q the answer of the checks
 
 module _ (file : ℕ) (q : Quote) (bytes out : List ℕ) where
-  pub out-refused : (k g l : ℕ) → refusal k g l ≡ answer_of file q → (refusal k g l ≡ answer_of file (fitting q (length out))) × (out ≡ output_of (fitting q (length out)) bytes out)
-  out-refused k g l e = go q e
-    where
-      go : (q : Quote) → refusal k g l ≡ answer_of file q → (refusal k g l ≡ answer_of file (fitting q (length out))) × (out ≡ output_of (fitting q (length out)) bytes out)
-      go (refuse i j) e = (e, refl)
-      go (quote m) e = clash (cc)
-
-  pub out-short : (m : ℕ) → written m ≡ answer_of file q → length out < m → (refusal 18 file 0 ≡ answer_of file (fitting q (length out))) × (out ≡ output_of (fitting q (length out)) bytes out)
-  out-short m e h = rw (written-inv file q m e, lt-leb m (length out) h) (refl, refl)
-
   pub out_written : (m : ℕ) → written m ≡ answer_of file q → m ≤ length out
       → (written m ≡ answer_of file (fitting q (length out))) × (put out 0 bytes ≡ output_of (fitting q (length out)) bytes out)
   out_written m e h = rw (written-inv file q m e, le-leb m (length out) h) (refl, refl)

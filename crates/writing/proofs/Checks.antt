@@ -1,27 +1,26 @@
 -- The checks of pairs, row by row: one turn of a loop, and what a check that passes says. Assumes nothing.
-use Prim.Native.Nat.{ℕ, suc, ◌+◌, ◌*◌, ◌≤◌, ◌<◌}
+use Prim.Native.Nat.{ℕ, suc, ◌+◌, ◌≤◌, ◌<◌}
 use native.Mathlib.Numerals.{add-one}
 use native.Mathlib.Omega.{arith}
 use mathlib.Core.Path.{◌≡◌, refl, ap, sym, ◌∙◌}
 use mathlib.Core.Bool.{Bool, true, false, cond}
 use mathlib.Core.Option.{Option, none, some}
 use mathlib.Core.List.{List, [], ◌∷◌, ◌++◌, map}
-use lib.Dec.{ltb}
 use lib.ListN.{length, get_or, take, drop, drop_of_length-le}
 use lib.Seq.{drop-cons, get_or-take, length-take-le}
-use borrow.Author.Tests.{lt-ltb, le-ltb, ltb-false, not-false}
+use borrow.Author.Tests.{ltb-false, not-false}
 use Rattle.lines.proofs.Bools.{clash}
 use Rattle.kinds.specs.Kind.{Kind, kind_of}
 use Rattle.kinds.specs.Value.{kind_kept}
 use Rattle.kinds.proofs.Laws.{kind_count}
-use Rattle.places.specs.Places.{Pair, start_of, length_of, pairs_at, value_at, Within, place_size}
+use Rattle.places.specs.Places.{Pair, start_of, length_of, pairs_at, value_at, Within}
 use Rattle.tables.specs.Section.{Entry, Section, entries_of}
 use Rattle.tables.specs.Row.{row_kinds, row_kind}
 use Rattle.tables.proofs.Rows.{heading-row, entry_row}
 use Rattle.reading.specs.Fitting.{EachKept}
 use Rattle.reading.specs.Reading.{Check, passes, fails}
 use Rattle.writing.specs.Writing.{first_wrong_pair, is_outside, is_wrong_kind}
-use Rattle.writing.specs.Steps.{entry_count, pair_check, line_check}
+use Rattle.writing.specs.Steps.{entry_count, pair_check}
 
 -- ---- the entries from row r on
 
@@ -57,101 +56,65 @@ module _ (wrong : Kind → Pair → Bool) (number : ℕ) (ks : List (Option Kind
 -- ---- the loop over the first `count` rows of t
 
 -- before row r, whose next pair is k
-pub record Turn (wrong : Kind → Pair → Bool) (number : ℕ) (t : List (Option Kind)) (count : ℕ) (p : List ℕ) (first r k : ℕ) : Type 0 where
-  pub inside : r ≤ count
+pub record Turn (wrong : Kind → Pair → Bool) (t : List (Option Kind)) (count : ℕ) (p : List ℕ) (first r k : ℕ) : Type 0 where
   pub most : count ≤ length t
-  pub room : place_size * (k + entry_count (drop r (take count t))) ≤ length p
-  pub same : pair_check wrong number (take count t) p first ≡ check_from wrong number (take count t) p r k
+  pub from : first ≤ k
+  pub left : k + entry_count (drop r (take count t)) ≡ first + entry_count (take count t)
+  pub same : (number : ℕ) → pair_check wrong number (take count t) p first ≡ check_from wrong number (take count t) p r k
 
--- row r, whose kind number is x, is an entry's
-pub record EntryRow (t : List (Option Kind)) (count r x : ℕ) : Type 0 where
-  pub before : r < count
-  pub number_is : row_kind x ≡ get_or t r none
-  pub filled : x < kind_count
+module _ {wrong : Kind → Pair → Bool} {t : List (Option Kind)} {count : ℕ} {p : List ℕ} {first : ℕ} where
+  module _ {r k : ℕ} (h : Turn wrong t count p first r k) where
+    rows_are : length (take count t) ≡ count
+    rows_are = length-take-le count t h.most
 
-module _ (t : List (Option Kind)) (count : ℕ) (most : count ≤ length t) where
-  rows_are : length (take count t) ≡ count
-  rows_are = length-take-le count t most
+    inside : r < count → r < length (take count t)
+    inside l = omega (arith, rows_are)
 
-  entry_at : {r x : ℕ} → EntryRow t count r x → get_or (take count t) r none ≡ some (kind_of x)
-  entry_at {r} {x} e = get_or-take count t r none e.before ∙ sym e.number_is ∙ entry_row x e.filled
+    pub turn_end : count ≤ r → (number : ℕ) → pair_check wrong number (take count t) p first ≡ passes
+    turn_end l number = h.same number ∙ check-end wrong number (take count t) p r k (omega (arith, rows_are))
 
-  entry-room : {r x : ℕ} → EntryRow t count r x → entry_count (drop r (take count t)) ≡ suc (entry_count (drop (r + 1) (take count t)))
-  entry-room {r} {x} e = count-entry (take count t) r (omega (arith, rows_are, e.before)) (kind_of x) (entry_at e)
+    -- row r, whose kind number is x
+    module _ {x : ℕ} (l : r < count) (e : row_kind x ≡ get_or t r none) where
+      pub turn-heading : kind_count ≤ x → Turn wrong t count p first (r + 1) k
+      turn-heading m =
+          let w : get_or (take count t) r none ≡ none = get_or-take count t r none l ∙ sym e ∙ heading-row x m in
+          record {
+            most = h.most;
+            from = h.from;
+            left = omega (arith, h.left, count-heading (take count t) r (inside l) w);
+            same = λ number. h.same number ∙ check-heading wrong number (take count t) p r k (inside l) w;
+          }
 
-  module _ (wrong : Kind → Pair → Bool) (number : ℕ) (p : List ℕ) where
-    entry-check : {r x : ℕ} (k : ℕ) → EntryRow t count r x
-        → check_from wrong number (take count t) p r k ≡ cond (wrong (kind_of x) (start_of p k, length_of p k)) (fails number (r + 1)) (check_from wrong number (take count t) p (r + 1) (k + 1))
-    entry-check {r} {x} k e = check-entry wrong number (take count t) p r k (omega (arith, rows_are, e.before)) (kind_of x) (entry_at e)
+      module _ (m : x < kind_count) where
+        entry_at : get_or (take count t) r none ≡ some (kind_of x)
+        entry_at = get_or-take count t r none l ∙ sym e ∙ entry_row x m
 
-module _ {wrong : Kind → Pair → Bool} {number : ℕ} {t : List (Option Kind)} {count : ℕ} {p : List ℕ} {first : ℕ} where
-  pub turn-start : count ≤ length t → place_size * (first + entry_count (take count t)) ≤ length p → Turn wrong number t count p first 0 first
-  turn-start m l = record { inside = omega arith; most = m; room = l; same = refl }
+        entry-left : entry_count (drop r (take count t)) ≡ suc (entry_count (drop (r + 1) (take count t)))
+        entry-left = count-entry (take count t) r (inside l) (kind_of x) entry_at
 
-  module _ {r k : ℕ} (h : Turn wrong number t count p first r k) where
-    pub turn-heading : {x : ℕ} → r < count → row_kind x ≡ get_or t r none → kind_count ≤ x → Turn wrong number t count p first (r + 1) k
-    turn-heading {x} l e m =
-        let w : get_or (take count t) r none ≡ none = get_or-take count t r none l ∙ sym e ∙ heading-row x m in
-        let i : r < length (take count t) = omega (arith, rows_are t count h.most) in
-        record {
-          inside = omega arith;
+        entry-check : (number : ℕ) → pair_check wrong number (take count t) p first
+            ≡ cond (wrong (kind_of x) (start_of p k, length_of p k)) (fails number (r + 1)) (check_from wrong number (take count t) p (r + 1) (k + 1))
+        entry-check number = h.same number ∙ check-entry wrong number (take count t) p r k (inside l) (kind_of x) entry_at
+
+        -- pair k is one of the rows'
+        pub turn-pair : k < first + entry_count (take count t)
+        turn-pair = omega (arith, h.left, entry-left)
+
+        pub turn-entry : wrong (kind_of x) (start_of p k, length_of p k) ≡ false → Turn wrong t count p first (r + 1) (k + 1)
+        turn-entry w = record {
           most = h.most;
-          room = omega (arith, h.room, count-heading (take count t) r i w);
-          same = h.same ∙ check-heading wrong number (take count t) p r k i w;
+          from = omega (arith, h.from);
+          left = omega (arith, h.left, entry-left);
+          same = λ number. entry-check number ∙ rw w;
         }
 
-    pub turn-room : {x : ℕ} → EntryRow t count r x → place_size * (k + 1) ≤ length p
-    turn-room e = omega (arith, h.room, entry-room t count h.most e)
+        pub turn-found : wrong (kind_of x) (start_of p k, length_of p k) ≡ true → (number : ℕ) → pair_check wrong number (take count t) p first ≡ fails number (r + 1)
+        turn-found w number = entry-check number ∙ rw w
 
-    pub turn-entry : {x : ℕ} → EntryRow t count r x → wrong (kind_of x) (start_of p k, length_of p k) ≡ false → Turn wrong number t count p first (r + 1) (k + 1)
-    turn-entry e w =
-        record {
-          inside = omega (arith, e.before);
-          most = h.most;
-          room = omega (arith, h.room, entry-room t count h.most e);
-          same = h.same ∙ entry-check t count h.most wrong number p k e ∙ rw w;
-        }
-
-    pub turn-found : {x : ℕ} → EntryRow t count r x → wrong (kind_of x) (start_of p k, length_of p k) ≡ true → pair_check wrong number (take count t) p first ≡ line_check number (r + 1)
-    turn-found e w =
-        let z : ltb 0 (r + 1) ≡ true = lt-ltb 0 (r + 1) (omega arith) in
-        h.same ∙ entry-check t count h.most wrong number p k e ∙ rw (w, z)
-
-    pub turn_end : count ≤ r → pair_check wrong number (take count t) p first ≡ line_check number 0
-    turn_end l = h.same ∙ check-end wrong number (take count t) p r k (omega (arith, rows_are t count h.most))
-
--- ---- what a line says
-
-pub found-line : (number : ℕ) {l : ℕ} → 0 < l → line_check number l ≡ fails number l
-found-line number {l} h = rw (lt-ltb 0 l h)
-
-pub no_line : (number : ℕ) {l : ℕ} → l ≤ 0 → line_check number l ≡ passes
-no_line number {l} h = rw (le-ltb 0 l h)
-
--- ---- 17 did not refuse: no pair from here on is outside
-
-pub record AllWithin (s : List ℕ) (t : List (Option Kind)) (count : ℕ) (p : List ℕ) (r k : ℕ) : Type 0 where
-  pub passed : check_from (is_outside s) 17 (take count t) p r k ≡ passes
-
+-- a check that passes found its first pair right
 passed-inv : (b : Bool) (number l : ℕ) (c : Check) → cond b (fails number l) c ≡ passes → (b ≡ false) × (c ≡ passes)
 passed-inv true number l c e = clash (cc)
 passed-inv false number l c e = (refl, e)
-
-module _ {s : List ℕ} {t : List (Option Kind)} {count : ℕ} {p : List ℕ} {r k x : ℕ} (most : count ≤ length t) (e : EntryRow t count r x) (h : AllWithin s t count p r k) where
-  inner : (is_outside s (kind_of x) (start_of p k, length_of p k) ≡ false) × (check_from (is_outside s) 17 (take count t) p (r + 1) (k + 1) ≡ passes)
-  inner = passed-inv _ 17 (r + 1) _ (sym (entry-check t count most (is_outside s) 17 p k e) ∙ h.passed)
-
-  pub this-within : start_of p k + length_of p k ≤ length s
-  this-within = ltb-false (length s) (start_of p k + length_of p k) inner.0
-
-  pub next-within : AllWithin s t count p (r + 1) (k + 1)
-  next-within = record { passed = inner.1 }
-
-pub heading-within : {s : List ℕ} {t : List (Option Kind)} {count : ℕ} {p : List ℕ} {r k x : ℕ} → count ≤ length t → r < count → row_kind x ≡ get_or t r none → kind_count ≤ x
-    → AllWithin s t count p r k → AllWithin s t count p (r + 1) k
-heading-within {s} {t} {count} {p} {r} {k} {x} most l e m h =
-    let w : get_or (take count t) r none ≡ none = get_or-take count t r none l ∙ sym e ∙ heading-row x m in
-    record { passed = sym (check-heading (is_outside s) 17 (take count t) p r k (omega (arith, rows_are t count most)) w) ∙ h.passed }
 
 -- ---- what checks over all rows of a table say
 

@@ -2,7 +2,7 @@
 use Prim.Native.Nat.{ℕ, zero, suc, ◌+◌, ◌-◌, ◌*◌, ◌≤◌, ◌<◌}
 use Prim.Native.String.{String}
 use native.Mathlib.Omega.{arith}
-use native.Mathlib.Nat.{suc-mul, add-zero, sub-zero}
+use native.Mathlib.Nat.{suc-mul}
 use mathlib.Core.Path.{◌≡◌, refl, ap, sym, ◌∙◌}
 use mathlib.Core.List.{List, [], ◌∷◌, ◌++◌, map}
 use lib.ListN.{length, drop, length-append, length-drop}
@@ -42,9 +42,6 @@ unfolding pair_lengths pairs_at
 lengths-end p k n i l =
     let q : n - i ≡ 0 = omega arith in
     rw q
-
-pub lengths-first : (p : List ℕ) (k n : ℕ) → lengths_from p k n 0 ≡ pair_lengths (pairs_at p k n)
-lengths-first p k n = rw (add-zero k, sub-zero n)
 
 -- ---- the table
 

@@ -5,13 +5,14 @@ use mathlib.Core.Path.{◌≡◌, refl, ap, ap₂, sym, ◌∙◌}
 use mathlib.Core.Bool.{Bool, true, false, cond, false≢true}
 use mathlib.Core.Option.{Option}
 use mathlib.Core.List.{List}
-use lib.Dec.{leb}
+use lib.Dec.{leb, eqb}
 use lib.ListN.{length, take}
 use borrow.Author.Tests.{leb-true, eqb-true, lt-leb, le-leb}
 use Rattle.lines.proofs.Bools.{and_left, and_right}
 use Rattle.kinds.specs.Kind.{Kind}
-use Rattle.places.specs.Places.{Pair, pairs_at, place_size}
+use Rattle.places.specs.Places.{Pair, pairs_at, place_size, start_of, length_of}
 use Rattle.places.proofs.Laws.{pairs-length}
+use Rattle.places.proofs.Values.{within-at}
 use Rattle.tables.specs.Section.{Section, entries_of}
 use Rattle.tables.specs.Row.{rows_before, row_count, row_kinds, most_rows}
 use Rattle.tables.specs.File.{File, ac2, acc, drift, suspension, gas, opacity, file_number, of_number, has_axles, least_axles, most_axles, fixed_sections, sections, all_sections, least_sections, entries, first_pair, least_places, table_of}
@@ -67,10 +68,27 @@ pub axles-most : (b : Bool) (n : ℕ) → axles_right b n ≡ true → n ≤ mos
 axles-most true n e = (axles-range n e).1
 axles-most false n e = omega (arith, eqb-true n 0 e)
 
--- what 16 says of a file of number f
-pub right_of : (f : File) (n : ℕ) {file : ℕ} → file ≡ file_number f → is_right file n ≡ axles_right (has_axles f) n
-unfolding is_right
-right_of f n e = ap (of_number false (λ g. axles_right (has_axles g) n)) e ∙ of-file false (λ g. axles_right (has_axles g) n) f
+-- what 16 says of the number of a file without axles, of one with axles, and of no file's
+pub right-without : (file n : ℕ) → 0 < file → file < 8 → ¬ file ≡ 3 → ¬ file ≡ 4 → ¬ file ≡ 6 → eqb n 0 ≡ is_right file n
+unfolding is_right of_number
+right-without zero n a b c d e = absurd (omega arith)
+right-without (suc zero) n a b c d e = refl
+right-without (suc (suc zero)) n a b c d e = refl
+right-without (suc (suc (suc zero))) n a b c d e = absurd (c refl)
+right-without (suc (suc (suc (suc zero)))) n a b c d e = absurd (d refl)
+right-without (suc (suc (suc (suc (suc zero))))) n a b c d e = refl
+right-without (suc (suc (suc (suc (suc (suc zero)))))) n a b c d e = absurd (e refl)
+right-without (suc (suc (suc (suc (suc (suc (suc zero))))))) n a b c d e = refl
+right-without (suc (suc (suc (suc (suc (suc (suc (suc k)))))))) n a b c d e = absurd (omega arith)
+
+pub right-with : (file n : ℕ) → 2 < file → file < 5 → axles_right true n ≡ is_right file n
+unfolding is_right of_number
+right-with zero n a b = absurd (omega arith)
+right-with (suc zero) n a b = absurd (omega arith)
+right-with (suc (suc zero)) n a b = absurd (omega arith)
+right-with (suc (suc (suc zero))) n a b = refl
+right-with (suc (suc (suc (suc zero)))) n a b = refl
+right-with (suc (suc (suc (suc (suc k))))) n a b = absurd (omega arith)
 
 pub right-none : (n file : ℕ) → NoFile file → is_right file n ≡ false
 unfolding is_right
@@ -226,6 +244,15 @@ module _ {file n section_count rows first : ℕ} (z : Sizes file n section_count
         right_is s p ∙ rw o
 
     module _ (inside : pair_check (is_outside s) 17 (take rows (row_kinds (table_of file))) p first ≡ passes) where
+      -- each pair of the rows lies within the text
+      pub pair-within : (i : ℕ) → first ≤ i → i < first + entry_count (take rows (row_kinds (table_of file))) → start_of p i + length_of p i ≤ length s
+      unfolding f entries
+      pair-within i a b =
+          let o = sym (check-is (is_outside s) 17 p) ∙ inside in
+          let w = within_all s (sections f n) (pairs_of f n p) (pairs-length p (first_pair f) (length (entries f n))) o in
+          let j : first_pair f + (i - first) ≡ i = omega (arith, pair_is) in
+          rw j at (within-at s p (first_pair f) (length (entries f n)) (i - first) w (omega (arith, ap entry_count kinds-are, entry-number f n z.right.axles)))
+
       pub quote-wrong : (l : ℕ) → pair_check (is_wrong_kind s) 9 (take rows (row_kinds (table_of file))) p first ≡ fails 9 l → quote_right file n s p ≡ refuse 9 l
       quote-wrong l e =
           let o = sym (check-is (is_outside s) 17 p) ∙ inside in

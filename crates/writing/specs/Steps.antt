@@ -1,9 +1,9 @@
 -- What the steps of quoting and writing promise, for the contracts of the code.
-use Rattle.std.specs.Prelude.{ℕ, zero, suc, ◌+◌, ◌*◌, ◌≤◌, ◌≡◌, Bool, cond, List, [], ◌∷◌, ◌++◌, map, ltb, length, take}
+use Rattle.std.specs.Prelude.{ℕ, zero, suc, ◌+◌, ◌*◌, ◌≤◌, ◌<◌, ◌≡◌, Bool, List, [], ◌∷◌, ◌++◌, map, length, take, Option as RustOption, Some, None, IfSome}
 use Rattle.std.proofs.Math.Option.{Option, none, some}
 use Rattle.lines.specs.Line.{heading, written_line, text_of}
-use Rattle.kinds.specs.Kind.{Kind}
-use Rattle.places.specs.Places.{Pair, place_size, pairs_at, values_at, Within}
+use Rattle.kinds.specs.Kind.{Kind, kind_of}
+use Rattle.places.specs.Places.{Pair, place_size, start_of, length_of, pairs_at, values_at, Within}
 use Rattle.tables.specs.Section.{Entry, Section, entries_of}
 use Rattle.tables.specs.File.{table_of}
 use Rattle.tables.specs.Row.{names, row_kinds}
@@ -32,13 +32,20 @@ first_kinds file count = take count (row_kinds (table_of file))
 abbrev pub RowsThere : ℕ → ℕ → List ℕ → ℕ → Type 0
 RowsThere file count p k = (count ≤ length (row_kinds (table_of file))) × (place_size * (k + entry_count (first_kinds file count)) ≤ length p)
 
--- a line of a wrong pair, and 0 for none
-abbrev pub line_check : ℕ → ℕ → Check
-line_check number l = cond (ltb 0 l) (fails number l) passes
+-- a test of a kind's number and a pair's may be asked of the n pairs from pair k on, and then says whether the pair is wrong
+pub record Judges (pre : ℕ → ℕ → Type 0) (post : ℕ → ℕ → Bool → Type 0) (wrong : Kind → Pair → Bool) (p : List ℕ) (k n : ℕ) : Type 0 where
+  pub asked : (x i : ℕ) → k ≤ i → i < k + n → pre x i
+  pub says : (x i : ℕ) (b : Bool) → k ≤ i → i < k + n → x < 256 → post x i b → wrong (kind_of x) (start_of p i, length_of p i) ≡ b
 
--- r is the line of the first wrong pair of those rows, and 0 for none
-abbrev pub WrongLine : (Kind → Pair → Bool) → ℕ → ℕ → ℕ → List ℕ → ℕ → ℕ → Type 0
-WrongLine wrong number file count p k r = (pair_check wrong number (first_kinds file count) p k ≡ line_check number r) × (r ≤ count)
+-- the line of a wrong pair, if there is one
+abbrev pub line_check : ℕ → RustOption ℕ → Check
+line_check number None = passes
+line_check number (Some l) = fails number l
+
+-- r is the line of the first wrong pair of those rows, if there is one
+pub record WrongLine (wrong : Kind → Pair → Bool) (file count : ℕ) (p : List ℕ) (k : ℕ) (r : RustOption ℕ) : Type 0 where
+  pub first : (number : ℕ) → pair_check wrong number (first_kinds file count) p k ≡ line_check number r
+  pub within : IfSome r (λ l. l ≤ count)
 
 unfoldable pub pair_lengths : List Pair → ℕ
 pair_lengths [] = 0

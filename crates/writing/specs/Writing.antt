@@ -1,10 +1,11 @@
 -- One file written from a text and its pairs (01, Writing): order 1, 16, 17, 9, 18.
-use Rattle.std.specs.Prelude.{ℕ, ◌+◌, ◌≡◌, Bool, true, false, cond, not, ◌&&◌, List, [], ◌∷◌, eqb, leb, ltb, length}
+use Rattle.std.specs.Prelude.{ℕ, ◌+◌, ◌≡◌, Bool, true, false, cond, not, ◌&&◌, List, [], ◌∷◌, eqb, leb, ltb, length, Result}
 use Rattle.std.proofs.Math.Option.{Option, none, some}
 use Rattle.kinds.specs.Kind.{Kind}
 use Rattle.kinds.specs.Value.{kind_kept}
 use Rattle.lines.specs.Writing.{put}
-use Rattle.refusals.specs.Answer.{Answer, refusal, acceptance, refusal_of}
+use Rattle.refusals.specs.Answer.{Answer, refusal, acceptance, answer_is}
+use Rattle.refusals.specs.declared.Refusal.{Refusal}
 use Rattle.tables.specs.File.{File, has_axles, least_axles, most_axles, sections, least_places, of_number}
 use Rattle.places.specs.Places.{Pair, value_at}
 use Rattle.tables.specs.Row.{row_kinds}
@@ -12,10 +13,6 @@ use Rattle.tables.specs.Value.{pairs_of, values_of}
 use Rattle.reading.specs.Reading.{Check, passes, fails}
 use Rattle.reading.specs.Writing.{write_text}
 use Rattle.writing.specs.declared.WriteAcceptance.{WriteAcceptance}
-use Rattle.writing.specs.declared.WriteAnswer.{WriteAnswer}
-use Rattle.writing.specs.declared.WriteAnswer.TheVariants.{Written, Refused}
-use Rattle.writing.specs.declared.Quoted.{Quoted}
-use Rattle.writing.specs.declared.Quoted.TheVariants.{Length, Refused as Stopped}
 
 -- 16: "axles not 1 to 9 in 3, 4, or not 0 in 1, 2, 5"; 02, 2/14: "file 7 with 0 axles, which 16 now lets through"
 abbrev pub axles_right : Bool → ℕ → Bool
@@ -78,15 +75,6 @@ fitting (quote m) room = cond (leb m room) (quote m) (refuse 18 0)
 abbrev pub written : ℕ → Answer WriteAcceptance
 written m = acceptance (record { length = m })
 
--- what the answer enum says
-abbrev pub answer_is : WriteAnswer → Answer WriteAcceptance
-answer_is (Refused x) = refusal_of x
-answer_is (Written a) = acceptance a
-
-abbrev pub quoted_is : Quoted → Answer WriteAcceptance
-quoted_is (Stopped x) = refusal_of x
-quoted_is (Length m) = written m
-
 abbrev pub answer_of : ℕ → Quote → Answer WriteAcceptance
 answer_of file (refuse k l) = refusal k (cond (eqb k 1) 0 file) l
 answer_of file (quote m) = written m
@@ -108,6 +96,6 @@ quote_for file n s p out = fitting (quote_file file n s p) (length out)
 abbrev pub output_after : ℕ → ℕ → List ℕ → List ℕ → List ℕ → List ℕ
 output_after file n s p out = output_of (quote_for file n s p out) (bytes_of file n s p) out
 
-pub record Writes (s p : List ℕ) (file n : ℕ) (out after : List ℕ) (r : WriteAnswer) : Type 0 where
+pub record Writes (s p : List ℕ) (file n : ℕ) (out after : List ℕ) (r : Result WriteAcceptance Refusal) : Type 0 where
   pub answer : answer_is r ≡ answer_of file (quote_for file n s p out)
   pub output : after ≡ output_after file n s p out

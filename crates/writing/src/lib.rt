@@ -1,37 +1,25 @@
 // One file written from a text and its pairs (01, Writing): first all checks with the length, then the bytes.
 #![tactic(auto)]
 
-ghost use Rattle.std.specs.Prelude.{◌≡◌, true, ◌+◌, ◌*◌, ◌<◌, ◌≤◌, ltb, length, take, get_or};
+ghost use Rattle.std.specs.Prelude.{◌≡◌, Bool, true, ◌+◌, ◌*◌, ◌<◌, ◌≤◌, ltb, length, take, get_or};
 ghost use Rattle.lines.specs.Writing.{Wrote};
-ghost use Rattle.places.specs.Places.{place_size, start_of, length_of, pairs_at};
+ghost use Rattle.kinds.specs.Kind.{Kind};
+ghost use Rattle.refusals.specs.Answer.{answer_is};
+ghost use Rattle.places.specs.Places.{Pair, place_size, start_of, length_of, pairs_at};
 ghost use Rattle.tables.specs.Row.{entries_in, entries_before, no_section, most_rows};
 ghost use Rattle.tables.specs.File.{least_places, table_of, sections, of_number};
-ghost use Rattle.reading.specs.Reading.{passes};
 ghost use Rattle.reading.specs.Tables.{table_length};
-ghost use Rattle.writing.specs.Writing.{axles_right, is_outside, is_wrong_kind, is_right, quote_right, quote_file, answer_of, quoted_is, Writes};
-ghost use Rattle.writing.specs.Steps.{first_kinds, RowsThere, pair_check, WrongLine, pair_lengths, Ready, entries_text, section_text, sections_text};
+ghost use Rattle.writing.specs.Writing.{axles_right, is_outside, is_right, quote_right, quote_file, answer_of, Writes};
+ghost use Rattle.writing.specs.Steps.{entry_count, first_kinds, RowsThere, Judges, WrongLine, pair_lengths, Ready, entries_text, section_text, sections_text};
 
 use kinds::numbers::KIND_COUNT;
 use refusals::{Refusal, RefusalKind};
 use tables::{AC2, ACC, DRIFT, GAS, OPACITY, SUSPENSION, row_kinds};
 
 // What an accepted writing says: the length of the written file.
-#[derive(Clone, Copy)]
+#[derive(Clone, Copy, Debug, PartialEq, Eq)]
 pub struct WriteAcceptance {
     pub length: u32,
-}
-
-#[derive(Clone, Copy)]
-pub enum WriteAnswer {
-    Written(WriteAcceptance),
-    Refused(Refusal),
-}
-
-// What all checks but the output's say: the length of the file, or a refusal.
-#[derive(Clone, Copy)]
-pub enum Quoted {
-    Length(u32),
-    Refused(Refusal),
 }
 
 // "1 to 9 axles"
@@ -49,12 +37,8 @@ fn is_right(file: u32, axles: u32) -> bool
     ensures { result ≡ is_right file axles }
 {
     match file {
-        AC2 => axles == 0,
-        ACC => axles == 0,
-        DRIFT => are_axles(axles),
-        SUSPENSION => are_axles(axles),
-        GAS => axles == 0,
-        OPACITY => axles == 0,
+        AC2 | ACC | GAS | OPACITY => axles == 0,
+        DRIFT | SUSPENSION => are_axles(axles),
         _ => false,
     }
 }
@@ -69,49 +53,31 @@ fn is_outside(text: &[u8], places: &[u32], k: usize) -> bool
     text.len() < start + places::length_of(places, k) as usize
 }
 
-// The line of the first entry whose pair is outside the text, in the first `count` rows of a file whose pairs stand
-// from `first` on; 0 where none is.
-fn outside_line(text: &[u8], places: &[u32], file: u32, count: usize, first: usize) -> usize
-    requires { RowsThere file count places.now first }
-    ensures { WrongLine (is_outside text.now) 17 file count places.now first result }
+// The line of the first entry that a test finds wrong, by the number of its kind and by its pair, in the first `count`
+// rows of a file whose pairs stand from `first` on.
+fn wrong_line<F: Fn(u8, usize) -> bool>(
+    places: &[u32],
+    file: u32,
+    count: usize,
+    first: usize,
+    is_wrong: F,
+) -> Option<usize>
+    ghost wrong: { Kind → Pair → Bool }
+    requires rows { RowsThere file count places.now first }
+    requires judged { Judges (F.pre is_wrong) (F.post is_wrong) wrong places.now first (entry_count (first_kinds file count)) }
+    ensures { WrongLine wrong file count places.now first result }
 {
     let mut pair = first;
-    let mut row = 0;
-    while row < count {
-        if row_kinds::row_kind(file, row) < KIND_COUNT {
-            if is_outside(text, places, pair) {
-                return row + 1;
-            }
-            pair += 1;
-            row += 1;
-        } else {
-            row += 1;
-        }
-    }
-    0
-}
-
-// The line of the first entry whose value is filled and not of its kind; 0 where none is. No pair is outside the text.
-fn wrong_kind_line(text: &[u8], places: &[u32], file: u32, count: usize, first: usize) -> usize
-    requires { (pair_check (is_outside text.now) 17 (first_kinds file count) places.now first ≡ passes)
-        × RowsThere file count places.now first }
-    ensures { WrongLine (is_wrong_kind text.now) 9 file count places.now first result }
-{
-    let mut pair = first;
-    let mut row = 0;
-    while row < count {
+    for row in 0..count {
         let kind = row_kinds::row_kind(file, row);
         if kind < KIND_COUNT {
-            if !kinds::kind_kept(kind, places::value_of(text, places, pair)) {
-                return row + 1;
+            if is_wrong(kind, pair) {
+                return Some(row + 1);
             }
             pair += 1;
-            row += 1;
-        } else {
-            row += 1;
         }
     }
-    0
+    None
 }
 
 // The lengths of `count` pairs from `first` on together.
@@ -120,10 +86,8 @@ fn pair_lengths(places: &[u32], first: usize, count: usize) -> usize
     ensures { (result ≡ pair_lengths (pairs_at places.now first count)) × (result ≤ most_rows * 4294967295) }
 {
     let mut sum = 0;
-    let mut i = 0;
-    while i < count {
+    for i in 0..count {
         sum += places::length_of(places, first + i) as usize;
-        i += 1;
     }
     sum
 }
@@ -152,49 +116,56 @@ fn section_count(file: u32, axles: u32) -> usize
 }
 
 // 17, then 9, then the length, where 1 and 16 do not refuse.
-fn quote_right(text: &[u8], places: &[u32], file: u32, axles: u32) -> Quoted
+fn quote_right(
+    text: &[u8],
+    places: &[u32],
+    file: u32,
+    axles: u32,
+) -> Result<WriteAcceptance, Refusal>
     requires { (least_places ≤ length places.now) × (is_right file axles ≡ true) }
-    ensures { quoted_is result ≡ answer_of file (quote_right file axles text.now places.now) }
+    ensures { answer_is result ≡ answer_of file (quote_right file axles text.now places.now) }
 {
     let sections = section_count(file, axles);
     let count = tables::rows_before(file, sections);
     let first = tables::first_pair(file);
-    let outside = outside_line(text, places, file, count, first);
-    if 0 < outside {
-        return Quoted::Refused(Refusal {
+    let outside = |_, pair| is_outside(text, places, pair);
+    if let Some(line) = wrong_line(places, file, count, first, outside) {
+        return Err(Refusal {
             kind: RefusalKind::PairOutside,
-            file: file,
-            line: outside as u32,
+            file,
+            line: line as u32,
         });
     }
-    let wrong = wrong_kind_line(text, places, file, count, first);
-    if 0 < wrong {
-        return Quoted::Refused(Refusal {
+    let not_kept = |kind, pair| !kinds::kind_kept(kind, places::value_of(text, places, pair));
+    if let Some(line) = wrong_line(places, file, count, first, not_kept) {
+        return Err(Refusal {
             kind: RefusalKind::WrongKind,
-            file: file,
-            line: wrong as u32,
+            file,
+            line: line as u32,
         });
     }
     let length = table_length(file, axles) + pair_lengths(places, first, count - sections);
-    Quoted::Length(length as u32)
+    Ok(WriteAcceptance {
+        length: length as u32,
+    })
 }
 
 // All checks but the output's, in the order 1, 16, 17, 9, and the length of the file.
-pub fn quote(text: &[u8], places: &[u32], file: u32, axles: u32) -> Quoted
-    ensures { quoted_is result ≡ answer_of file (quote_file file axles text.now places.now) }
+pub fn quote(text: &[u8], places: &[u32], file: u32, axles: u32) -> Result<WriteAcceptance, Refusal>
+    ensures { answer_is result ≡ answer_of file (quote_file file axles text.now places.now) }
 {
     let least = tables::least_places();
     if places.len() < least {
-        return Quoted::Refused(Refusal {
+        return Err(Refusal {
             kind: RefusalKind::PlacesTooShort,
             file: 0,
             line: 0,
         });
     }
     if !is_right(file, axles) {
-        return Quoted::Refused(Refusal {
+        return Err(Refusal {
             kind: RefusalKind::FileOrAxles,
-            file: file,
+            file,
             line: 0,
         });
     }
@@ -219,11 +190,9 @@ fn write_entries(
 {
     let count = tables::entry_count(file, section);
     let mut end = at;
-    let mut entry = 0;
-    while entry < count {
+    for entry in 0..count {
         let value = places::value_of(text, places, first + entry);
         end = tables::write_entry(file, section, entry, value, output, end);
-        entry += 1;
     }
     end
 }
@@ -267,11 +236,9 @@ pub fn write_sections(
 {
     let mut pair = first;
     let mut end = at;
-    let mut section = 0;
-    while section < count {
+    for section in 0..count {
         end = write_section(file, section, text, places, pair, output, end);
         pair += tables::entry_count(file, section);
-        section += 1;
     }
     end
 }
@@ -283,31 +250,27 @@ pub fn write_file(
     file: u32,
     axles: u32,
     output: &mut [u8],
-) -> WriteAnswer
+) -> Result<WriteAcceptance, Refusal>
     ensures { Writes text.now places.now file axles
         output.old output.new result }
 {
-    match quote(text, places, file, axles) {
-        Quoted::Refused(refusal) => WriteAnswer::Refused(refusal),
-        Quoted::Length(length) => {
-            if output.len() < length as usize {
-                return WriteAnswer::Refused(Refusal {
-                    kind: RefusalKind::OutputTooShort,
-                    file: file,
-                    line: 0,
-                });
-            }
-            let count = section_count(file, axles);
-            write_sections(
-                file,
-                count,
-                text,
-                places,
-                tables::first_pair(file),
-                output,
-                0,
-            );
-            WriteAnswer::Written(WriteAcceptance { length: length })
-        }
+    let acceptance = quote(text, places, file, axles)?;
+    if output.len() < acceptance.length as usize {
+        return Err(Refusal {
+            kind: RefusalKind::OutputTooShort,
+            file,
+            line: 0,
+        });
     }
+    let count = section_count(file, axles);
+    write_sections(
+        file,
+        count,
+        text,
+        places,
+        tables::first_pair(file),
+        output,
+        0,
+    );
+    Ok(acceptance)
 }

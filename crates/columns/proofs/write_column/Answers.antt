@@ -2,7 +2,6 @@
 use borrow.Author.Rules.{rules}
 use mathlib.Core.Path.{◌≡◌}
 use native.Mathlib.Omega.{arith}
-use lib.ListN.{length-set}
 use Rattle.due.specs.Due.{due_in}
 use Rattle.columns.specs.Column.{numbers_from}
 use Rattle.columns.proofs.Numbers.{numbers_more}
@@ -14,13 +13,10 @@ loop-i-init c = search rules
 
 pub loop-i-preserved : goal.loop-i-preserved
 loop-i-preserved c =
-    let x = c.args in (
-      search rules,
-      simp length-set (search rules),
-      rw (c.loop-i.invariant.2, c.due_number.ensures) (numbers_more (λ j. due_in x.file j x.conditions) c.loop-i.i x.column.now _ c.due_of.ensures (omega arith)),
-    )
+    let x = c.args in
+    rw (c.loop-i.invariant, c.due_number.ensures) (numbers_more (λ j. due_in x.file j x.conditions) c.loop-i.i x.column.now _ c.due_of.ensures (omega arith))
 
 pub returns : goal.returns
 returns c =
     let e : c.loop-i.i ≡ c.args.count = omega arith in
-    rw e at c.loop-i.invariant.2
+    rw e at c.loop-i.invariant

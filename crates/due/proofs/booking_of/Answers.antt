@@ -32,8 +32,8 @@ returns c =
     let t = c.args.text.now in
     let p = c.args.places.now in
     let q2 : c.word_index-category.result ≡ word_index (words_of 1) (value_of t p 2) = rw c.value_of.ensures at c.word_index-category.ensures in
-    let q5 : c.fuel_of-fuel.result ≡ fuel_in (value_of t p 5) = rw c.value_of-2.ensures at c.fuel_of-fuel.ensures in
-    let q8 : c.is_late-late.result ≡ is_late (value_of t p 8) = rw c.value_of-3.ensures at c.is_late-late.ensures in
-    let q9 : c.is_nessuna-nessuna.result ≡ same_bytes (value_of t p 9) (bytes "NESSUNA") = rw c.value_of-4.ensures at c.is_nessuna-nessuna.ensures in
+    let q5 : c.fuel_of.result ≡ fuel_in (value_of t p 5) = rw c.value_of-2.ensures at c.fuel_of.ensures in
+    let q8 : c.is_late.result ≡ is_late (value_of t p 8) = rw c.value_of-3.ensures at c.is_late.ensures in
+    let q9 : c.is_nessuna.result ≡ same_bytes (value_of t p 9) (bytes "NESSUNA") = rw c.value_of-4.ensures at c.is_nessuna.ensures in
     let q0 : c.length_of.result ≡ length (value_of t p 0) = c.length_of.ensures ∙ sym (value-length t (start_of p 0, length_of p 0) (new-held t p c.requires 0 (lit< tt)).1) in
     rw (q2, q5, q8, q9, q0) (sym (booking-at t p))

@@ -1,13 +1,13 @@
-use Prim.Native.Nat.{ℕ, ◌-◌, ◌≤◌}
+use Prim.Native.Nat.{ℕ, ◌-◌}
 use mathlib.Core.Path.{◌≡◌}
 use mathlib.Core.List.{map}
 use lib.ListN.{get_or}
 use Rattle.tables.specs.Row.{row_kind}
 use Rattle.reading.specs.Reading.{check_absent, is_absent, owner_row, first_wrong}
+use Rattle.files.specs.Steps.{slots_of}
 use Rattle.files.proofs.check_absent.Given as goal
 
 abbrev pub invariant-loop-r : goal.invariant-loop-r
-invariant-loop-r l = (l.r ≤ l.rows) × (check_absent (map row_kind l.kinds) l.numbers l.rows ≡ first_wrong (is_absent l.numbers) 8 (λ (x : ℕ). get_or l.numbers (owner_row (map row_kind l.kinds) x) 0) (l.rows - l.r) l.r)
-
-abbrev pub decreases-loop-r : goal.decreases-loop-r
-decreases-loop-r l = l.rows - l.r
+invariant-loop-r l =
+    let ns = (slots_of l.slots).line_numbers in
+    check_absent (map row_kind l.kinds) ns l.rows ≡ first_wrong (is_absent ns) 8 (λ (x : ℕ). get_or ns (owner_row (map row_kind l.kinds) x) 0) (l.rows - l.r) l.r

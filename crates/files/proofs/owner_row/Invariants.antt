@@ -1,4 +1,3 @@
-use Prim.Native.Nat.{◌≤◌}
 use mathlib.Core.Path.{◌≡◌}
 use mathlib.Core.List.{map}
 use Rattle.tables.specs.Row.{row_kind}
@@ -6,7 +5,4 @@ use Rattle.reading.specs.Reading.{owner_row}
 use Rattle.files.proofs.owner_row.Given as goal
 
 abbrev pub invariant-loop-r : goal.invariant-loop-r
-invariant-loop-r l = (l.r ≤ l.row) × (owner_row (map row_kind l.kinds) l.row ≡ owner_row (map row_kind l.kinds) l.r)
-
-abbrev pub decreases-loop-r : goal.decreases-loop-r
-decreases-loop-r l = l.r
+invariant-loop-r l = owner_row (map row_kind l.kinds) l.row ≡ owner_row (map row_kind l.kinds) l.r

@@ -4,23 +4,19 @@ use Rattle.tables.specs.File.{table_of}
 use Rattle.reading.specs.Reading.{Slots}
 use Rattle.reading.specs.Scanning.{Ready}
 use Rattle.reading.proofs.Judging.{empty-ready}
+use Rattle.std.proofs.lemmas.Result.{err_from_is_err_and}
 use Rattle.files.proofs.Steps.{slots-refused, slots-judged}
 use Rattle.files.proofs.read_slots.Goals as goal
 
-pub scan_text-requires : goal.scan_text-requires
-scan_text-requires c =
+pub scan_lines-requires : goal.scan_lines-requires
+scan_lines-requires c =
     let y = c.args in
     subst (λ (a : Slots). Ready (table_of y.file) y.text.now a) (sym c.requires.2) (empty-ready (table_of y.file) y.text.now c.requires.1)
 
-pub returns-in-Failed : goal.returns-in-Failed
-returns-in-Failed c =
-    let y = c.args in
-    slots-refused y.file y.text.now _ _ c.scan_text.result c.requires.2 c.scan_text.ensures _ c.in-Failed.is
-
-pub judge_slots-requires : goal.judge_slots-requires
-judge_slots-requires c = (c.requires.0, c.scan_text.ensures.still)
+pub returns-in_err-scan_lines : goal.returns-in_err-scan_lines
+returns-in_err-scan_lines c =
+    let p = err_from_is_err_and c.from_residual.result c.from_residual.ensures.1 in
+    rw (p.1, p.2) (slots-refused _ _ _ _ c.requires.2 _ c.in_err-scan_lines.ensures)
 
 pub returns : goal.returns
-returns c =
-    let y = c.args in
-    slots-judged y.file y.text.now _ _ c.scan_text.result c.requires.2 c.scan_text.ensures _ c.in_default.is c.judge_slots.ensures
+returns c = slots-judged _ _ _ _ c.requires.2 _ c.in_ok-scan_lines.ensures c.judge_slots.ensures

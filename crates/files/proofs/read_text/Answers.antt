@@ -1,17 +1,12 @@
 -- `files::read_text` meets its contract: 3, and then what the slots, empty at first, are read into. Assumes nothing.
-use Prim.Native.Nat.{◌≤◌}
 use native.Mathlib.Omega.{arith}
 use lib.ListN.{length-take}
 use Rattle.tables.specs.File.{table_of}
 use Rattle.tables.specs.Row.{row_count, most_rows}
 use Rattle.tables.proofs.Rows.{rows_few}
-use Rattle.files.proofs.Steps.{kinds-within, kinds-taken, kinds-part, text-long, empty-part}
-use Rattle.files.proofs.read_text.Lts as lts
-use Rattle.files.proofs.read_text.Tie as tie
+use Rattle.files.proofs.Steps.{kinds-within, kinds-taken, kinds-part, text-long}
+use Rattle.files.proofs.Slots.{empty-part}
 use Rattle.files.proofs.read_text.Goals as goal
-
-few : (c : (lts.After-row_count tie.the-claims tie.handed_pre tie.handed_post)) → c.row_count-n.result ≤ most_rows
-few c = omega (arith, c.row_count-n.ensures, rows_few c.args.file)
 
 pub returns-then-text-gt-MOST_BYTES : goal.returns-then-text-gt-MOST_BYTES
 returns-then-text-gt-MOST_BYTES c =
@@ -27,23 +22,11 @@ slice_bounds-kinds-end c = kinds-within c.args.file c.row_count-n.result _ c.row
 pub slice_bounds-read_into-end : goal.slice_bounds-read_into-end
 slice_bounds-read_into-end c = kinds-taken c.args.file c.row_count-n.result _ c.row_count-n.ensures c.write_kinds.ensures
 
-pub slice_bounds-numbers-end : goal.slice_bounds-numbers-end
-slice_bounds-numbers-end c = few c.before.before
+pub slice_bounds-slots-end : goal.slice_bounds-slots-end
+slice_bounds-slots-end c = omega (arith, c.row_count-n.ensures, rows_few c.args.file)
 
 pub slice_bounds-read_into-end-2 : goal.slice_bounds-read_into-end-2
-slice_bounds-read_into-end-2 c = simp length-take (omega (arith, few c.before.before.before))
-
-pub slice_bounds-starts-end : goal.slice_bounds-starts-end
-slice_bounds-starts-end c = few c.before.before.before
-
-pub slice_bounds-read_into-end-3 : goal.slice_bounds-read_into-end-3
-slice_bounds-read_into-end-3 c = simp length-take (omega (arith, few c.before.before.before.before))
-
-pub slice_bounds-lengths-end : goal.slice_bounds-lengths-end
-slice_bounds-lengths-end c = few c.before.before.before.before
-
-pub slice_bounds-read_into-end-4 : goal.slice_bounds-read_into-end-4
-slice_bounds-read_into-end-4 c = simp length-take (omega (arith, few c.before.before.before.before.before))
+slice_bounds-read_into-end-2 c = simp length-take (omega (arith, c.row_count-n.ensures, rows_few c.args.file))
 
 pub read_into-requires : goal.read_into-requires
 read_into-requires c =

@@ -1,9 +1,6 @@
--- Each case moves the place on within the input.
-use Rattle.std.proofs.Common.{length, ◌+◌, ◌-◌, ◌≤◌}
+-- Each case leaves fewer bytes.
+use Rattle.std.proofs.Common.{length}
 use Rattle.files_main.proofs.show_all.Given as goal
 
-abbrev pub invariant-loop-at : goal.invariant-loop-at
-invariant-loop-at g l = l.at ≤ length l.input + 1
-
-abbrev pub decreases-loop-at : goal.decreases-loop-at
-decreases-loop-at g l = length l.input + 1 - l.at
+abbrev pub decreases-loop-rest : goal.decreases-loop-rest
+decreases-loop-rest g l = length l.rest

@@ -1,30 +1,28 @@
 -- `judge::judge_booking_text` meets its contract: 3 to 9, then the values by what they say themselves. Assumes nothing.
 use borrow.Author.Rules.{rules}
-use mathlib.Core.Path.{subst}
-use Rattle.judge.specs.Steps.{file_numbered, JudgesValues}
-use Rattle.judge.specs.declared.Step.{Step}
+use Rattle.std.proofs.lemmas.Result.{err_from_is_err_and}
 use Rattle.judge.proofs.Text.{booking-faulty, booking-held, values-ready, booking-stopped, booking-went}
 use Rattle.judge.proofs.judge_booking_text.Goals as goal
 
 pub booking_of-booking-requires : goal.booking_of-booking-requires
 booking_of-booking-requires c =
-    booking-held c.args.text.now c.args.places.now c.read_text.new.places c.read_text.new.lines c.read_text.result c.read_text.ensures c.requires.0 _ c.in-Sections.is
+    booking-held c.args.text.now c.args.places.now c.read_text.new.places c.read_text.new.lines c.read_text.result c.read_text.ensures c.requires.0 _ c.in_ok-sections.was
 
 pub judge_values-requires : goal.judge_values-requires
 judge_values-requires c =
-    values-ready c.args.text.now c.args.places.now c.read_text.new.places c.read_text.new.lines c.read_text.result c.read_text.ensures c.requires.0 _ c.in-Sections.is _ c.booking_of-booking.ensures (search rules)
+    values-ready c.args.text.now c.args.places.now c.read_text.new.places c.read_text.new.lines c.read_text.result c.read_text.ensures c.requires.0 _ c.in_ok-sections.was _ c.booking_of-booking.ensures (search rules)
 
-pub returns-in-Faulty : goal.returns-in-Faulty
-returns-in-Faulty c =
-    booking-faulty c.args.text.now c.args.places.now c.read_text.new.places c.read_text.new.lines c.read_text.result c.read_text.ensures _ c.in-Faulty.is
+pub returns-in_err-sections : goal.returns-in_err-sections
+returns-in_err-sections c =
+    let p = err_from_is_err_and c.from_residual.result c.from_residual.ensures.1 in
+    rw (p.1, p.2) (booking-faulty c.args.text.now c.args.places.now c.read_text.new.places c.read_text.new.lines c.read_text.result c.read_text.ensures _ c.in_err-sections.ensures)
 
-pub returns-in-Stop : goal.returns-in-Stop
-returns-in-Stop c =
-    booking-stopped c.args.text.now c.args.places.now c.read_text.new.places c.read_text.new.lines c.read_text.result c.read_text.ensures c.requires.0 _ c.in-Sections.is c.in-Stop.x
-    (subst (λ (y : Step). JudgesValues (file_numbered 1) c.in-Sections.sections c.args.text.now c.args.text.now c.read_text.new.places c.read_text.new.lines y) c.in-Stop.is c.judge_values.ensures)
+pub returns-in_err-figures : goal.returns-in_err-figures
+returns-in_err-figures c =
+    let p = err_from_is_err_and c.from_residual-in_err-figures.result c.from_residual-in_err-figures.ensures.1 in
+    rw (p.1, p.2) (booking-stopped c.args.text.now c.args.places.now c.read_text.new.places c.read_text.new.lines c.read_text.result c.read_text.ensures c.requires.0 _ c.in_ok-sections.was _ c.in_err-figures.ensures)
 
-pub returns-in-Go : goal.returns-in-Go
-returns-in-Go c =
-    booking-went c.args.text.now c.args.places.now c.read_text.new.places c.read_text.new.lines c.read_text.result c.read_text.ensures c.requires.0 _ c.in-Sections.is _
-    c.booking_of-booking.ensures c.in-Go.figures
-    (subst (λ (y : Step). JudgesValues (file_numbered 1) c.in-Sections.sections c.args.text.now c.args.text.now c.read_text.new.places c.read_text.new.lines y) c.in-Go.is c.judge_values.ensures)
+pub returns : goal.returns
+returns c =
+    booking-went c.args.text.now c.args.places.now c.read_text.new.places c.read_text.new.lines c.read_text.result c.read_text.ensures c.requires.0 _ c.in_ok-sections.was _
+    c.booking_of-booking.ensures _ c.in_ok-figures.ensures

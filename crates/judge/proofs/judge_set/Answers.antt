@@ -16,10 +16,10 @@ pub judge_slices-answer-requires : goal.judge_slices-answer-requires
 judge_slices-answer-requires c =
     still-enough (caller_of c.args.stem.now) (slices_of c.args.ac2.now c.args.acc.now c.args.drift.now c.args.suspension.now c.args.gas.now c.args.identification.now c.args.opacity.now) c.args.places.now _ c.least_places-least.ensures c.if-places-least.false _ c.clear.ensures
 
-pub returns-in-Refused : goal.returns-in-Refused
-returns-in-Refused c =
-    set-refused (caller_of c.args.stem.now) (slices_of c.args.ac2.now c.args.acc.now c.args.drift.now c.args.suspension.now c.args.gas.now c.args.identification.now c.args.opacity.now) c.args.places.now _ c.least_places-least.ensures c.if-places-least.false _ c.clear.ensures (sym c.good_stem.ensures ∙ c.if-not-good_stem.false) _ c.stated_of.ensures c.judge_slices-answer.new.places c.judge_slices-answer.result c.judge_slices-answer.ensures _ c.in-Refused.is _ c.clear-in-Refused.ensures
+pub returns-then-is_err : goal.returns-then-is_err
+returns-then-is_err c =
+    set-refused (caller_of c.args.stem.now) (slices_of c.args.ac2.now c.args.acc.now c.args.drift.now c.args.suspension.now c.args.gas.now c.args.identification.now c.args.opacity.now) c.args.places.now _ c.least_places-least.ensures c.if-places-least.false _ c.clear.ensures (sym c.good_stem.ensures ∙ c.if-not-good_stem.false) _ c.stated_of.ensures c.judge_slices-answer.new.places c.judge_slices-answer.result c.judge_slices-answer.ensures (sym c.is_err.ensures.value ∙ c.if-is_err.true) _ c.clear-then-is_err.ensures
 
-pub returns-in_default : goal.returns-in_default
-returns-in_default c =
-    set-accepted (caller_of c.args.stem.now) (slices_of c.args.ac2.now c.args.acc.now c.args.drift.now c.args.suspension.now c.args.gas.now c.args.identification.now c.args.opacity.now) c.args.places.now _ c.least_places-least.ensures c.if-places-least.false _ c.clear.ensures (sym c.good_stem.ensures ∙ c.if-not-good_stem.false) _ c.stated_of.ensures c.judge_slices-answer.new.places c.judge_slices-answer.result c.judge_slices-answer.ensures _ c.in_default.is
+pub returns-else-is_err : goal.returns-else-is_err
+returns-else-is_err c =
+    set-accepted (caller_of c.args.stem.now) (slices_of c.args.ac2.now c.args.acc.now c.args.drift.now c.args.suspension.now c.args.gas.now c.args.identification.now c.args.opacity.now) c.args.places.now _ c.least_places-least.ensures c.if-places-least.false _ c.clear.ensures (sym c.good_stem.ensures ∙ c.if-not-good_stem.false) _ c.stated_of.ensures c.judge_slices-answer.new.places c.judge_slices-answer.result c.judge_slices-answer.ensures (sym c.is_err.ensures.value ∙ c.if-is_err.false)

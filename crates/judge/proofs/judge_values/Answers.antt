@@ -32,18 +32,18 @@ pub first_broken-requires : goal.first_broken-requires
 first_broken-requires c =
     broken-ready c.args.file c.args.sections c.args.b c.args.booking.now c.args.text.now c.args.places.now c.args.lines.now c.requires _ (axles-are c.args.file c.args.sections c.args.b c.args.booking.now c.args.text.now c.args.places.now c.args.lines.now c.requires _ c.fixed_section_count.ensures)
 
-pub slice_bounds-line_of-end-in-Broken : goal.slice_bounds-line_of-end-in-Broken
-slice_bounds-line_of-end-in-Broken c =
+pub slice_bounds-line_of-end-in-Err : goal.slice_bounds-line_of-end-in-Err
+slice_bounds-line_of-end-in-Err c =
     sym (length-take-le _ c.args.lines.now (count_fits c.args.file c.args.sections c.args.b c.args.booking.now c.args.text.now c.args.places.now c.args.lines.now c.requires _ c.entries_before-count.ensures))
 
 pub figures_of-requires : goal.figures_of-requires
 figures_of-requires c =
     figures-ready c.args.file c.args.sections c.args.b c.args.booking.now c.args.text.now c.args.places.now c.args.lines.now c.requires _ (axles-are c.args.file c.args.sections c.args.b c.args.booking.now c.args.text.now c.args.places.now c.args.lines.now c.requires _ c.fixed_section_count.ensures)
 
-pub returns-in-Broken : goal.returns-in-Broken
-returns-in-Broken c =
-    values-broken c.args.file c.args.sections c.args.b c.args.booking.now c.args.text.now c.args.places.now c.args.lines.now c.requires _ (count-is c.args.file c.args.sections c.args.b c.args.booking.now c.args.text.now c.args.places.now c.args.lines.now c.requires _ c.entries_before-count.ensures) _ (due-is c.args.file c.args.sections c.args.b c.args.booking.now c.args.text.now c.args.places.now c.args.lines.now c.requires _ c.conditions_of-conditions.ensures _ c.first_pair-first.ensures _ (count-is c.args.file c.args.sections c.args.b c.args.booking.now c.args.text.now c.args.places.now c.args.lines.now c.requires _ c.entries_before-count.ensures) _ c.first_not_as_due-entry.ensures) c.if-entry-count.false _ (axles-are c.args.file c.args.sections c.args.b c.args.booking.now c.args.text.now c.args.places.now c.args.lines.now c.requires _ c.fixed_section_count.ensures) c.first_broken.result c.first_broken.ensures _ c.in-Broken.is _ c.line_of-in-Broken.ensures
+pub returns-in-Err : goal.returns-in-Err
+returns-in-Err c =
+    values-broken c.args.file c.args.sections c.args.b c.args.booking.now c.args.text.now c.args.places.now c.args.lines.now c.requires _ (count-is c.args.file c.args.sections c.args.b c.args.booking.now c.args.text.now c.args.places.now c.args.lines.now c.requires _ c.entries_before-count.ensures) _ (due-is c.args.file c.args.sections c.args.b c.args.booking.now c.args.text.now c.args.places.now c.args.lines.now c.requires _ c.conditions_of-conditions.ensures _ c.first_pair-first.ensures _ (count-is c.args.file c.args.sections c.args.b c.args.booking.now c.args.text.now c.args.places.now c.args.lines.now c.requires _ c.entries_before-count.ensures) _ c.first_not_as_due-entry.ensures) c.if-entry-count.false _ (axles-are c.args.file c.args.sections c.args.b c.args.booking.now c.args.text.now c.args.places.now c.args.lines.now c.requires _ c.fixed_section_count.ensures) c.first_broken.result c.first_broken.ensures _ c.in-Err.is _ c.line_of-in-Err.ensures
 
-pub returns-in-Kept : goal.returns-in-Kept
-returns-in-Kept c =
-    values-pass c.args.file c.args.sections c.args.b c.args.booking.now c.args.text.now c.args.places.now c.args.lines.now c.requires _ (count-is c.args.file c.args.sections c.args.b c.args.booking.now c.args.text.now c.args.places.now c.args.lines.now c.requires _ c.entries_before-count.ensures) _ (due-is c.args.file c.args.sections c.args.b c.args.booking.now c.args.text.now c.args.places.now c.args.lines.now c.requires _ c.conditions_of-conditions.ensures _ c.first_pair-first.ensures _ (count-is c.args.file c.args.sections c.args.b c.args.booking.now c.args.text.now c.args.places.now c.args.lines.now c.requires _ c.entries_before-count.ensures) _ c.first_not_as_due-entry.ensures) c.if-entry-count.false _ (axles-are c.args.file c.args.sections c.args.b c.args.booking.now c.args.text.now c.args.places.now c.args.lines.now c.requires _ c.fixed_section_count.ensures) c.first_broken.result c.first_broken.ensures c.in-Kept.is _ c.figures_of.ensures
+pub returns-in-Ok : goal.returns-in-Ok
+returns-in-Ok c =
+    values-pass c.args.file c.args.sections c.args.b c.args.booking.now c.args.text.now c.args.places.now c.args.lines.now c.requires _ (count-is c.args.file c.args.sections c.args.b c.args.booking.now c.args.text.now c.args.places.now c.args.lines.now c.requires _ c.entries_before-count.ensures) _ (due-is c.args.file c.args.sections c.args.b c.args.booking.now c.args.text.now c.args.places.now c.args.lines.now c.requires _ c.conditions_of-conditions.ensures _ c.first_pair-first.ensures _ (count-is c.args.file c.args.sections c.args.b c.args.booking.now c.args.text.now c.args.places.now c.args.lines.now c.requires _ c.entries_before-count.ensures) _ c.first_not_as_due-entry.ensures) c.if-entry-count.false _ (axles-are c.args.file c.args.sections c.args.b c.args.booking.now c.args.text.now c.args.places.now c.args.lines.now c.requires _ c.fixed_section_count.ensures) c.first_broken.result c.first_broken.ensures c.in-Ok.is _ c.figures_of.ensures

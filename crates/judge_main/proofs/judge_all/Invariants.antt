@@ -1,9 +1,6 @@
--- Each set moves the place on within the input.
-use Rattle.std.proofs.Common.{length, ◌-◌, ◌≤◌}
+-- Each set takes a header's bytes from what is left.
+use Rattle.std.specs.Prelude.{length}
 use Rattle.judge_main.proofs.judge_all.Given as goal
 
-abbrev pub invariant-loop-at : goal.invariant-loop-at
-invariant-loop-at g l = l.at ≤ length l.input
-
-abbrev pub decreases-loop-at : goal.decreases-loop-at
-decreases-loop-at g l = length l.input - l.at
+abbrev pub decreases-loop-header : goal.decreases-loop-header
+decreases-loop-header g l = length l.input

@@ -1,23 +1,13 @@
--- `kinds::all_digits` meets its contract: what the definition says of the whole, it says from `i` on. Assumes nothing.
-use mathlib.Core.Path.{sym, ◌∙◌}
-use borrow.Author.Rules.{rules}
-use lib.ListN.{drop_of_length-le}
-use Rattle.kinds.specs.Digits.{all_digits}
-use Rattle.kinds.proofs.Laws.{all-step}
+-- Std's test of a digit is that of the definition. Assumes nothing.
+use Rattle.std.proofs.Common.{◌∙◌, rules}
+use borrow.Author.Tests.{tests}
+use Rattle.std.proofs.lemmas.Iterator.{YieldsList-from_slice}
+use Rattle.std.proofs.lemmas.Iterator.Search.{all_from_yields_List}
+use Rattle.std.specs.Char.{is_ascii_digit}
+use Rattle.kinds.proofs.Laws.{list_digits}
 use Rattle.kinds.proofs.all_digits.Goals as goal
 
-pub returns-then-not-is_digit : goal.returns-then-not-is_digit
-returns-then-not-is_digit c =
-    let s = c.args.part.now in
-    sym (c.loop-i.invariant.1 ∙ all-step s c.loop-i.i (search rules) ∙ rw (sym c.is_digit.ensures ∙ c.if-not-is_digit.true))
-
-pub loop-i-preserved : goal.loop-i-preserved
-loop-i-preserved c =
-    let s = c.args.part.now in
-    (search rules, c.loop-i.invariant.1 ∙ all-step s c.loop-i.i (search rules) ∙ rw (sym c.is_digit.ensures ∙ c.if-not-is_digit.false))
-
 pub returns : goal.returns
-unfolding all_digits
 returns c =
-    let s = c.args.part.now in
-    sym (c.loop-i.invariant.1 ∙ rw (drop_of_length-le s {i = c.loop-i.i} (search rules)))
+    all_from_yields_List is_ascii_digit _ _ _ c.all.ensures.ran (YieldsList-from_slice c.args.part.now cc) (λ x b q k. search (rules, tests))
+    ∙ list_digits c.args.part.now

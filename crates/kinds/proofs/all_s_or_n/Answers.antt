@@ -1,23 +1,13 @@
--- `kinds::all_s_or_n` meets its contract: what the definition says of the whole, it says from `i` on. Assumes nothing.
-use mathlib.Core.Path.{sym, ◌∙◌}
-use borrow.Author.Rules.{rules}
-use lib.ListN.{drop_of_length-le}
-use Rattle.kinds.specs.Value.{all_s_or_n}
-use Rattle.kinds.proofs.Laws.{letters-step}
+-- Each byte is tested as the definition does. Assumes nothing.
+use Rattle.std.proofs.Common.{◌∙◌, rules}
+use borrow.Author.Tests.{tests}
+use Rattle.std.proofs.lemmas.Iterator.{YieldsList-from_slice}
+use Rattle.std.proofs.lemmas.Iterator.Search.{all_from_yields_List}
+use Rattle.kinds.specs.Value.{is_s_or_n}
+use Rattle.kinds.proofs.Laws.{list_letters}
 use Rattle.kinds.proofs.all_s_or_n.Goals as goal
 
-pub returns-then-not-is_s_or_n : goal.returns-then-not-is_s_or_n
-returns-then-not-is_s_or_n c =
-    let s = c.args.part.now in
-    sym (c.loop-i.invariant.1 ∙ letters-step s c.loop-i.i (search rules) ∙ rw (sym c.is_s_or_n.ensures ∙ c.if-not-is_s_or_n.true))
-
-pub loop-i-preserved : goal.loop-i-preserved
-loop-i-preserved c =
-    let s = c.args.part.now in
-    (search rules, c.loop-i.invariant.1 ∙ letters-step s c.loop-i.i (search rules) ∙ rw (sym c.is_s_or_n.ensures ∙ c.if-not-is_s_or_n.false))
-
 pub returns : goal.returns
-unfolding all_s_or_n
 returns c =
-    let s = c.args.part.now in
-    sym (c.loop-i.invariant.1 ∙ rw (drop_of_length-le s {i = c.loop-i.i} (search rules)))
+    all_from_yields_List (λ c. is_s_or_n c) _ _ _ c.all.ensures.ran (YieldsList-from_slice c.args.part.now cc) (λ x b q k. search (rules, tests))
+    ∙ list_letters c.args.part.now

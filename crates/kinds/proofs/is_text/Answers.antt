@@ -1,15 +1,15 @@
--- `kinds::is_text` meets its contract: empty, not printable, or only the length is left. Assumes nothing.
-use mathlib.Core.Path.{sym, ◌∙◌}
+-- What is empty or not printable is no text. Assumes nothing.
+use Rattle.std.proofs.Common.{sym, ◌∙◌}
 use Rattle.kinds.proofs.Laws.{text-empty, text-unprintable}
 use Rattle.kinds.proofs.is_text.Goals as goal
+use Rattle.kinds.proofs.is_text.Goals.{then-value-ge1, else-value-ge1}
 
-pub returns-then-value-lt1 : goal.returns-then-value-lt1
-returns-then-value-lt1 c = sym (text-empty c.args.kind c.args.value.now c.requires c.if-value-lt1.true)
-
-pub returns-then-not-all_printable : goal.returns-then-not-all_printable
-returns-then-not-all_printable c =
-    sym (text-unprintable c.args.kind c.args.value.now c.requires (sym c.all_printable.ensures ∙ c.if-not-all_printable.true))
-
-pub length_ok-requires : goal.length_ok-requires
-length_ok-requires c =
-    (c.requires, c.if-value-lt1.false, sym c.all_printable.ensures ∙ c.if-not-all_printable.false)
+pub returns-else-all_printable : goal.returns-else-all_printable
+returns-else-all_printable c =
+    let k = c.args.kind in
+    let v = c.args.value.now in
+    let no = c.if-all_printable.false in
+    elim c.if-value-ge1.branch [
+      | then-value-ge1 w ↦ no ∙ sym (text-unprintable k v c.requires (sym w.all_printable.ensures ∙ sym w.value-is ∙ no))
+      | else-value-ge1 w ↦ no ∙ sym (text-empty k v c.requires w.if-value-ge1.false)
+    ]

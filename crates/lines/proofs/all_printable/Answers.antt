@@ -11,4 +11,4 @@ use Rattle.lines.proofs.all_printable.Goals as goal
 pub returns : goal.returns
 returns c =
     let s = c.args.part.now in
-    ap (λ (k : ℕ). eqb k (length s)) (c.printable_end.ensures ∙ zero-add (printable_run s)) ∙ run-all s
+    ap (λ (k : ℕ). eqb k (length s)) (c.run_end.ensures ∙ zero-add (printable_run s)) ∙ run-all s

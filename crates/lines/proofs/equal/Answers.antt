@@ -13,7 +13,7 @@ returns-then-word c =
     let x = c.args in
     sym
     (c.loop-i.invariant.2
-    ∙ words-differ x.a.now x.b.now (λ k. (c.shared_slice_known-1.given k).fits) (λ k. (c.shared_slice_known-2-1.given k).fits) 8 c.loop-i.i (omega arith) (omega arith)
+    ∙ words-differ x.a.now x.b.now (λ k. omega (arith, c.type_inv.a k)) (λ k. omega (arith, c.type_inv.b k)) 8 c.loop-i.i (omega arith) (omega arith)
     (λ e. c.if-word.true (c.word.ensures ∙ e ∙ sym c.word-in-loop-i.ensures)))
 
 pub loop-i-preserved : goal.loop-i-preserved
@@ -22,7 +22,7 @@ loop-i-preserved c =
       omega arith,
       omega arith,
       c.loop-i.invariant.2
-          ∙ words_same x.a.now x.b.now (λ k. (c.shared_slice_known-1.given k).fits) (λ k. (c.shared_slice_known-2-1.given k).fits) 8 c.loop-i.i (omega arith) (omega arith)
+          ∙ words_same x.a.now x.b.now (λ k. omega (arith, c.type_inv.a k)) (λ k. omega (arith, c.type_inv.b k)) 8 c.loop-i.i (omega arith) (omega arith)
           (sym c.word.ensures ∙ c.if-word.false ∙ c.word-in-loop-i.ensures),
     )
 

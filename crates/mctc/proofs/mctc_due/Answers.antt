@@ -11,4 +11,4 @@ returns-then-answer-lt-ANSWER_SIZE c =
 pub returns : goal.returns
 returns c =
     let x = c.args in
-    due-done x.answer.now _ _ (omega (arith, c.if-answer-lt-ANSWER_SIZE.false)) x.file x.ac2.now x.text.now x.places.now _ x.column.now _ _ c.due_column-given.ensures c.fill_column.ensures
+    due-done x.answer.now _ _ (omega (arith, c.if-answer-lt-ANSWER_SIZE.false)) x.file x.ac2.now x.text.now x.places.now _ x.column.now _ _ c.due_column-given.ensures c.fill_answer.ensures

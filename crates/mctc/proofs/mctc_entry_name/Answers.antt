@@ -12,4 +12,4 @@ returns-then-answer-lt-ANSWER_SIZE c =
 pub returns : goal.returns
 returns c =
     let x = c.args in
-    name_done x.answer.now _ _ (omega (arith, c.if-answer-lt-ANSWER_SIZE.false)) x.file (N.entry_name x.file x.entry) x.output.now _ _ c.copy_entry_name-copied.ensures c.fill_name.ensures
+    name_done x.answer.now _ _ (omega (arith, c.if-answer-lt-ANSWER_SIZE.false)) x.file (N.entry_name x.file x.entry) x.output.now _ _ c.copy_entry_name-copied.ensures c.fill_answer.ensures

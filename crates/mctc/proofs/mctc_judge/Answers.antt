@@ -12,4 +12,4 @@ returns-then-answer-lt-ANSWER_SIZE c =
 pub returns : goal.returns
 returns c =
     let x = c.args in
-    judge-done x.answer.now _ _ (omega (arith, c.if-answer-lt-ANSWER_SIZE.false)) (caller_of x.stem.now) _ x.places.now _ _ c.judge_set-judged.ensures c.fill_judged.ensures
+    judge-done x.answer.now _ _ (omega (arith, c.if-answer-lt-ANSWER_SIZE.false)) (caller_of x.stem.now) _ x.places.now _ _ c.judge_set-judged.ensures c.fill_answer.ensures

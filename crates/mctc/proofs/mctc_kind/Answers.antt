@@ -12,4 +12,4 @@ returns-then-answer-lt-ANSWER_SIZE c =
 pub returns : goal.returns
 returns c =
     let x = c.args in
-    kind-done x.answer.now _ _ (omega (arith, c.if-answer-lt-ANSWER_SIZE.false)) x.file (N.entry_kind x.file x.entry) c.kind_of_entry-found.result c.kind_of_entry-found.ensures c.fill_kind.ensures
+    kind-done x.answer.now _ _ (omega (arith, c.if-answer-lt-ANSWER_SIZE.false)) x.file (N.entry_kind x.file x.entry) c.kind_of_entry-found.result c.kind_of_entry-found.ensures c.fill_answer.ensures

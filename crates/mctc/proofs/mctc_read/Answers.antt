@@ -11,4 +11,4 @@ returns-then-answer-lt-ANSWER_SIZE c =
 pub returns : goal.returns
 returns c =
     let x = c.args in
-    read_done x.answer.now _ _ (omega (arith, c.if-answer-lt-ANSWER_SIZE.false)) x.file x.text.now x.places.now _ _ c.read_alone-read.ensures c.fill_read.ensures
+    read_done x.answer.now _ _ (omega (arith, c.if-answer-lt-ANSWER_SIZE.false)) x.file x.text.now x.places.now _ _ c.read_alone-read.ensures c.fill_answer.ensures

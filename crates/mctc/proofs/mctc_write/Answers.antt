@@ -11,4 +11,4 @@ returns-then-answer-lt-ANSWER_SIZE c =
 pub returns : goal.returns
 returns c =
     let x = c.args in
-    write_done x.answer.now _ _ (omega (arith, c.if-answer-lt-ANSWER_SIZE.false)) x.text.now x.places.now x.file x.axles x.output.now _ _ c.write_file-written.ensures c.fill_written.ensures
+    write_done x.answer.now _ _ (omega (arith, c.if-answer-lt-ANSWER_SIZE.false)) x.text.now x.places.now x.file x.axles x.output.now _ _ c.write_file-written.ensures c.fill_answer.ensures

@@ -1,15 +1,10 @@
 -- `names::kind_of_entry` meets its contract: no entry of that number, or the shape of its kind. Assumes nothing.
-use Rattle.names.proofs.EntryKinds.{kind-refused, kind-shaped}
+use mathlib.Core.Path.{ap, sym}
+use Rattle.names.specs.Names.{kind_answer_of}
+use Rattle.names.proofs.EntryKinds.{kind-none}
 use Rattle.names.proofs.kind_of_entry.Goals as goal
 
-pub returns-then-kind-ge-KIND_COUNT : goal.returns-then-kind-ge-KIND_COUNT
-returns-then-kind-ge-KIND_COUNT c =
+pub returns-in_default : goal.returns-in_default
+returns-in_default c =
     let x = c.args in
-    let n = c.kind_number-kind in
-    kind-refused x.file x.entry n.result n.ensures c.if-kind-ge-KIND_COUNT.true
-
-pub returns : goal.returns
-returns c =
-    let x = c.args in
-    let n = c.kind_number-kind in
-    kind-shaped x.file x.entry n.result n.ensures c.shape_of.result c.if-kind-ge-KIND_COUNT.false c.shape_of.ensures
+    rw c.absent.ensures (sym (ap (kind_answer_of x.file) (kind-none x.file x.entry c.in_default.ensures)))

@@ -1,9 +1,6 @@
--- Each case moves the place on within the input.
-use Rattle.std.proofs.Common.{length, ◌-◌, ◌≤◌}
+-- Each case takes its parts from what is left.
+use Rattle.std.proofs.Common.{length}
 use Rattle.rules_main.proofs.show_all.Given as goal
 
-abbrev pub invariant-loop-at : goal.invariant-loop-at
-invariant-loop-at g l = l.at ≤ length l.input
-
-abbrev pub decreases-loop-at : goal.decreases-loop-at
-decreases-loop-at g l = length l.input - l.at
+abbrev pub decreases-loop-input : goal.decreases-loop-input
+decreases-loop-input g l = length l.input

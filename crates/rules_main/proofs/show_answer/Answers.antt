@@ -9,5 +9,5 @@ show_answered-requires g c = search (rules, first-pairs.5)
 pub read_file-requires : goal.read_file-requires
 read_file-requires g c = search (rules, first-pairs.5)
 
-pub show_answered-requires-then-branch-eq0 : goal.show_answered-requires-then-branch-eq0
-show_answered-requires-then-branch-eq0 g c = search (rules, first-pairs.5)
+pub show_answered-requires-then-eq : goal.show_answered-requires-then-eq
+show_answered-requires-then-eq g c = search (rules, first-pairs.5)

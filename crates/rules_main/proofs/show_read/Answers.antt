@@ -4,7 +4,7 @@ use Rattle.serial.proofs.Exact.{read-sound}
 use Rattle.rules_main.proofs.show_read.Goals as goal
 
 pub show_fields-requires : goal.show_fields-requires
-show_fields-requires g c = (read-sound _ _ (sym c.in-Fields.ensures)).ordered
+show_fields-requires g c = (read-sound _ _ (sym c.in-Some.ensures)).ordered
 
 pub show_equal-requires : goal.show_equal-requires
-show_equal-requires g c = ((read-sound _ _ (sym c.in-Fields.ensures)).ordered, c.requires)
+show_equal-requires g c = ((read-sound _ _ (sym c.in-Some.ensures)).ordered, c.requires)

@@ -5,10 +5,10 @@ use borrow.Author.Tests.{lt-ltb, le-ltb}
 use Rattle.tables.specs.Groups.{likely_section}
 use Rattle.tables.proofs.likely_section.Goals as goal
 
-pub returns-then-part-lt2 : goal.returns-then-part-lt2
+pub returns-in_default : goal.returns-in_default
 unfolding likely_section
-returns-then-part-lt2 c = rw (lt-ltb (length c.args.part.now) 2 c.if-part-lt2.true) refl
+returns-in_default c = rw (lt-ltb (length c.args.part.now) 2 c.in_default.len_below) refl
 
-pub returns : goal.returns
+pub returns-in-len2-up : goal.returns-in-len2-up
 unfolding likely_section
-returns c = rw (le-ltb (length c.args.part.now) 2 c.if-part-lt2.false) c.section_digit.ensures
+returns-in-len2-up c = rw (le-ltb (length c.args.part.now) 2 c.in-len2-up.len_at_least) c.section_digit.ensures

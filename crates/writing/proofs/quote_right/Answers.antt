@@ -1,16 +1,15 @@
--- `writing::quote_right` meets its contract: 17 and 9 by their loops; where both pass, the length is the table's and the pairs'. Assumes nothing.
-use mathlib.Core.Path.{ap, sym, ◌∙◌}
+-- `writing::quote_right` meets its contract: 17 and 9 by their tests; where both pass, the length is the table's and the pairs'. Assumes nothing.
+use mathlib.Core.Path.{ap, sym}
 use Prim.Native.Nat.{◌+◌, ◌≤◌}
 use native.Mathlib.Omega.{arith}
+use Rattle.std.proofs.Common.{rules, of_calls}
 use Rattle.reading.specs.Tables.{most_bytes}
 use Rattle.writing.specs.Writing.{answer_of}
-use Rattle.writing.proofs.Checks.{found-line, no_line}
-use Rattle.writing.proofs.Quotes.{Sizes, right-file, sizes-few, sizes-most, sizes-less, sizes-places, sizes-pairs, quote-outside, quote-wrong, quote-length, quote-short}
-use Rattle.writing.proofs.quote_right.Lts as lts
-use Rattle.writing.proofs.quote_right.Tie as tie
+use Rattle.writing.proofs.Quotes.{Sizes, right-file, sizes-few, sizes-most, sizes-less, sizes-places, sizes-pairs, pair-within, quote-outside, quote-wrong, quote-length, quote-short}
 use Rattle.writing.proofs.quote_right.Goals as goal
+use Rattle.writing.proofs.quote_right.Goals.{After-first_pair-first, After-pair_lengths}
 
-sizes : (c : (lts.After-first_pair tie.the-claims tie.handed_pre tie.handed_post)) → Sizes c.args.file c.args.axles c.section_count-sections.result c.rows_before-count.result c.first_pair-first.result
+sizes : (c : After-first_pair-first) → Sizes c.args.file c.args.axles c.section_count-sections.result c.rows_before-count.result c.first_pair-first.result
 sizes c =
     record {
       right = right-file c.args.file c.args.axles c.requires.1;
@@ -19,46 +18,64 @@ sizes c =
       first-is = c.first_pair-first.ensures;
     }
 
-short : (c : (lts.After-pair_lengths tie.the-claims tie.handed_pre tie.handed_post)) → c.table_length.result + c.pair_lengths.result ≤ most_bytes
-short c =
-    let x = c.args in
-    quote-short (sizes c.before.before.before.before.before.before) x.text.now x.places.now (c.outside_line-outside.ensures.0 ∙ no_line 17 c.if-outside-gt0.false) (c.wrong_kind_line-wrong.ensures.0 ∙ no_line 9 c.if-wrong-gt0.false) c.table_length.result c.pair_lengths.result c.table_length.ensures c.pair_lengths.ensures.0
+pub wrong_line-requires : goal.wrong_line-requires
+wrong_line-requires c κs within =
+    let z = sizes c in
+    let m = sizes-places z c.args.places.now c.requires.0 in
+    (search rules, ((sizes-most z, m), record { asked = λ x i a b _ _ _ _ _ _ _ _. omega (arith, m, b); says = λ x i b f l z e. search (rules, of_calls) }))
 
-pub outside_line-outside-requires : goal.outside_line-outside-requires
-outside_line-outside-requires c = (sizes-most (sizes c.before), sizes-places (sizes c.before) c.args.places.now c.requires.0)
+pub wrong_line-requires-2 : goal.wrong_line-requires-2
+wrong_line-requires-2 c κs within =
+    let z = sizes ((goal.at.wrong_line-requires-2 c).After-first_pair-first) in
+    let m = sizes-places z c.args.places.now c.requires.0 in (
+      search rules,
+      (
+        (sizes-most z, m),
+        record {
+          asked = λ x i a b _ _ _ _ _ _ _ _. (omega (arith, m, b), pair-within z c.args.text.now c.args.places.now (c.in_default.ensures.first 17) i a b);
+          says = λ x i b f l z e. search (rules, of_calls);
+        },
+      ),
+    )
 
 pub overflow_cast-result : goal.overflow_cast-result
-overflow_cast-result c = omega (arith, c.outside_line-outside.ensures.1, sizes-few (sizes c.before.before.before))
+overflow_cast-result c = omega (arith, c.in-Some.ensures.within, sizes-few (sizes ((goal.at.overflow_cast-result c).After-first_pair-first)))
 
-pub returns-then-outside-gt0 : goal.returns-then-outside-gt0
-returns-then-outside-gt0 c =
+pub returns-in-Some : goal.returns-in-Some
+returns-in-Some c =
     let x = c.args in
-    sym (ap (answer_of x.file) (quote-outside (sizes c.before.before.before) x.text.now x.places.now _ (c.outside_line-outside.ensures.0 ∙ found-line 17 c.if-outside-gt0.true)))
+    sym (ap (answer_of x.file) (quote-outside (sizes ((goal.at.returns-in-Some c).After-first_pair-first)) x.text.now x.places.now _ (c.in-Some.ensures.first 17)))
 
-pub wrong_kind_line-wrong-requires : goal.wrong_kind_line-wrong-requires
-wrong_kind_line-wrong-requires c = (c.outside_line-outside.ensures.0 ∙ no_line 17 c.if-outside-gt0.false, (sizes-most (sizes c.before.before.before), sizes-places (sizes c.before.before.before) c.args.places.now c.requires.0))
+pub overflow_cast-result-in-Some-wrong_line : goal.overflow_cast-result-in-Some-wrong_line
+overflow_cast-result-in-Some-wrong_line c =
+    omega (arith, c.in-Some-wrong_line.ensures.within, sizes-few (sizes ((goal.at.overflow_cast-result-in-Some-wrong_line c).After-first_pair-first)))
 
-pub overflow_cast-result-then-wrong-gt0 : goal.overflow_cast-result-then-wrong-gt0
-overflow_cast-result-then-wrong-gt0 c = omega (arith, c.wrong_kind_line-wrong.ensures.1, sizes-few (sizes c.before.before.before.before.before))
-
-pub returns-then-wrong-gt0 : goal.returns-then-wrong-gt0
-returns-then-wrong-gt0 c =
+pub returns-in-Some-wrong_line : goal.returns-in-Some-wrong_line
+returns-in-Some-wrong_line c =
     let x = c.args in
-    sym (ap (answer_of x.file) (quote-wrong (sizes c.before.before.before.before.before) x.text.now x.places.now (c.outside_line-outside.ensures.0 ∙ no_line 17 c.if-outside-gt0.false) _ (c.wrong_kind_line-wrong.ensures.0 ∙ found-line 9 c.if-wrong-gt0.true)))
+    let z = sizes ((goal.at.returns-in-Some-wrong_line c).After-first_pair-first) in
+    sym (ap (answer_of x.file) (quote-wrong z x.text.now x.places.now (c.in_default.ensures.first 17) _ (c.in-Some-wrong_line.ensures.first 9)))
 
 pub overflow_sub-count : goal.overflow_sub-count
-overflow_sub-count c = sizes-less (sizes c.before.before.before.before.before.before)
+overflow_sub-count c = sizes-less (sizes ((goal.at.overflow_sub-count c).After-first_pair-first))
 
 pub pair_lengths-requires : goal.pair_lengths-requires
-pair_lengths-requires c = (sizes-pairs (sizes c.before.before.before.before.before.before) c.args.places.now c.requires.0, omega (arith, sizes-few (sizes c.before.before.before.before.before.before)))
+pair_lengths-requires c =
+    let z = sizes ((goal.at.pair_lengths-requires c).After-first_pair-first) in
+    (sizes-pairs z c.args.places.now c.requires.0, omega (arith, sizes-few z))
+
+short : (c : After-pair_lengths) → c.table_length.result + c.pair_lengths.result ≤ most_bytes
+short c =
+    let x = c.args in
+    quote-short (sizes ((goal.at.returns c).After-first_pair-first)) x.text.now x.places.now (c.in_default.ensures.first 17) (c.in_default-wrong_line.ensures.first 9) c.table_length.result c.pair_lengths.result c.table_length.ensures c.pair_lengths.ensures.0
 
 pub overflow_add-length : goal.overflow_add-length
-overflow_add-length c = omega (arith, short c.before)
+overflow_add-length c = omega (arith, short c)
 
 pub overflow_cast-result-2 : goal.overflow_cast-result-2
-overflow_cast-result-2 c = omega (arith, short c.before)
+overflow_cast-result-2 c = omega (arith, short c)
 
 pub returns : goal.returns
 returns c =
     let x = c.args in
-    sym (ap (answer_of x.file) (quote-length (sizes c.before.before.before.before.before.before.before) x.text.now x.places.now (c.outside_line-outside.ensures.0 ∙ no_line 17 c.if-outside-gt0.false) (c.wrong_kind_line-wrong.ensures.0 ∙ no_line 9 c.if-wrong-gt0.false) c.table_length.result c.pair_lengths.result c.table_length.ensures c.pair_lengths.ensures.0))
+    sym (ap (answer_of x.file) (quote-length (sizes ((goal.at.returns c).After-first_pair-first)) x.text.now x.places.now (c.in_default.ensures.first 17) (c.in_default-wrong_line.ensures.first 9) c.table_length.result c.pair_lengths.result c.table_length.ensures c.pair_lengths.ensures.0))

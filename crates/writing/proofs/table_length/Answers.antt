@@ -1,4 +1,5 @@
 -- `writing::table_length` meets its contract: an arm for each file, its number computed from the table, each axle the same. Assumes nothing.
+use native.Mathlib.Omega.{arith}
 use mathlib.Core.Path.{sym}
 use Rattle.tables.specs.File.{ac2, acc, drift, suspension, gas, opacity, sections}
 use Rattle.reading.specs.Tables.{table_length}
@@ -25,4 +26,4 @@ pub returns-in-7 : goal.returns-in-7
 returns-in-7 c = size_of opacity c.args.axles c.in-7.is
 
 pub returns-in_default : goal.returns-in_default
-returns-in_default c = sym (of_none 0 (λ f. table_length (sections f c.args.axles)) c.args.file c.in_default.in_default-own.rest)
+returns-in_default c = sym (of_none 0 (λ f. table_length (sections f c.args.axles)) c.args.file (omega arith))

@@ -21,8 +21,5 @@ write_entry-end-requires c = rw c.value_of-value.ensures (entries-room c.loop-en
 pub loop-entry-preserved : goal.loop-entry-preserved
 loop-entry-preserved c = entries_next c.loop-entry.invariant (omega (arith, c.entry_count-count.ensures, c.loop-entry-test.true)) (rw c.value_of-value.ensures at c.write_entry-end.ensures)
 
-pub shape_of-output : goal.shape_of-output
-shape_of-output c = c.loop-entry.invariant.kept
-
 pub returns : goal.returns
 returns c = entries-end c.loop-entry.invariant (omega (arith, c.entry_count-count.ensures, c.loop-entry-test.false))

@@ -1,4 +1,3 @@
-use Prim.Native.Nat.{◌-◌}
 use Rattle.tables.specs.File.{table_of}
 use Rattle.tables.specs.Row.{entries_in}
 use Rattle.writing.proofs.Bytes.{Entries}
@@ -6,6 +5,3 @@ use Rattle.writing.proofs.write_entries.Given as goal
 
 abbrev pub invariant-loop-entry : goal.invariant-loop-entry
 invariant-loop-entry l = Entries (entries_in (table_of l.file) l.section) l.text l.places l.first l.initial.output l.at l.entry l.output l.end
-
-abbrev pub decreases-loop-entry : goal.decreases-loop-entry
-decreases-loop-entry l = l.count - l.entry

@@ -18,8 +18,5 @@ overflow_add-pair c = omega (arith, c.entry_count-pair.ensures, section-pairs c.
 pub loop-section-preserved : goal.loop-section-preserved
 loop-section-preserved c = rw c.entry_count-pair.ensures (sections-next c.loop-section.invariant c.loop-section-test.true c.write_section-end.ensures)
 
-pub shape_of-output : goal.shape_of-output
-shape_of-output c = c.loop-section.invariant.kept
-
 pub returns : goal.returns
 returns c = sections-end c.loop-section.invariant c.loop-section-test.false

@@ -1,10 +1,6 @@
-use Prim.Native.Nat.{◌-◌}
 use Rattle.tables.specs.File.{table_of}
 use Rattle.writing.proofs.Bytes.{Sections}
 use Rattle.writing.proofs.write_sections.Given as goal
 
 abbrev pub invariant-loop-section : goal.invariant-loop-section
 invariant-loop-section l = Sections (table_of l.file) l.count l.text l.places l.first l.initial.output l.at l.section l.pair l.output l.end
-
-abbrev pub decreases-loop-section : goal.decreases-loop-section
-decreases-loop-section l = l.count - l.section

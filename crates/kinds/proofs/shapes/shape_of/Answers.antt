@@ -1,13 +1,8 @@
--- `kinds::shapes::shape_of` meets its contract: one computed test over all kinds, and past them zeros. Assumes nothing.
-use Rattle.kinds.specs.Kind.{numbered, words}
-use Rattle.kinds.specs.Value.{width, longest}
-use Rattle.kinds.specs.Shapes.{form_number, decimals_of, words_in}
-use Rattle.kinds.proofs.ByKind.{shape_at, no-shape}
+-- Past the kinds there are zeros. Assumes nothing.
+use Rattle.std.proofs.Common.{◌∙◌}
+use Rattle.kinds.proofs.Laws.{past}
+use Rattle.kinds.proofs.ByKind.{no-shape}
 use Rattle.kinds.proofs.shapes.shape_of.Goals as goal
 
-pub returns-then-kind-lt-KIND_COUNT : goal.returns-then-kind-lt-KIND_COUNT
-unfolding numbered words width longest form_number decimals_of words_in
-returns-then-kind-lt-KIND_COUNT c = shape_at c.args.kind c.if-kind-lt-KIND_COUNT.true
-
-pub returns : goal.returns
-returns c = no-shape c.args.kind c.if-kind-lt-KIND_COUNT.false
+pub returns-in_default : goal.returns-in_default
+returns-in_default c = c.plain-in_default.ensures ∙ no-shape c.args.kind (past 34 _ c.in_default.in_default-own.rest)

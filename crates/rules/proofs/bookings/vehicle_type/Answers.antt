@@ -1,9 +1,12 @@
 -- `rules::bookings::vehicle_type` meets its contract: the table is what the definition says of each category. Assumes nothing.
-use Rattle.rules.proofs.Categories.{type-in, type-past}
+use borrow.Author.Rules.{rules}
+use mathlib.Core.Path.{◌≡◌, ◌∙◌}
+use lib.ListN.{get_or}
+use Rattle.rules.specs.declared.VehicleType.TheVariants.{NoType}
+use Rattle.rules.proofs.Categories.{types, type-at}
 use Rattle.rules.proofs.bookings.vehicle_type.Goals as goal
 
-pub returns-then-category-lt17 : goal.returns-then-category-lt17
-returns-then-category-lt17 c = type-in _ c.if-category-lt17.true
-
 pub returns : goal.returns
-returns c = type-past _ c.if-category-lt17.false
+returns c =
+    let e : c.map_or.result ≡ get_or types c.args.category NoType = search rules in
+    e ∙ type-at c.args.category

@@ -1,22 +1,34 @@
 -- `rules::differences::axle_fits` meets its contract: the three values read as numbers and fit, or one is none. Assumes nothing.
-use mathlib.Core.Path.{sym, ◌∙◌}
-use Rattle.rules.specs.Differences.{difference_fits}
+use Prim.Native.Nat.{ℕ, ◌+◌, ◌-◌}
+use native.Mathlib.Omega.{arith}
+use borrow.Author.Tests.{ltb-true, ltb-false}
+use lib.Dec.{ltb}
+use mathlib.Core.Path.{◌≡◌, sym, ◌∙◌}
+use Rattle.kinds.proofs.Laws.{by-test}
+use Rattle.rules.specs.Differences.{difference, difference_fits}
 use Rattle.rules.proofs.Tests.{number_of, no_number}
 use Rattle.rules.proofs.differences.axle_fits.Goals as goal
 
-pub returns-in-Of-read_number : goal.returns-in-Of-read_number
-unfolding difference_fits
-returns-in-Of-read_number c =
-    let l = number_of _ _ (sym c.read_number.ensures ∙ c.in-Of.is) in
-    let r = number_of _ _ (sym c.read_number-in-Of.ensures ∙ c.in-Of-read_number.is) in
-    rw (l.0, r.0, l.1, r.1, ← c.difference_of.ensures) c.number_is.ensures
+-- the larger less the smaller, as std has it
+apart : (m n : ℕ) → (m - n) + (n - m) ≡ difference m n
+apart m n =
+    by-test (ltb m n)
+    (λ h. let l = ltb-true m n h in rw h (omega arith))
+    (λ h. let l = ltb-false m n h in rw h (omega arith))
 
-pub returns-in-Wrong-read_number : goal.returns-in-Wrong-read_number
+pub returns-in-Some-Some : goal.returns-in-Some-Some
 unfolding difference_fits
-returns-in-Wrong-read_number c =
-    let l = number_of _ _ (sym c.read_number.ensures ∙ c.in-Of.is) in
-    rw (l.0, no_number _ (sym c.read_number-in-Of.ensures ∙ c.in-Wrong-read_number.is))
+returns-in-Some-Some c =
+    let l = number_of _ _ (sym c.read_number.ensures ∙ c.in-Some-Some.is-0) in
+    let r = number_of _ _ (sym c.read_number-2.ensures ∙ c.in-Some-Some.is-1) in
+    rw (l.0, r.0, l.1, r.1, ← apart _ _, ← c.abs_diff.ensures) c.number_is.ensures
 
-pub returns-in-Wrong : goal.returns-in-Wrong
+pub returns-in_default : goal.returns-in_default
 unfolding difference_fits
-returns-in-Wrong c = rw (no_number _ (sym c.read_number.ensures ∙ c.in-Wrong.is))
+returns-in_default c =
+    let l = number_of _ _ (sym c.read_number.ensures ∙ c.in_default.is-0) in
+    rw (l.0, no_number _ (sym c.read_number-2.ensures ∙ c.in_default.is-1))
+
+pub returns-in_default-2 : goal.returns-in_default-2
+unfolding difference_fits
+returns-in_default-2 c = rw (no_number _ (sym c.read_number.ensures ∙ c.in_default.is-0))

@@ -1,5 +1,4 @@
 -- `rules::differences::check_differences` meets its contract: the first broken rule from axle i on is the first of all. Assumes nothing.
-use borrow.Author.Rules.{rules}
 use mathlib.Core.Path.{refl, sym, ◌∙◌}
 use Prim.Native.Nat.{◌+◌, ◌*◌}
 use native.Mathlib.Omega.{arith}
@@ -10,7 +9,7 @@ use Rattle.rules.proofs.Rules.{difference-step, difference-end}
 use Rattle.rules.proofs.differences.check_differences.Goals as goal
 
 pub loop-i-init : goal.loop-i-init
-loop-i-init c = (search rules, rw (sub-zero) refl)
+loop-i-init c = rw (sub-zero) refl
 
 pub value_of-left-requires : goal.value_of-left-requires
 value_of-left-requires c =
@@ -35,7 +34,7 @@ returns-then-not-axle_fits c =
     let x = c.args in
     let i = c.loop-i.i in
     let q = rw (c.value_of-left.ensures, c.value_of-right.ensures, c.value_of.ensures) at c.axle_fits.ensures in
-    let e = c.loop-i.invariant.1 ∙ difference-step x.text.now x.places.now x.axles i c.loop-i-test.true in
+    let e = c.loop-i.invariant ∙ difference-step x.text.now x.places.now x.axles i c.loop-i-test.true in
     sym (e ∙ rw (failed q c.if-not-axle_fits.true-raw) refl)
 
 pub loop-i-preserved : goal.loop-i-preserved
@@ -43,10 +42,10 @@ loop-i-preserved c =
     let x = c.args in
     let i = c.loop-i.i in
     let q = rw (c.value_of-left.ensures, c.value_of-right.ensures, c.value_of.ensures) at c.axle_fits.ensures in
-    let e = c.loop-i.invariant.1 ∙ difference-step x.text.now x.places.now x.axles i c.loop-i-test.true in
-    (search rules, e ∙ rw (passed q c.if-not-axle_fits.false-raw) refl)
+    let e = c.loop-i.invariant ∙ difference-step x.text.now x.places.now x.axles i c.loop-i-test.true in
+    e ∙ rw (passed q c.if-not-axle_fits.false-raw) refl
 
 pub returns : goal.returns
 returns c =
     let x = c.args in
-    sym (c.loop-i.invariant.1 ∙ difference-end x.text.now x.places.now x.axles c.loop-i.i c.loop-i-test.false)
+    sym (c.loop-i.invariant ∙ difference-end x.text.now x.places.now x.axles c.loop-i.i c.loop-i-test.false)

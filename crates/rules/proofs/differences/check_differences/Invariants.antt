@@ -1,5 +1,5 @@
 use mathlib.Core.Path.{◌≡◌}
-use Prim.Native.Nat.{◌-◌, ◌≤◌}
+use Prim.Native.Nat.{◌-◌}
 use Rattle.tables.specs.File.{suspension}
 use Rattle.tables.specs.Value.{values_of}
 use Rattle.rules.specs.Rule.{first_broken}
@@ -7,7 +7,4 @@ use Rattle.rules.specs.Differences.{differences_from}
 use Rattle.rules.proofs.differences.check_differences.Given as goal
 
 abbrev pub invariant-loop-i : goal.invariant-loop-i
-invariant-loop-i l = (l.i ≤ l.axles) × (first_broken suspension (differences_from (values_of suspension l.axles l.text l.places) 0 l.axles) ≡ first_broken suspension (differences_from (values_of suspension l.axles l.text l.places) l.i (l.axles - l.i)))
-
-abbrev pub decreases-loop-i : goal.decreases-loop-i
-decreases-loop-i l = l.axles - l.i
+invariant-loop-i l = first_broken suspension (differences_from (values_of suspension l.axles l.text l.places) 0 l.axles) ≡ first_broken suspension (differences_from (values_of suspension l.axles l.text l.places) l.i (l.axles - l.i))

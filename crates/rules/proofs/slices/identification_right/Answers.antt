@@ -1,22 +1,29 @@
 -- `rules::slices::identification_right` meets its contract: without gas the answer is not due, with gas by its link. Assumes nothing.
-use native.Mathlib.Omega.{arith}
 use borrow.Author.Tests.{lt-ltb, le-ltb}
-use Rattle.rules.specs.Slices.{identification_right}
-use lib.Dec.{lit<}
+use lib.Dec.{lit<, ltb}
 use lib.ListN.{length}
+use mathlib.Core.Path.{◌≡◌, ◌∙◌}
+use mathlib.Core.Bool.{◌&&◌}
+use Rattle.due.specs.Conditions.{is_serial}
+use Rattle.tables.specs.File.{gas}
+use Rattle.tables.specs.Value.{values_of}
+use Rattle.rules.specs.Slices.{identification_right}
 use Rattle.tables.proofs.Values.{gas-held}
 use Rattle.rules.proofs.Rules.{serial-at}
 use Rattle.rules.proofs.slices.identification_right.Goals as goal
-
-pub returns-then-text-eq0 : goal.returns-then-text-eq0
-unfolding identification_right
-returns-then-text-eq0 c = rw (le-ltb 0 (length c.args.text.now) (omega (arith, c.if-text-eq0.true)))
+use Rattle.rules.proofs.slices.identification_right.Goals.{then-text-gt0, else-text-gt0}
 
 pub value_of-requires : goal.value_of-requires
-value_of-requires c = gas-held _ _ (c.requires (omega (arith, c.if-text-eq0.false))) 24 (lit< tt)
+value_of-requires c = gas-held _ _ (c.requires c.if-text-gt0.true) 24 (lit< tt)
 
 pub returns : goal.returns
 unfolding identification_right
 returns c =
-    let x = c.args in
-    rw (lt-ltb 0 (length x.text.now) (omega (arith, c.if-text-eq0.false)), serial-at x.text.now x.places.now, ← c.value_of.ensures, ← c.is_serial.ensures) c.is_exactly.ensures
+    let t = c.args.text.now in
+    let p = c.args.places.now in
+    let e : c.if-text-gt0.serial ≡ (ltb 0 (length t) && is_serial gas (values_of gas 0 t p)) =
+    elim c.if-text-gt0.branch [
+      | then-text-gt0 w ↦ rw (lt-ltb 0 (length t) w.if-text-gt0.true, serial-at t p, ← w.value_of.ensures) (w.serial-is ∙ w.is_serial-serial.ensures)
+      | else-text-gt0 w ↦ let f = le-ltb 0 (length t) w.if-text-gt0.false in rw f (w.serial-is ∙ f)
+    ] in
+    rw (← e) c.is_exactly.ensures
