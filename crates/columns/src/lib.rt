@@ -8,17 +8,18 @@ ghost use Rattle.due.specs.Due.{due_in};
 ghost use Rattle.columns.specs.Column.{due_number, numbers_from, due_column, Gives, GivesForBooking};
 
 use due::{Booking, Conditions, Due};
+use places::PlacedText;
 use refusals::{Refusal, RefusalKind};
 use tables::AC2;
 
 // What is said besides a column: the file's axle count, 0 for a file without axles, and how many entries it has.
-#[derive(Clone, Copy)]
+#[derive(Debug, PartialEq, Eq, Clone, Copy)]
 pub struct ColumnAcceptance {
     pub axles: u32,
     pub count: u32,
 }
 
-// What is asked of an entry, as a number.
+// What is asked of an entry, as the C interface's number. No `From`, which would have to stand in `due`, far from what C is handed.
 fn due_number(due: Due) -> u32
     ensures { result ≡ due_number due }
 {
@@ -67,7 +68,7 @@ fn column_beside(
             line: 0,
         });
     }
-    let conditions = due::conditions_of(file, booking, text, places);
+    let conditions = due::conditions_of(file, booking, PlacedText { text, places });
     write_column(file, conditions, count, column);
     Ok(ColumnAcceptance {
         axles,
@@ -90,6 +91,6 @@ pub fn due_column(
         places.old places.new column.old column.new result }
 {
     files::read_alone(AC2, ac2, places)?;
-    let booking = due::booking_of(ac2, places);
+    let booking = due::booking_of(PlacedText { text: ac2, places });
     column_beside(file, booking, text, places, column)
 }

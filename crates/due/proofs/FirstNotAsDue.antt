@@ -2,14 +2,17 @@
 use Prim.Native.Nat.{ℕ, zero, suc, ◌+◌, ◌-◌, ◌≤◌, ◌<◌}
 use native.Mathlib.Omega.{arith}
 use native.Mathlib.Nat.{add-zero}
-use mathlib.Core.Path.{◌≡◌, refl, ap, ◌∙◌}
+use mathlib.Core.Path.{◌≡◌, refl, ap, sym, ◌∙◌}
 use mathlib.Core.Bool.{Bool, true, false, cond}
 use mathlib.Core.List.{List, [], ◌∷◌, map}
 use lib.Dec.{ltb}
+use borrow.Author.Tests.{lt-ltb, le-ltb, ltb-true, ltb-false}
+use Rattle.std.specs.Prelude.{Some, None}
+use Rattle.std.proofs.lemmas.Option.{cond_some, none-some}
 use lib.ListN.{length, get_or, length-map}
 use Rattle.places.specs.Places.{Pair, length_of, pairs_at, value_at, Within}
 use Rattle.tables.specs.File.{File, file_number, of_number}
-use Rattle.due.specs.Due.{fixed_conditions, condition_at, holds_in, due_of, due_in, filled, filled_pairs, as_due, is_as_due, first_not_as_due_from, first_not_as_due}
+use Rattle.due.specs.Due.{fixed_conditions, condition_at, holds_in, due_of, due_in, filled, filled_pairs, as_due, is_as_due, first_not_as_due_from, first_not_as_due, found_below}
 use Rattle.due.specs.declared.Conditions.{Conditions}
 use Rattle.due.specs.declared.Due.{Due}
 use Rattle.due.specs.declared.Condition.{Condition}
@@ -33,6 +36,26 @@ module _ (d : ℕ → Due) (p : List ℕ) (a i n : ℕ) where
   first-end h =
       let q : n - i ≡ 0 = omega arith in
       rw q refl
+
+-- ---- the entry, where it is one of the n
+
+pub found-at : (n m i : ℕ) → m ≡ i → i < n → Some i ≡ found_below n m
+found-at n m i e h = rw (e, lt-ltb i n h) refl
+
+pub found-none : (n m : ℕ) → m ≡ n → None ≡ found_below n m
+found-none n m e = rw (e, le-ltb n n (omega arith)) refl
+
+pub some-found : (n m i : ℕ) → Some i ≡ found_below n m → (i ≡ m) × (i < n)
+some-found n m i e =
+    let q = cond_some (ltb m n) m i (sym e) in
+    (sym q.1, omega (arith, q.1, ltb-true m n q.0))
+
+pub none-found : (n m : ℕ) → None ≡ found_below n m → n ≤ m
+none-found n m e = on (ltb m n) refl e
+  where
+    on : (b : Bool) → ltb m n ≡ b → None ≡ cond b (Some m) None → n ≤ m
+    on true h e = absurd (none-some m e)
+    on false h e = ltb-false m n h
 
 -- whether an entry is as due, by its condition among those of the file
 pub as-due-at : (n i : ℕ) (c : Conditions) (full : Bool) (ks : List Condition) (k : Condition) → ks ≡ of_number [] fixed_conditions n → k ≡ get_or ks i Always

@@ -1,5 +1,5 @@
 -- Which entries are due (01, Due entries; 02, 2/14), and number 10 (01, Judging).
-use Rattle.std.specs.Prelude.{ℕ, ◌+◌, Bool, true, false, cond, not, ◌&&◌, ◌||◌, List, [], ◌∷◌, ◌++◌, map, ltb, length, get_or}
+use Rattle.std.specs.Prelude.{ℕ, ◌+◌, Bool, true, false, cond, not, ◌&&◌, ◌||◌, List, [], ◌∷◌, ◌++◌, map, ltb, length, get_or, Option, Some, None}
 use Prim.Native.String.{String}
 use Rattle.lines.specs.Bytes.{same_bytes}
 use Rattle.lines.specs.Text.{bytes}
@@ -179,3 +179,7 @@ first_not_as_due_from d i (x ∷ xs) = cond (as_due (d i) x) (first_not_as_due_f
 -- the first entry of a file, in entry order
 unfoldable pub first_not_as_due : File → Conditions → List (List ℕ) → ℕ
 first_not_as_due f c vs = first_not_as_due_from (λ i. due_of f i c) 0 (map filled vs)
+
+-- for the contract of the code: that entry, where it is one of n
+abbrev pub found_below : ℕ → ℕ → Option ℕ
+found_below n i = cond (ltb i n) (Some i) None

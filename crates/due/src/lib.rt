@@ -9,9 +9,10 @@ ghost use Rattle.tables.specs.Value.{Held, NumberHeld, PairHeld};
 ghost use Rattle.due.specs.Booking.{fuel_in, is_late, is_nessuna, is_petrol, is_diesel, is_o, is_l, booking_in};
 ghost use Rattle.due.specs.Conditions.{is200, is210, version_in, is_serial_link, is_external_link, links_at, links_numbered, with_links};
 ghost use Rattle.due.specs.declared.Condition.{Condition};
-ghost use Rattle.due.specs.Due.{fixed_conditions, condition_in, is_moped, is_motorcycle, is_m_or_n, condition_p, when, holds_in, due_in, filled_pairs, as_due, first_not_as_due_from};
+ghost use Rattle.due.specs.Due.{fixed_conditions, condition_in, is_moped, is_motorcycle, is_m_or_n, condition_p, when, holds_in, due_in, filled_pairs, as_due, first_not_as_due_from, found_below};
 
 use kinds::numbers::{CATEGORIES, PETROL_DIRECTIVES};
+use places::PlacedText;
 use tables::{AC2, ACC, DRIFT, GAS, OPACITY, SUSPENSION, pairs};
 
 #[derive(Debug, PartialEq, Eq, Clone, Copy)]
@@ -341,6 +342,7 @@ pub fn is_m_or_n(category: usize) -> bool
     category < 6
 }
 
+// BENZINA. This and the next have the rules' names for one comparison each, which a parameter would hide.
 pub fn is_petrol(fuel: Fuel) -> bool
     ensures { result ≡ is_petrol fuel }
 {
@@ -432,7 +434,7 @@ fn is_filled(places: &[u32], k: usize) -> bool
     0 < places::length_of(places, k)
 }
 
-// Number 10: the first of a file's `count` entries that is filled and not due, or due and empty; `count` where none is.
+// Number 10: the first of a file's `count` entries that is filled and not due, or due and empty.
 // The file's pairs stand from pair `first` on. Lengths alone decide: no value is looked at.
 pub fn first_not_as_due(
     file: u32,
@@ -440,18 +442,18 @@ pub fn first_not_as_due(
     count: usize,
     c: Conditions,
     places: &[u32],
-) -> usize
+) -> Option<usize>
     requires { place_size * (first + count) ≤ length places.now }
-    ensures { result ≡ first_not_as_due_from (λ i. due_in file i c) 0 (filled_pairs (pairs_at places.now first count)) }
+    ensures { result ≡ found_below count (first_not_as_due_from (λ i. due_in file i c) 0 (filled_pairs (pairs_at places.now first count))) }
 {
     let conditions = fixed_conditions(file);
     for i in 0..count {
         let filled = is_filled(places, first + i);
         if !is_as_due(condition_among(conditions, i), c, filled) {
-            return i;
+            return Some(i);
         }
     }
-    count
+    None
 }
 
 #[tactic(auto, unfolding(crate::specs::Booking::fuel_in))]
@@ -496,20 +498,17 @@ pub fn is_nessuna(directive: &[u8]) -> bool
 }
 
 // What AC2 says. Its pairs lie within its text, as reading it has made sure.
-pub fn booking_of(text: &[u8], places: &[u32]) -> Booking
-    requires { Held ac2 0 text.now places.now }
-    ensures { result ≡ booking_in (new_values text.now places.now) }
+pub fn booking_of(own: PlacedText<'_>) -> Booking
+    requires { Held ac2 0 own.text.now own.places.now }
+    ensures { result ≡ booking_in (new_values own.entry.text.now own.entry.places.now) }
 {
-    let category = kinds::word_index(
-        CATEGORIES,
-        places::value_of(text, places, pairs::AC2_CATEGORIA_INTERNAZIONALE),
-    );
+    let category = kinds::word_index(CATEGORIES, own.value(pairs::AC2_CATEGORIA_INTERNAZIONALE));
     Booking {
         category,
-        six: places::length_of(places, pairs::AC2_TARGA_NOMINALE) == 6,
-        fuel: fuel_of(places::value_of(text, places, pairs::AC2_ALIMENTAZIONE_1)),
-        late: is_late(places::value_of(text, places, pairs::AC2_DIRETTIVA_BENZINA_AUTO)),
-        nessuna: is_nessuna(places::value_of(text, places, pairs::AC2_DIRETTIVA_MOTOCICLO)),
+        six: own.length(pairs::AC2_TARGA_NOMINALE) == 6,
+        fuel: fuel_of(own.value(pairs::AC2_ALIMENTAZIONE_1)),
+        late: is_late(own.value(pairs::AC2_DIRETTIVA_BENZINA_AUTO)),
+        nessuna: is_nessuna(own.value(pairs::AC2_DIRETTIVA_MOTOCICLO)),
     }
 }
 
@@ -529,46 +528,44 @@ pub fn is_external(link: &[u8]) -> bool
 }
 
 // The links at these pairs, with this version of the bench.
-fn links_at(k: LinkPairs, speedtest: Version, text: &[u8], places: &[u32]) -> Links
-    requires { PairHeld text.now places.now k.link × PairHeld text.now places.now k.version × PairHeld text.now places.now k.counterlink × PairHeld text.now places.now k.counterversion }
-    ensures { result ≡ links_at k speedtest text.now places.now }
+fn links_at(k: LinkPairs, speedtest: Version, own: PlacedText<'_>) -> Links
+    requires { PairHeld own.text.now own.places.now k.link × PairHeld own.text.now own.places.now k.version × PairHeld own.text.now own.places.now k.counterlink × PairHeld own.text.now own.places.now k.counterversion }
+    ensures { result ≡ links_at k speedtest own.entry.text.now own.entry.places.now }
 {
     Links {
-        serial: is_serial(places::value_of(text, places, k.link)),
-        external: is_external(places::value_of(text, places, k.counterlink)),
-        device: version_of(places::value_of(text, places, k.version)),
-        counter: version_of(places::value_of(text, places, k.counterversion)),
+        serial: is_serial(own.value(k.link)),
+        external: is_external(own.value(k.counterlink)),
+        device: version_of(own.value(k.version)),
+        counter: version_of(own.value(k.counterversion)),
         speedtest,
     }
 }
 
 // What the file of this number says of its links: its pairs lie within its text, as reading it has made sure. A file
 // without links is not looked at.
-fn links_of(file: u32, text: &[u8], places: &[u32]) -> Links
-    requires { NumberHeld file 0 text.now places.now }
-    ensures { result ≡ links_numbered file text.now places.now }
+fn links_of(file: u32, own: PlacedText<'_>) -> Links
+    requires { NumberHeld file 0 own.text.now own.places.now }
+    ensures { result ≡ links_numbered file own.entry.text.now own.entry.places.now }
 {
     match file {
         GAS => {
-            let speedtest = version_of(places::value_of(
-                text,
-                places,
+            let speedtest = version_of(own.value(
                 pairs::GAS_NUM_VERSIONE_PROTOCOLLO_PROVA_VELOCITA,
             ));
-            links_at(GAS_LINKS, speedtest, text, places)
+            links_at(GAS_LINKS, speedtest, own)
         }
-        OPACITY => links_at(OPACITY_LINKS, Version::OtherVersion, text, places),
+        OPACITY => links_at(OPACITY_LINKS, Version::OtherVersion, own),
         _ => NO_LINKS,
     }
 }
 
 // The conditions of the file of this number, from what AC2 says and the file's own text.
-pub fn conditions_of(file: u32, booking: Booking, own: &[u8], places: &[u32]) -> Conditions
-    requires { NumberHeld file 0 own.now places.now }
-    ensures { result ≡ with_links booking (links_numbered file own.now places.now) }
+pub fn conditions_of(file: u32, booking: Booking, own: PlacedText<'_>) -> Conditions
+    requires { NumberHeld file 0 own.text.now own.places.now }
+    ensures { result ≡ with_links booking (links_numbered file own.entry.text.now own.entry.places.now) }
 {
     Conditions {
         booking,
-        links: links_of(file, own, places),
+        links: links_of(file, own),
     }
 }

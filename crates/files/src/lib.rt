@@ -18,6 +18,7 @@ ghost use Rattle.files.specs.Alone.{refused_as, ReadsCleared, ReadsAlone};
 
 use kinds::numbers::KIND_COUNT;
 use lines::{Cursor, LineRead};
+use places::PlacedText;
 use refusals::{Refusal, RefusalKind};
 use tables::row_kinds::HEADING;
 use tables::{MOST_ROWS, groups, pairs, row_kinds};
@@ -33,7 +34,7 @@ pub struct FileAcceptance {
 }
 
 // Why a text is refused: the kind, and the line.
-#[derive(Clone, Copy)]
+#[derive(Debug, PartialEq, Eq, Clone, Copy)]
 pub struct Fault {
     pub kind: RefusalKind,
     pub line: u32,
@@ -52,7 +53,9 @@ impl Fault {
     }
 }
 
-// What a scan leaves of a row: the number of its line, 0 where it was not found; start and length of its value.
+// What a scan leaves of a row: the number of its line; start and length of its value. Where it was not found 0, which is no line's
+// number: an `Option` would be a fourth number in each of the 64 slots that are cleared for a file. Its kind stands apart, in
+// bytes copied from the table at once: in the slot it would be copied row by row.
 #[derive(Clone, Copy)]
 struct Slot {
     line: u32,
@@ -262,6 +265,7 @@ fn write_rows(
     requires { RowsReady kinds.now first slots.now rows places.old lines.old }
     ensures { WritesRows (take rows (map row_kind kinds.now)) first (slots_of slots.now) places.old places.new lines.new }
 {
+    // Entries alone have pairs, so `e` does not go up with each row.
     let mut e = 0;
     for r in 0..rows {
         if kinds[r] < KIND_COUNT {
@@ -319,7 +323,8 @@ fn read_into(
 }
 
 // 3 to 9 of one file: its pairs into the places, the lines of its entries, in entry order, into `lines`. Refused, the
-// places stay. Left open is what `lines` holds after a refusal, and past the lines of the entries.
+// places stay. Left open is what `lines` holds after a refusal, and past the lines of the entries. Both are lent, and stay two
+// parameters for the reason that `places` gives.
 pub fn read_text(
     file: u32,
     text: &[u8],
@@ -351,14 +356,14 @@ fn refused(kind: RefusalKind, file: u32, line: u32) -> Result<FileAcceptance, Re
 }
 
 // Whether the idle speed of a file whose pairs are in the places was entered by hand (02, 1/14). Only gas has one.
-pub fn is_by_hand(file: u32, axles: usize, text: &[u8], places: &[u32]) -> bool
-    requires { NumberHeld file axles text.now places.now }
-    ensures { result ≡ by_hand_in file (λ f. values_of f axles text.now places.now) }
+pub fn is_by_hand(file: u32, axles: usize, own: PlacedText<'_>) -> bool
+    requires { NumberHeld file axles own.text.now own.places.now }
+    ensures { result ≡ by_hand_in file (λ f. values_of f axles own.entry.text.now own.entry.places.now) }
 {
     if file != tables::GAS {
         return false;
     }
-    kinds::is_by_hand(places::value_of(text, places, pairs::GAS_NUM_GIRI_MOTORE_MIN))
+    kinds::is_by_hand(own.value(pairs::GAS_NUM_GIRI_MOTORE_MIN))
 }
 
 // One file alone, whose places are cleared: 11, then 3 to 9.
@@ -372,7 +377,7 @@ fn read_cleared(file: u32, text: &[u8], places: &mut [u32]) -> Result<FileAccept
     let mut lines = [0u32; MOST_ROWS];
     let count = read_text(file, text, places, &mut lines)?;
     let axles = count - tables::fixed_section_count(file);
-    let byhand = is_by_hand(file, axles, text, places);
+    let byhand = is_by_hand(file, axles, PlacedText { text, places });
     Ok(FileAcceptance {
         axles: axles as u32,
         byhand,

@@ -23,7 +23,7 @@ use Rattle.refusals.specs.declared.Refusal.{Refusal}
 use Rattle.sets.specs.declared.Figures.{Figures}
 use Rattle.judge.proofs.Numbers.{by-file}
 
-module _ (file : ℕ) (stated : Stated) (b : Booking) (s t p : List ℕ) (d : FileReady file b s p) where
+module _ {file : ℕ} {b : Booking} {s p : List ℕ} (d : FileReady file b s p) (stated : Stated) (t : List ℕ) where
   abbrev f : File
   f = file_numbered file
 
@@ -31,10 +31,10 @@ module _ (file : ℕ) (stated : Stated) (b : Booking) (s t p : List ℕ) (d : Fi
   a = booking_in (new_values s p)
 
   right_is : (r v : Bool) → r ≡ of_number true (λ f. slice_right f stated b (is_given t)) file → r ≡ v → slice_right f stated a (is_given t) ≡ v
-  right_is r v e q = sym (e ∙ by-file file d.number true (λ f. slice_right f stated b (is_given t)) ∙ ap (λ (x : Booking). slice_right f stated x (is_given t)) d.booking) ∙ q
+  right_is r v e q = sym (e ∙ by-file file d.number true (λ f. slice_right f stated b (is_given t)) ∙ ap (λ (x : Booking). slice_right f stated x (is_given t)) d.says.1) ∙ q
 
   read_is : (r v : Bool) → r ≡ of_number (is_given t) (λ f. is_read f b (is_given t)) file → r ≡ v → is_read f a (is_given t) ≡ v
-  read_is r v e q = sym (e ∙ by-file file d.number (is_given t) (λ f. is_read f b (is_given t)) ∙ ap (λ (x : Booking). is_read f x (is_given t)) d.booking) ∙ q
+  read_is r v e q = sym (e ∙ by-file file d.number (is_given t) (λ f. is_read f b (is_given t)) ∙ ap (λ (x : Booking). is_read f x (is_given t)) d.says.1) ∙ q
 
   chain : (x y : Bool) → slice_right f stated a (is_given t) ≡ x → is_read f a (is_given t) ≡ y
       → file_judged file stated s t p ≡ require x 11 (file_number f) 0 (cond y (text_judged file s t p) (acceptance not_read))

@@ -12,7 +12,7 @@ use Rattle.refusals.specs.Answer.{Answer, refusal, acceptance, require, answer_i
 use Rattle.refusals.specs.declared.Refusal.{Refusal}
 use Rattle.refusals.specs.declared.RefusalKind.TheVariants.{PlacesTooShort, StemForm}
 use Rattle.places.specs.Places.{cleared}
-use Rattle.places.proofs.Laws.{cleared-length, cleared-drop}
+use Rattle.places.proofs.Laws.{cleared-drop}
 use Rattle.tables.specs.File.{files, least_places}
 use Rattle.rules.specs.Slices.{good_stem}
 use Rattle.rules.specs.declared.Stated.{Stated}
@@ -60,9 +60,6 @@ module _ (caller : Caller) (s : Slices) (p : List ℕ) where
 
       cleared-is : m ≡ cleared least_places p
       cleared-is = em ∙ ap (λ (n : ℕ). cleared n p) el
-
-      pub still-enough : least_places ≤ length m
-      still-enough = omega (arith, ap length cleared-is, cleared-length least_places p enough, enough)
 
       pub set-stem : good_stem caller.stem ≡ false → SetJudged caller s p m (Err (refusal_with StemForm 0 0))
       set-stem g =

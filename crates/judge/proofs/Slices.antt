@@ -18,6 +18,7 @@ use Rattle.due.specs.Booking.{booking_in}
 use Rattle.due.specs.declared.Booking.{Booking}
 use Rattle.tables.specs.Value.{pairs_of, values_of, Held}
 use Rattle.due.specs.Values.{new_values}
+use Rattle.rules.specs.Rules.{Says}
 use Rattle.rules.specs.Slices.{slice_right, is_read, identification_right}
 use Rattle.rules.specs.declared.Stated.{Stated}
 use Rattle.tables.proofs.Values.{gas-count}
@@ -28,7 +29,7 @@ use Rattle.std.specs.Prelude.{Result, Ok, Err}
 use Rattle.sets.specs.declared.Acceptance.{Acceptance}
 use Rattle.sets.proofs.File.{FilePassed, Passed, file-sound, booking-file}
 use Rattle.sets.proofs.Set.{each-sound}
-use Rattle.judge.specs.Steps.{IsNumber, figures_of, IsBooking, FileReady, JudgesFile, JudgesBooking, identification_judged, JudgesIdentification, IdentificationReady, later_files, JudgesSlices, JudgesLater}
+use Rattle.judge.specs.Steps.{IsNumber, figures_of, FileReady, JudgesFile, JudgesBooking, identification_judged, JudgesIdentification, IdentificationReady, later_files, JudgesSlices, JudgesLater}
 use Rattle.sets.specs.declared.Figures.{Figures}
 use Rattle.judge.specs.declared.Booked.{Booked}
 use Rattle.judge.proofs.Text.{booking-kept, new-pairs}
@@ -105,8 +106,8 @@ module _ (stated : Stated) (S : Slices) (p : List ℕ) where
         (h.rest ∙ ap (λ (y : Answer FileRead). followed y (λ g. each_accepted stated S a cs x)) s, j.1 ∙ h.beyond)
 
   -- what the next file asks
-  file_ready : (file : ℕ) (b : Booking) → IsNumber file → 2 ≤ file → IsBooking b text p → {cs : List Slice} {w q : List ℕ} → Going cs w q → FileReady file b text q
-  file_ready file b n l e h = record { number = n; later = l; held = h.held; booking = e ∙ ap booking_in (sym h.book) }
+  file_ready : (file : ℕ) (b : Booking) → IsNumber file → 2 ≤ file → b ≡ booking_in a → {cs : List Slice} {w q : List ℕ} → Going cs w q → FileReady file b text q
+  file_ready file b n l e h = record { number = n; later = l; says = (h.held, e ∙ ap booking_in (sym h.book)) }
 
   -- ---- slice 6
 
@@ -165,27 +166,27 @@ module _ (stated : Stated) (S : Slices) (p : List ℕ) where
 
   -- ---- one slice after another: what each asks, and what a refused one leaves
 
-  module _ (b : Booking) (h : Held ac2 0 text p) (eb : IsBooking b text p) where
+  module _ {b : Booking} (says : Says text p b) where
     abbrev left : List Slice
     left = file_slice opacity ∷ []
 
     pub acc-ready : FileReady 2 b text p
     unfolding of_number
-    acc-ready = file_ready 2 b refl (omega arith) eb (at_first h)
+    acc-ready = file_ready 2 b refl (omega arith) says.1 (at_first says.0)
 
     abbrev later : List Slice
     later = file_slice drift ∷ file_slice suspension ∷ file_slice gas ∷ identification_slice ∷ left
 
     pub acc-stopped : (e : Refusal) (v : List ℕ) → JudgesNext acc (Err e) p v → JudgesSlices later_files whole (Err e) p v
-    acc-stopped = file_stopped acc (omega arith) later p p (at_first h)
+    acc-stopped = file_stopped acc (omega arith) later p p (at_first says.0)
 
     module _ (o : Figures) (p1 : List ℕ) (jo : JudgesNext acc (Ok o) p p1) where
       g1 : Going later (filled acc p) p1
-      g1 = (file_went acc (omega arith) later p p (at_first h) o p1 jo).0
+      g1 = (file_went acc (omega arith) later p p (at_first says.0) o p1 jo).0
 
       pub drift-ready : FileReady 3 b text p1
       unfolding of_number
-      drift-ready = file_ready 3 b refl (omega arith) eb g1
+      drift-ready = file_ready 3 b refl (omega arith) says.1 g1
 
       pub drift-stopped : (e : Refusal) (v : List ℕ) → JudgesNext drift (Err e) p1 v → JudgesSlices later_files whole (Err e) p v
       drift-stopped = file_stopped drift (omega arith) _ _ p1 g1
@@ -196,7 +197,7 @@ module _ (stated : Stated) (S : Slices) (p : List ℕ) where
 
         pub suspension-ready : FileReady 4 b text p2
         unfolding of_number
-        suspension-ready = file_ready 4 b refl (omega arith) eb g2.0
+        suspension-ready = file_ready 4 b refl (omega arith) says.1 g2.0
 
         pub suspension-stopped : (e : Refusal) (v : List ℕ) → JudgesNext suspension (Err e) p2 v → JudgesSlices later_files whole (Err e) p v
         suspension-stopped = file_stopped suspension (omega arith) _ _ p2 g2.0
@@ -207,7 +208,7 @@ module _ (stated : Stated) (S : Slices) (p : List ℕ) where
 
           pub gas-ready : FileReady 5 b text p3
           unfolding of_number
-          gas-ready = file_ready 5 b refl (omega arith) eb g3.0
+          gas-ready = file_ready 5 b refl (omega arith) says.1 g3.0
 
           pub gas-stopped : (e : Refusal) (v : List ℕ) → JudgesNext gas (Err e) p3 v → JudgesSlices later_files whole (Err e) p v
           gas-stopped = file_stopped gas (omega arith) _ _ p3 g3.0
@@ -231,7 +232,7 @@ module _ (stated : Stated) (S : Slices) (p : List ℕ) where
 
               pub opacity-ready : FileReady 7 b text p4
               unfolding of_number
-              opacity-ready = file_ready 7 b refl (omega arith) eb g5
+              opacity-ready = file_ready 7 b refl (omega arith) says.1 g5
 
               pub opacity-stopped : (e : Refusal) (v : List ℕ) → JudgesNext opacity (Err e) p4 v → JudgesSlices later_files whole (Err e) p v
               opacity-stopped = file_stopped opacity (omega arith) _ _ p4 g5
@@ -270,7 +271,7 @@ module _ (stated : Stated) (S : Slices) (p q : List ℕ) (l : least_places ≤ l
     values : new_values (S.file ac2) q ≡ b.values
     values = ap (map (value_at (S.file ac2))) own ∙ sym w.values
 
-    pub booked-ready : Held ac2 0 (S.file ac2) q × IsBooking y.booking (S.file ac2) q
+    pub booked-ready : Says (S.file ac2) q y.booking
     booked-ready = (
       (omega (arith, ap length h.4, set-length (first_pair ac2) b.pairs p, l), subst (Within (S.file ac2)) (sym own) w.within),
       h.3 ∙ ap booking_in (sym values),

@@ -25,8 +25,9 @@ use Rattle.due.specs.declared.Booking.{Booking}
 use Rattle.tables.specs.Value.{pairs_of, Held}
 use Rattle.due.specs.Values.{new_values}
 use Rattle.tables.proofs.Values.{new-count}
+use Rattle.rules.specs.Rules.{Says}
 use Rattle.sets.specs.Judge.{file_read, file_checks, first_failed, checked_file, judge_reading, judge_text}
-use Rattle.judge.specs.Steps.{file_numbered, IsNumber, figures_of, IsBooking, FileReady, ValuesReady, values_step, JudgesValues, JudgesFile, text_judged, JudgesBooking}
+use Rattle.judge.specs.Steps.{file_numbered, IsNumber, figures_of, FileReady, ValuesReady, values_step, JudgesValues, JudgesFile, text_judged, JudgesBooking}
 use Rattle.sets.specs.declared.Figures.{Figures}
 use Rattle.std.specs.Prelude.{Result, Ok, Err}
 use Rattle.judge.proofs.Numbers.{by-file, new-number}
@@ -86,8 +87,8 @@ module _ (file : ℕ) (number : IsNumber file) (t p q ls : List ℕ) (r : Result
     held = text-held f file (sym number) t p q ls c v enough
 
     -- s for AC2's text
-    pub text-ready : (b : Booking) (s : List ℕ) → Held ac2 0 s q → IsBooking b s q → most_rows ≤ length ls → ValuesReady file c b s t q ls
-    text-ready b s h eb l =
+    pub text-ready : (b : Booking) (s : List ℕ) → Says s q b → most_rows ≤ length ls → ValuesReady file c b s t q ls
+    text-ready b s h l =
         let i = (sound (all_sections f) (least_sections f) t (tables-distinct f) c ps _ (T.by-inv (all_sections f) (least_sections f) t c ps _ was_read).1).is in
         record {
           number = number;
@@ -95,10 +96,9 @@ module _ (file : ℕ) (number : IsNumber file) (t p q ls : List ℕ) (r : Result
           most = i.most;
           sections-are = x.counted.sections-are;
           few = few-axles (has_axles f) (axles_of f c) x.counted.count;
-          held = h;
+          says = h;
           own = held;
           lines = l;
-          booking = eb;
         }
 
     step : (booking : List (List ℕ) → List (List ℕ)) (s : List ℕ) → booking (map (value_at t) ps) ≡ new_values s q → judge_text f booking t ≡ values_step f c s t q ls
@@ -125,7 +125,7 @@ module _ (file : ℕ) (number : IsNumber file) (t p q ls : List ℕ) (r : Result
       same = ap (pairs_of ac2 0) set ∙ booking-kept f (omega (arith, number, d.later)) ps p
 
       pub later-ready : most_rows ≤ length ls → ValuesReady file c b s t q ls
-      later-ready l = text-ready b s (held.0, subst (Within s) (sym same) d.held.1) (d.booking ∙ ap (λ (y : List Pair). booking_in (map (value_at s) y)) (sym same)) l
+      later-ready l = text-ready b s ((held.0, subst (Within s) (sym same) d.says.0.1), d.says.1 ∙ ap (λ (y : List Pair). booking_in (map (value_at s) y)) (sym same)) l
 
       pub later-judged : (y : Result Figures Refusal) → JudgesValues f c s t q ls y → JudgesFile f (text_judged file s t p) y p q
       later-judged (Err y) j = stopped (λ own. new_values s p) s (ap (map (value_at s)) (sym same)) y j
@@ -152,8 +152,8 @@ module _ (t p q ls : List ℕ) (r : Result ℕ Refusal) (w : ReadsText 1 t r p q
     pub booking-held : Held ac2 0 t q
     booking-held = ((held 1 number t p q ls r w enough c e).0, subst (Within t) (sym now-own) (x 1 number t p q ls r w enough c e).within)
 
-    pub values-ready : (b : Booking) → IsBooking b t q → most_rows ≤ length ls → ValuesReady 1 c b t t q ls
-    values-ready b eb l = text-ready 1 number t p q ls r w enough c e b t booking-held eb l
+    pub values-ready : (b : Booking) → b ≡ booking_in (new_values t q) → most_rows ≤ length ls → ValuesReady 1 c b t t q ls
+    values-ready b eb l = text-ready 1 number t p q ls r w enough c e b t (booking-held, eb) l
 
     booking-values : map (value_at t) pairs ≡ new_values t q
     booking-values = ap (map (value_at t)) (sym now-own)
@@ -162,7 +162,7 @@ module _ (t p q ls : List ℕ) (r : Result ℕ Refusal) (w : ReadsText 1 t r p q
     booking-stopped y j =
         subst (λ (f : File). JudgesFile f (judge_text f (λ own. own) t) (Err y) p q) new-number (stopped 1 number t p q ls r w enough c e (λ own. own) t booking-values y j)
 
-    pub booking-went : (b : Booking) → IsBooking b t q → (y : Figures) → JudgesValues (file_numbered 1) c t t q ls (Ok y)
+    pub booking-went : (b : Booking) → b ≡ booking_in (new_values t q) → (y : Figures) → JudgesValues (file_numbered 1) c t t q ls (Ok y)
         → JudgesBooking (judge_text ac2 (λ own. own) t) (Ok (record { booking = b; figures = y })) p q
     booking-went b eb y j =
         let h : (judge_text ac2 (λ own. own) t ≡ acceptance (file_read ac2 t c pairs)) × (y ≡ figures_of ac2 (file_read ac2 t c pairs))

@@ -1,5 +1,5 @@
 -- The values of a file that was read: what each call of `judge_values` asks, and a law for each way out. Assumes nothing.
-use Prim.Native.Nat.{ℕ, ◌+◌, ◌-◌, ◌*◌, ◌≤◌, ◌<◌}
+use Prim.Native.Nat.{ℕ, ◌+◌, ◌-◌, ◌*◌, ◌≤◌}
 use native.Mathlib.Omega.{arith}
 use mathlib.Core.Path.{◌≡◌, refl, ap, ap₂, sym, ◌∙◌}
 use mathlib.Core.Bool.{true, false}
@@ -14,30 +14,29 @@ use Rattle.places.specs.Places.{Pair, place_size, pairs_at}
 use Rattle.places.proofs.Laws.{values_length}
 use Rattle.tables.specs.Section.{Section, entries_of}
 use Rattle.tables.specs.Row.{entries_before}
-use Rattle.tables.specs.File.{File, most_axles, ac2, file_number, fixed_sections, entries, room, first_pair, of_number, table_of}
+use Rattle.tables.specs.File.{File, most_axles, file_number, fixed_sections, entries, room, first_pair, of_number, table_of}
 use Rattle.tables.proofs.Axles.{entries-most}
 use Rattle.files.specs.Files.{axles_of}
 use Rattle.files.proofs.Texts.{rooms-fit}
-use Rattle.due.specs.Booking.{booking_in}
 use Rattle.due.specs.Conditions.{links_numbered, with_links, conditions_of}
-use Rattle.due.specs.Due.{due_in, filled_pairs, first_not_as_due_from, first_not_as_due}
+use Rattle.due.specs.Due.{due_in, filled_pairs, first_not_as_due_from, first_not_as_due, found_below}
 use Rattle.due.specs.declared.Booking.{Booking}
 use Rattle.due.specs.declared.Conditions.{Conditions}
 use Rattle.due.proofs.Entries.{conditions-file}
-use Rattle.due.proofs.FirstNotAsDue.{first-at-values}
+use Rattle.due.proofs.FirstNotAsDue.{some-found, none-found, first-at-values}
 use Rattle.rules.specs.Rule.{RuleCheck, first_broken}
-use Rattle.rules.specs.Rules.{rules_of, first_broken_at}
-use Rattle.tables.specs.Value.{pairs_of, values_of, Held, NumberHeld}
+use Rattle.rules.specs.Rules.{Says, rules_of, first_broken_at}
+use Rattle.tables.specs.Value.{pairs_of, values_of, NumberHeld}
 use Rattle.due.specs.Values.{new_values}
 use Rattle.rules.specs.declared.BrokenRule.{BrokenRule}
 use Rattle.tables.proofs.Values.{held_number, fixed_held}
 use Rattle.sets.specs.Judge.{check_rule, checked_file, first_failed, figures_from}
 use Rattle.judge.specs.Steps.{file_numbered, IsNumber, ValuesReady, read_at, values_step, JudgesValues}
 use Rattle.sets.specs.declared.Figures as K
-use Rattle.std.specs.Prelude.{Ok, Err}
+use Rattle.std.specs.Prelude.{Option, Some, None, Ok, Err}
 use Rattle.judge.proofs.Numbers.{by-file, table, few-entries}
 
-module _ (file c : ℕ) (b : Booking) (s t p ls : List ℕ) (w : ValuesReady file c b s t p ls) where
+module _ {file c : ℕ} {b : Booking} {s t p ls : List ℕ} (w : ValuesReady file c b s t p ls) where
   abbrev f : File
   f = file_numbered file
 
@@ -61,48 +60,21 @@ module _ (file c : ℕ) (b : Booking) (s t p ls : List ℕ) (w : ValuesReady fil
   pub sections-in : c ≤ length (table_of file)
   sections-in = rw (table file w.number) w.most
 
-  pub count-is : (r : ℕ) → r ≡ entries_before (table_of file) c → r ≡ size
-  unfolding entries
-  count-is r e =
-      e ∙ ap (λ (x : List Section). entries_before x c) (table file w.number)
-      ∙ ap (λ (x : List Section). length (entries_of x)) w.sections-are
+  pub fixed-few : {k : ℕ} → k ≡ of_number 0 (λ f. length (fixed_sections f)) file → k ≤ c
+  fixed-few e = omega (arith, e ∙ by-file file w.number 0 (λ f. length (fixed_sections f)), w.least)
 
-  count_most : size ≤ room f
-  count_most = entries-most f n w.few
+  axles-are : {k : ℕ} → k ≡ of_number 0 (λ f. length (fixed_sections f)) file → c - k ≡ n
+  axles-are e = ap (λ (x : ℕ). c - x) (e ∙ by-file file w.number 0 (λ f. length (fixed_sections f)))
 
-  pub count_fits : (r : ℕ) → r ≡ entries_before (table_of file) c → r ≤ length ls
-  count_fits r e = omega (arith, count-is r e, count_most, few-entries f, w.lines)
-
-  pub pairs-ready : (r : ℕ) → r ≡ entries_before (table_of file) c → (first : ℕ) → first ≡ of_number 0 first_pair file → place_size * (first + r) ≤ length p
-  pairs-ready r e first d = omega (arith, count-is r e, count_most, rooms-fit f, d ∙ by-file file w.number 0 first_pair, w.held.0)
-
-  pub fixed-few : (k : ℕ) → k ≡ of_number 0 (λ f. length (fixed_sections f)) file → k ≤ c
-  fixed-few k e = omega (arith, e ∙ by-file file w.number 0 (λ f. length (fixed_sections f)), w.least)
-
-  pub axles-are : (k : ℕ) → k ≡ of_number 0 (λ f. length (fixed_sections f)) file → c - k ≡ n
-  axles-are k e = ap (λ (x : ℕ). c - x) (e ∙ by-file file w.number 0 (λ f. length (fixed_sections f)))
-
-  number-held : (m : ℕ) → m ≡ n → NumberHeld file m t p
-  number-held m e =
+  number-held : {m : ℕ} → m ≡ n → NumberHeld file m t p
+  number-held {m} e =
       (w.own.0, rw (by-file file w.number 0 first_pair, by-file file w.number 0 (λ f. length (entries f m)), e) w.own.1)
 
-  pub figures-ready : (m : ℕ) → m ≡ n → IsNumber file × (m ≤ most_axles) × NumberHeld file m t p
-  figures-ready m e = (w.number, omega (arith, e, w.few), number-held m e)
+  pub figures-ready : {k : ℕ} → k ≡ of_number 0 (λ f. length (fixed_sections f)) file → IsNumber file × (c - k ≤ most_axles) × NumberHeld file (c - k) t p
+  figures-ready e = let q = axles-are e in (w.number, omega (arith, q, w.few), number-held q)
 
-  pub broken-ready : (m : ℕ) → m ≡ n → (m ≤ most_axles) × Held ac2 0 s p × (b ≡ booking_in (new_values s p)) × NumberHeld file m t p
-  broken-ready m e = (omega (arith, e, w.few), w.held, w.booking, number-held m e)
-
-  -- ---- 10
-
-  pub due-is : (k : Conditions) → k ≡ with_links b (links_numbered file t p)
-      → (first : ℕ) → first ≡ of_number 0 first_pair file → (count : ℕ) → count ≡ size
-      → (e : ℕ) → e ≡ first_not_as_due_from (λ i. due_in file i k) 0 (filled_pairs (pairs_at p first count)) → e ≡ first_not_as_due f conditions vs
-  due-is k ek first ef count ec e h =
-      let q : k ≡ conditions = ek ∙ ap₂ (λ (x : Booking) (m : ℕ). with_links x (links_numbered m t p)) w.booking (sym w.number) ∙ conditions-file f n (new_values s p) t p in
-      h
-      ∙ ap₂ (λ (m : ℕ) (ps : List Pair). first_not_as_due_from (λ i. due_in m i k) 0 (filled_pairs ps)) (sym w.number) (ap₂ (λ (x y : ℕ). pairs_at p x y) (ef ∙ by-file file w.number 0 first_pair) ec)
-      ∙ first-at-values f k t (pairs_of f n p) w.own.1
-      ∙ ap (λ (x : Conditions). first_not_as_due f x vs) q
+  pub broken-ready : {k : ℕ} → k ≡ of_number 0 (λ f. length (fixed_sections f)) file → (c - k ≤ most_axles) × Says s p b × NumberHeld file (c - k) t p
+  broken-ready e = let q = axles-are e in (omega (arith, q, w.few), w.says, number-held q)
 
   due-failed : ltb (first_not_as_due f conditions vs) (length vs) ≡ true → values_step f c s t p ls ≡ refusal 10 (file_number f) (get_or (take size ls) (first_not_as_due f conditions vs) 0)
   due-failed q = rw q refl
@@ -111,27 +83,58 @@ module _ (file c : ℕ) (b : Booking) (s t p ls : List ℕ) (w : ValuesReady fil
       → values_step f c s t p ls ≡ checked_file f (read_at f c t p) (take size ls) (first_failed (check_rule (first_broken f (rules_of f (new_values s p) vs n)) ∷ []))
   due-passed q = rw q refl
 
-  module _ (count : ℕ) (ec : count ≡ size) (e : ℕ) (h : e ≡ first_not_as_due f conditions vs) where
+  -- ---- the entries of its sections
+
+  module _ {count : ℕ} (e : count ≡ entries_before (table_of file) c) where
+    count-is : count ≡ size
+    unfolding entries
+    count-is =
+        e ∙ ap (λ (x : List Section). entries_before x c) (table file w.number)
+        ∙ ap (λ (x : List Section). length (entries_of x)) w.sections-are
+
+    count_most : size ≤ room f
+    count_most = entries-most f n w.few
+
+    pub count_fits : count ≤ length ls
+    count_fits = omega (arith, count-is, count_most, few-entries f, w.lines)
+
     many : length vs ≡ size
     many = values_length t p (first_pair f) size
 
-    pub values-due : e < count → (l : ℕ) → l ≡ get_or (take count ls) e 0 → JudgesValues f c s t p ls (Err (refusal_with NotAsDue file l))
-    values-due i l el =
-        due-failed (lt-ltb (first_not_as_due f conditions vs) (length vs) (omega (arith, many, ec, h, i)))
-        ∙ ap₂ (λ (x y : ℕ). refusal 10 x y) w.number (sym (el ∙ ap₂ (λ (x y : ℕ). get_or (take x ls) y 0) ec h))
+    module _ {first : ℕ} (ef : first ≡ of_number 0 first_pair file) where
+      pub pairs-ready : place_size * (first + count) ≤ length p
+      pairs-ready = omega (arith, count-is, count_most, rooms-fit f, ef ∙ by-file file w.number 0 first_pair, w.own.0)
 
-    module _ (i : count ≤ e) (m : ℕ) (em : m ≡ n) (r : RuleCheck) (er : r ≡ of_number (Ok tt) (λ f. first_broken_at f m s t p) file) where
-      rule-is : first_broken f (rules_of f (new_values s p) vs n) ≡ r
-      rule-is = sym (er ∙ by-file file w.number (Ok tt) (λ f. first_broken_at f m s t p) ∙ ap (λ (k : ℕ). first_broken_at f k s t p) em)
+      -- 10, for the conditions k that were made
+      module _ {k : Conditions} (ek : k ≡ with_links b (links_numbered file t p)) {x : Option ℕ} (h : x ≡ found_below count (first_not_as_due_from (λ i. due_in file i k) 0 (filled_pairs (pairs_at p first count)))) where
+        due-is : x ≡ found_below count (first_not_as_due f conditions vs)
+        due-is =
+            let q : k ≡ conditions = ek ∙ ap₂ (λ (x : Booking) (m : ℕ). with_links x (links_numbered m t p)) w.says.1 (sym w.number) ∙ conditions-file f n (new_values s p) t p in
+            h
+            ∙ ap (found_below count)
+            (ap₂ (λ (m : ℕ) (ps : List Pair). first_not_as_due_from (λ i. due_in m i k) 0 (filled_pairs ps)) (sym w.number) (ap₂ (λ (x y : ℕ). pairs_at p x y) (ef ∙ by-file file w.number 0 first_pair) count-is)
+            ∙ first-at-values f k t (pairs_of f n p) w.own.1
+            ∙ ap (λ (x : Conditions). first_not_as_due f x vs) q)
 
-      judged : (x : RuleCheck) → r ≡ x → values_step f c s t p ls ≡ checked_file f (read_at f c t p) (take size ls) (first_failed (check_rule x ∷ []))
-      judged x q =
-          due-passed (le-ltb (first_not_as_due f conditions vs) (length vs) (omega (arith, many, ec, h, i)))
-          ∙ ap (λ (y : RuleCheck). checked_file f (read_at f c t p) (take size ls) (first_failed (check_rule y ∷ []))) (rule-is ∙ q)
+        pub values-due : {i : ℕ} → x ≡ Some i → {l : ℕ} → l ≡ get_or (take count ls) i 0 → JudgesValues f c s t p ls (Err (refusal_with NotAsDue file l))
+        values-due {i} q el =
+            let o = some-found count (first_not_as_due f conditions vs) i (sym q ∙ due-is) in
+            due-failed (lt-ltb (first_not_as_due f conditions vs) (length vs) (omega (arith, many, count-is, o.0, o.1)))
+            ∙ ap₂ (λ (x y : ℕ). refusal 10 x y) w.number (sym (el ∙ ap₂ (λ (x y : ℕ). get_or (take x ls) y 0) count-is o.0))
 
-      pub values-broken : (x : BrokenRule) → r ≡ Err x → (l : ℕ) → l ≡ get_or (take count ls) x.entry 0 → JudgesValues f c s t p ls (Err (refusal_with x.kind file l))
-      values-broken x q l el =
-          judged (Err x) q ∙ ap₂ (λ (y z : ℕ). refusal (number_of x.kind) y z) w.number (sym (el ∙ ap (λ (y : ℕ). get_or (take y ls) x.entry 0) ec))
+        -- then 12 or 13
+        module _ (o : x ≡ None) {m : ℕ} (em : m ≡ of_number 0 (λ f. length (fixed_sections f)) file) {r : RuleCheck} (er : r ≡ of_number (Ok tt) (λ f. first_broken_at f (c - m) s t p) file) where
+          rule-is : first_broken f (rules_of f (new_values s p) vs n) ≡ r
+          rule-is = sym (er ∙ by-file file w.number (Ok tt) (λ f. first_broken_at f (c - m) s t p) ∙ ap (λ (k : ℕ). first_broken_at f k s t p) (axles-are em))
 
-      pub values-pass : r ≡ Ok tt → (y : K.Figures) → y ≡ figures_from f m (values_of f m t p) → JudgesValues f c s t p ls (Ok y)
-      values-pass q y ey = (judged (Ok tt) q, ey ∙ ap (λ (k : ℕ). figures_from f k (values_of f k t p)) em)
+          judged : (x : RuleCheck) → r ≡ x → values_step f c s t p ls ≡ checked_file f (read_at f c t p) (take size ls) (first_failed (check_rule x ∷ []))
+          judged x q =
+              due-passed (le-ltb (first_not_as_due f conditions vs) (length vs) (omega (arith, many, count-is, none-found count (first_not_as_due f conditions vs) (sym o ∙ due-is))))
+              ∙ ap (λ (y : RuleCheck). checked_file f (read_at f c t p) (take size ls) (first_failed (check_rule y ∷ []))) (rule-is ∙ q)
+
+          pub values-broken : {x : BrokenRule} → r ≡ Err x → {l : ℕ} → l ≡ get_or (take count ls) x.entry 0 → JudgesValues f c s t p ls (Err (refusal_with x.kind file l))
+          values-broken {x} q el =
+              judged (Err x) q ∙ ap₂ (λ (y z : ℕ). refusal (number_of x.kind) y z) w.number (sym (el ∙ ap (λ (y : ℕ). get_or (take y ls) x.entry 0) count-is))
+
+          pub values-pass : r ≡ Ok tt → {y : K.Figures} → y ≡ figures_from f (c - m) (values_of f (c - m) t p) → JudgesValues f c s t p ls (Ok y)
+          values-pass q ey = (judged (Ok tt) q, ey ∙ ap (λ (k : ℕ). figures_from f k (values_of f k t p)) (axles-are em))

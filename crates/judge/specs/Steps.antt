@@ -12,6 +12,7 @@ use Rattle.due.specs.Booking.{booking_in}
 use Rattle.due.specs.declared.Booking.{Booking}
 use Rattle.tables.specs.Value.{pairs_of, values_of, Held}
 use Rattle.due.specs.Values.{new_values}
+use Rattle.rules.specs.Rules.{Says}
 use Rattle.rules.specs.declared.Stated.{Stated}
 use Rattle.sets.specs.Records.{Slices, is_given}
 use Rattle.sets.specs.Judge.{figures_from, acceptance_of, FileRead, SetRead, file_read, checked_file, first_failed, file_checks, judge_text, judge_file, judge_identification, set_read, later_slices, each_accepted, set_files}
@@ -36,17 +37,12 @@ no_figures = record { axles = 0; mark = false; byhand = false }
 
 -- ---- one file
 
--- b is what AC2's values say: its text s, its pairs in p
-abbrev pub IsBooking : Booking → List ℕ → List ℕ → Type 0
-IsBooking b s p = b ≡ booking_in (new_values s p)
-
 -- what judging a file after AC2 asks: AC2's text s
 pub record FileReady (file : ℕ) (b : Booking) (s p : List ℕ) : Type 0 where
   pub number : IsNumber file
   -- not AC2
   pub later : 2 ≤ file
-  pub held : Held ac2 0 s p
-  pub booking : IsBooking b s p
+  pub says : Says s p b
 
 -- what judging the values of a file of c sections asks: its text t, its pairs within it, and ls has room for the line of each entry
 pub record ValuesReady (file c : ℕ) (b : Booking) (s t p ls : List ℕ) : Type 0 where
@@ -55,10 +51,9 @@ pub record ValuesReady (file c : ℕ) (b : Booking) (s t p ls : List ℕ) : Type
   pub most : c ≤ length (all_sections (file_numbered file))
   pub sections-are : take c (all_sections (file_numbered file)) ≡ sections (file_numbered file) (axles_of (file_numbered file) c)
   pub few : axles_of (file_numbered file) c ≤ most_axles
-  pub held : Held ac2 0 s p
+  pub says : Says s p b
   pub own : Held (file_numbered file) (axles_of (file_numbered file) c) t p
   pub lines : most_rows ≤ length ls
-  pub booking : IsBooking b s p
 
 -- what stands at the pairs of a file of c sections
 abbrev pub read_at : File → ℕ → List ℕ → List ℕ → FileRead

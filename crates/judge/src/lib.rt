@@ -4,17 +4,31 @@
 ghost use Rattle.std.specs.Prelude.{◌≡◌, ◌≤◌, length, get_or};
 ghost use Rattle.tables.specs.File.{ac2 as booking_file, files, most_axles, least_places};
 ghost use Rattle.tables.specs.Row.{most_rows};
-ghost use Rattle.tables.specs.Value.{values_of, Held, NumberHeld};
-ghost use Rattle.sets.specs.Records.{caller_of, slices_of};
+ghost use Rattle.tables.specs.Value.{values_of, NumberHeld};
+ghost use Rattle.rules.specs.Rules.{Says};
+ghost use Rattle.sets.specs.Records.{caller_of};
 ghost use Rattle.sets.specs.Judge.{figures_from, acceptance_with, judge_text, judge_booking, judge_slices};
-ghost use Rattle.judge.specs.Steps.{file_numbered, IsNumber, IsBooking, FileReady, ValuesReady, JudgesValues, JudgesFile, text_judged, file_judged, JudgesBooking, identification_judged, JudgesIdentification, IdentificationReady, identification_refused, JudgesSlices, JudgesLater};
-ghost use Rattle.judge.specs.Judged.{SetJudged};
+ghost use Rattle.judge.specs.Steps.{file_numbered, IsNumber, FileReady, ValuesReady, JudgesValues, JudgesFile, text_judged, file_judged, JudgesBooking, identification_judged, JudgesIdentification, IdentificationReady, identification_refused, JudgesSlices, JudgesLater};
+ghost use Rattle.judge.specs.Judged.{slices_in, SetJudged};
 
 use due::Booking;
+use places::PlacedText;
 use refusals::{Refusal, RefusalKind};
-use rules::Stated;
+use rules::{NewBooking, Stated};
 use sets::{Acceptance, Figures};
 use tables::{AC2, ACC, DRIFT, GAS, IDENTIFICATION, MOST_ROWS, OPACITY, SUSPENSION};
+
+// The slices of a set; one that is not given is empty.
+#[derive(Debug, Clone, Copy)]
+pub struct SetSlices<'a> {
+    pub ac2: &'a [u8],
+    pub acc: &'a [u8],
+    pub drift: &'a [u8],
+    pub suspension: &'a [u8],
+    pub gas: &'a [u8],
+    pub identification: &'a [u8],
+    pub opacity: &'a [u8],
+}
 
 // Of a file that is not read, and of slice 6.
 const NO_FIGURES: Figures = Figures {
@@ -30,73 +44,78 @@ struct Booked {
     figures: Figures,
 }
 
-// The line of an entry; 0 where there is none.
+// The line of an entry; where there is none 0, which a refusal without a line carries.
 fn line_of(lines: &[u32], entry: usize) -> u32
     ensures { result ≡ get_or lines.now entry 0 }
 {
-    if entry < lines.len() { lines[entry] } else { 0 }
+    lines.get(entry).copied().unwrap_or(0)
 }
 
 // The figures of a file whose pairs are in the places.
-fn figures_of(file: u32, axles: usize, text: &[u8], places: &[u32]) -> Figures
-    requires { IsNumber file × (axles ≤ most_axles) × NumberHeld file axles text.now places.now }
+fn figures_of(file: u32, axles: usize, own: PlacedText<'_>) -> Figures
+    requires { IsNumber file × (axles ≤ most_axles) × NumberHeld file axles own.text.now own.places.now }
     ensures { result ≡ figures_from (file_numbered file) axles
-        (values_of (file_numbered file) axles text.now places.now) }
+        (values_of (file_numbered file) axles own.entry.text.now own.entry.places.now) }
 {
-    let mark = rules::is_marked(file, axles, text, places);
-    let byhand = files::is_by_hand(file, axles, text, places);
     Figures {
         axles: axles as u32,
-        mark,
-        byhand,
+        mark: rules::is_marked(file, axles, own),
+        byhand: files::is_by_hand(file, axles, own),
     }
 }
 
-// All of 10, then 12 or 13, of a file whose pairs are in the places, with the lines of its entries. b is what AC2 says.
+// All of 10, then 12 or 13, of a file whose pairs are in the places, with the lines of its entries.
 fn judge_values(
     file: u32,
     sections: usize,
-    b: Booking,
-    booking: &[u8],
-    text: &[u8],
-    places: &[u32],
+    new: &NewBooking<'_>,
+    own: PlacedText<'_>,
     lines: &[u32],
 ) -> Result<Figures, Refusal>
-    requires { ValuesReady file sections b booking.now text.now places.now lines.now }
-    ensures { JudgesValues (file_numbered file) sections booking.now text.now
-        places.now lines.now result }
+    requires { ValuesReady file sections new.now.says new.now.text.now own.text.now own.places.now lines.now }
+    ensures { JudgesValues (file_numbered file) sections new.now.text.now own.entry.text.now
+        own.entry.places.now lines.now result }
 {
-    let conditions = due::conditions_of(file, b, text, places);
+    let conditions = due::conditions_of(file, new.says, own);
     let count = tables::entries_before(file, sections);
     let first = tables::first_pair(file);
-    let entry = due::first_not_as_due(file, first, count, conditions, places);
-    if entry < count {
+    let found = due::first_not_as_due(file, first, count, conditions, own.places);
+    if let Some(entry) = found {
         return Err(Refusal {
             kind: RefusalKind::NotAsDue,
-            file: file,
+            file,
             line: line_of(&lines[..count], entry),
         });
     }
     let axles = sections - tables::fixed_section_count(file);
-    match rules::first_broken(file, axles, b, booking, text, places) {
+    match rules::first_broken(file, axles, new, own) {
         Err(x) => Err(Refusal {
             kind: x.kind,
             file,
             line: line_of(&lines[..count], x.entry),
         }),
-        Ok(()) => Ok(figures_of(file, axles, text, places)),
+        Ok(()) => Ok(figures_of(file, axles, own)),
     }
 }
 
 // AC2's text: 3 to 9, then the values, by what they say themselves.
-fn judge_booking_text(text: &[u8], places: &mut [u32], lines: &mut [u32]) -> Result<Booked, Refusal>
-    requires { (least_places ≤ length places.old) × (most_rows ≤ length lines.old) }
+fn judge_booking_text(
+    text: &[u8],
+    places: &mut [u32],
+    lines: &mut [u32; MOST_ROWS],
+) -> Result<Booked, Refusal>
+    requires { least_places ≤ length places.old }
     ensures { JudgesBooking (judge_text booking_file (λ own. own) text.now) result
         places.old places.new }
 {
     let sections = files::read_text(AC2, text, places, lines)?;
-    let booking = due::booking_of(text, places);
-    let figures = judge_values(AC2, sections, booking, text, text, places, lines)?;
+    let own = PlacedText { text, places };
+    let booking = due::booking_of(own);
+    let new = NewBooking {
+        text,
+        says: booking,
+    };
+    let figures = judge_values(AC2, sections, &new, own, lines)?;
     Ok(Booked { booking, figures })
 }
 
@@ -119,48 +138,46 @@ fn judge_booking(text: &[u8], places: &mut [u32]) -> Result<Booked, Refusal>
 // The text of a file after AC2: 3 to 9, then the values.
 fn judge_text(
     file: u32,
-    b: Booking,
-    booking: &[u8],
+    new: &NewBooking<'_>,
     text: &[u8],
     places: &mut [u32],
-    lines: &mut [u32],
+    lines: &mut [u32; MOST_ROWS],
 ) -> Result<Figures, Refusal>
-    requires { FileReady file b booking.now places.old × (most_rows ≤ length lines.old) }
+    requires { FileReady file new.now.says new.now.text.now places.old }
     ensures { JudgesFile (file_numbered file)
-        (text_judged file booking.now text.now places.old) result
+        (text_judged file new.now.text.now text.now places.old) result
         places.old places.new }
 {
     let sections = files::read_text(file, text, places, lines)?;
-    judge_values(file, sections, b, booking, text, places, lines)
+    judge_values(file, sections, new, PlacedText { text, places }, lines)
 }
 
 // A file after AC2: 11, then, where it is read, the rest.
 fn judge_file(
     file: u32,
     stated: Stated,
-    b: Booking,
-    booking: &[u8],
+    new: &NewBooking<'_>,
     text: &[u8],
     places: &mut [u32],
 ) -> Result<Figures, Refusal>
-    requires { FileReady file b booking.now places.old }
+    requires { FileReady file new.now.says new.now.text.now places.old }
     ensures { JudgesFile (file_numbered file)
-        (file_judged file stated booking.now text.now places.old) result
+        (file_judged file stated new.now.text.now text.now places.old) result
         places.old places.new }
 {
     let given = 0 < text.len();
-    if !rules::slice_right(file, stated, b, given) {
+    if !rules::slice_right(file, stated, new.says, given) {
         return Err(Refusal {
             kind: RefusalKind::SliceNotAsDue,
             file,
             line: 0,
         });
     }
-    if !rules::is_read(file, b, given) {
+    if !rules::is_read(file, new.says, given) {
         return Ok(NO_FIGURES);
     }
     let mut lines = [0u32; MOST_ROWS];
-    judge_text(file, b, booking, text, places, &mut lines)
+    judge_text(file, new, text, places, &mut lines)
 }
 
 fn refuse_identification(kind: RefusalKind) -> Result<(), Refusal>
@@ -174,27 +191,25 @@ fn refuse_identification(kind: RefusalKind) -> Result<(), Refusal>
 }
 
 // Slice 6: 11, 14, 15. It has no figures.
-fn judge_identification(gas: &[u8], identification: &[u8], places: &[u32]) -> Result<(), Refusal>
-    requires { IdentificationReady gas.now places.now }
+fn judge_identification(gas: PlacedText<'_>, identification: &[u8]) -> Result<(), Refusal>
+    requires { IdentificationReady gas.text.now gas.places.now }
     ensures { JudgesIdentification
-        (identification_judged gas.now identification.now places.now) result }
+        (identification_judged gas.entry.text.now identification.now gas.entry.places.now) result }
 {
     let given = 0 < identification.len();
-    if !rules::identification_right(gas, places, given) {
+    if !rules::identification_right(gas, given) {
         return refuse_identification(RefusalKind::SliceNotAsDue);
     }
     if !given {
         return Ok(());
     }
-    match serial::read_identification(identification) {
-        None => refuse_identification(RefusalKind::IdentificationForm),
-        Some(ends) => {
-            if !rules::same_fields(identification, ends, gas, places) {
-                return refuse_identification(RefusalKind::IdentificationDiffers);
-            }
-            Ok(())
-        }
+    let Some(ends) = serial::read_identification(identification) else {
+        return refuse_identification(RefusalKind::IdentificationForm);
+    };
+    if !rules::same_fields(identification, ends, gas) {
+        return refuse_identification(RefusalKind::IdentificationDiffers);
     }
+    Ok(())
 }
 
 // The acceptance, from the figures of the result files.
@@ -221,77 +236,51 @@ fn acceptance_with(
 fn judge_later(
     stated: Stated,
     b: Booking,
-    ac2: &[u8],
-    acc: &[u8],
-    drift: &[u8],
-    suspension: &[u8],
-    gas: &[u8],
-    identification: &[u8],
-    opacity: &[u8],
+    slices: &SetSlices<'_>,
     places: &mut [u32],
 ) -> Result<Acceptance, Refusal>
-    requires { Held booking_file 0 ac2.now places.old × IsBooking b ac2.now places.old }
-    ensures { JudgesLater stated (slices_of ac2.now acc.now drift.now
-        suspension.now gas.now identification.now opacity.now)
-        places.old places.new result }
+    requires { Says slices.now.ac2.now places.old b }
+    ensures { JudgesLater stated (slices_in slices.now) places.old places.new result }
 {
-    judge_file(ACC, stated, b, ac2, acc, places)?;
-    let d = judge_file(DRIFT, stated, b, ac2, drift, places)?;
-    let u = judge_file(SUSPENSION, stated, b, ac2, suspension, places)?;
-    let g = judge_file(GAS, stated, b, ac2, gas, places)?;
-    judge_identification(gas, identification, places)?;
-    let y = judge_file(OPACITY, stated, b, ac2, opacity, places)?;
+    let new = NewBooking {
+        text: slices.ac2,
+        says: b,
+    };
+    judge_file(ACC, stated, &new, slices.acc, places)?;
+    let d = judge_file(DRIFT, stated, &new, slices.drift, places)?;
+    let u = judge_file(SUSPENSION, stated, &new, slices.suspension, places)?;
+    let g = judge_file(GAS, stated, &new, slices.gas, places)?;
+    let gas = PlacedText {
+        text: slices.gas,
+        places,
+    };
+    judge_identification(gas, slices.identification)?;
+    let y = judge_file(OPACITY, stated, &new, slices.opacity, places)?;
     Ok(acceptance_with(d, u, g, y))
 }
 
 // All slices: AC2, then the others by what it says.
 fn judge_slices(
     stated: Stated,
-    ac2: &[u8],
-    acc: &[u8],
-    drift: &[u8],
-    suspension: &[u8],
-    gas: &[u8],
-    identification: &[u8],
-    opacity: &[u8],
+    slices: &SetSlices<'_>,
     places: &mut [u32],
 ) -> Result<Acceptance, Refusal>
     requires { least_places ≤ length places.old }
-    ensures { JudgesSlices files (judge_slices stated
-        (slices_of ac2.now acc.now drift.now
-        suspension.now gas.now identification.now opacity.now)) result
+    ensures { JudgesSlices files (judge_slices stated (slices_in slices.now)) result
         places.old places.new }
 {
-    let booked = judge_booking(ac2, places)?;
-    judge_later(
-        stated,
-        booked.booking,
-        ac2,
-        acc,
-        drift,
-        suspension,
-        gas,
-        identification,
-        opacity,
-        places,
-    )
+    let booked = judge_booking(slices.ac2, places)?;
+    judge_later(stated, booked.booking, slices, places)
 }
 
 // A whole set, for the stem of its files: 1, 2, then slices 1 to 7. The places hold its pairs where it is accepted;
 // after a refusal but 1 they are 0.
 pub fn judge_set(
     stem: &[u8],
-    ac2: &[u8],
-    acc: &[u8],
-    drift: &[u8],
-    suspension: &[u8],
-    gas: &[u8],
-    identification: &[u8],
-    opacity: &[u8],
+    slices: &SetSlices<'_>,
     places: &mut [u32],
 ) -> Result<Acceptance, Refusal>
-    ensures { SetJudged (caller_of stem.now) (slices_of ac2.now acc.now drift.now
-        suspension.now gas.now identification.now opacity.now)
+    ensures { SetJudged (caller_of stem.now) (slices_in slices.now)
         places.old places.new result }
 {
     let least = tables::least_places();
@@ -310,17 +299,7 @@ pub fn judge_set(
             line: 0,
         });
     }
-    let answer = judge_slices(
-        rules::stated_of(stem),
-        ac2,
-        acc,
-        drift,
-        suspension,
-        gas,
-        identification,
-        opacity,
-        places,
-    );
+    let answer = judge_slices(rules::stated_of(stem), slices, places);
     if answer.is_err() {
         places::clear(places, least);
     }

@@ -5,6 +5,7 @@
 
 ghost use Rattle.std.specs.Prelude.{◌+◌, ◌≤◌, length, IfSome};
 
+use judge::SetSlices;
 use refusals::Refusal;
 use sets::Acceptance;
 use std::io;
@@ -21,13 +22,7 @@ const MOST_PLACES: usize = 400;
 struct Case<'a> {
     title: &'a [u8],
     stem: &'a [u8],
-    ac2: &'a [u8],
-    acc: &'a [u8],
-    drift: &'a [u8],
-    suspension: &'a [u8],
-    gas: &'a [u8],
-    identification: &'a [u8],
-    opacity: &'a [u8],
+    slices: SetSlices<'a>,
     places: usize,
 }
 
@@ -51,9 +46,7 @@ fn read_case<'a>(header: &[u8; HEADER_SIZE], input: &'a [u8]) -> Option<(Case<'a
     let (gas, input) = input.split_at_checked(number(header, 24))?;
     let (identification, input) = input.split_at_checked(number(header, 28))?;
     let (opacity, input) = input.split_at_checked(number(header, 32))?;
-    let case = Case {
-        title,
-        stem,
+    let slices = SetSlices {
         ac2,
         acc,
         drift,
@@ -61,6 +54,11 @@ fn read_case<'a>(header: &[u8; HEADER_SIZE], input: &'a [u8]) -> Option<(Case<'a
         gas,
         identification,
         opacity,
+    };
+    let case = Case {
+        title,
+        stem,
+        slices,
         places: number(header, 36),
     };
     Some((case, input))
@@ -79,30 +77,14 @@ fn print_answer(out: &mut impl Write, answer: Result<Acceptance, Refusal>) -> io
             u8::from(a.opacitymark),
             u8::from(a.gasbyhand),
         ),
-        Err(x) => write!(
-            out,
-            "R {} {} {}",
-            refusals::refusal_number(x.kind),
-            x.file,
-            x.line,
-        ),
+        Err(x) => write!(out, "R {} {} {}", u32::from(x.kind), x.file, x.line),
     }
 }
 
 fn judge_case(out: &mut impl Write, case: Case<'_>) -> io::Result<()> {
     let mut numbers = [7u32; MOST_PLACES];
     let places = &mut numbers[..case.places.min(MOST_PLACES)];
-    let answer = judge::judge_set(
-        case.stem,
-        case.ac2,
-        case.acc,
-        case.drift,
-        case.suspension,
-        case.gas,
-        case.identification,
-        case.opacity,
-        places,
-    );
+    let answer = judge::judge_set(case.stem, &case.slices, places);
     out.write_all(case.title)?;
     out.write_all(b": ")?;
     print_answer(out, answer)?;

@@ -6,28 +6,23 @@ use mathlib.Core.Bool.{Bool, true}
 use mathlib.Core.List.{List, [], ◌∷◌, map}
 use mathlib.Core.Logic.{inl, inr}
 use Rattle.std.proofs.lemmas.Bool.{cases_lt}
-use Rattle.std.proofs.lemmas.List.{get_or-replicate}
-use lib.Dec.{leb, ltb, lit≤}
+use Rattle.std.proofs.lemmas.List.{get_or-map, get_or-replicate}
+pub use Rattle.std.proofs.lemmas.List.{get_or-map as map_at}
+use lib.Dec.{leb, lit≤}
 use lib.ListN.{length, get_or, take, drop, replicate, get_or-eq_default}
 use lib.Seq.{get_or-take, get_or-drop}
-use borrow.Author.Tests.{leb-true, ltb-true, ltb-false}
+use borrow.Author.Tests.{leb-true}
 use Rattle.std.specs.List.{list_all}
 use Rattle.lines.proofs.Bools.{and_left, and_right}
-use Rattle.kinds.specs.Kind.{words, vehicle_types, categories, yes_no, petrol_directives, brake_controls, links, gas_links, counter_links, outcomes, Kind, S, C, N, NByHand, Fixed, FixedByHand, D, H, Deriva, DataPrimaImm, AnnoPrimaImm, PosAssiStaz, Targa, TempAmbiente, NoKind, Word, kind_of, numbered}
+use Rattle.kinds.specs.Kind.{WordList, words, vehicle_types, categories, yes_no, petrol_directives, brake_controls, links, gas_links, counter_links, outcomes, Kind, NoKind, Word, kind_of, numbered}
 use Rattle.kinds.specs.Value.{width}
 use Rattle.kinds.specs.Shapes.{form_number, decimals_of, words_in, shape_of}
-use Rattle.kinds.proofs.Laws.{by-test, kind_count, NoneAfter, past_after}
-
--- what a function says of the element at a place
-pub map_at : {A B : Type 0} (f : A → B) (xs : List A) (n : ℕ) (a : A) (b : B) → n < length xs → get_or (map f xs) n b ≡ f (get_or xs n a)
-map_at f [] n a b h = absurd (omega arith)
-map_at f (x ∷ xs) zero a b h = refl
-map_at f (x ∷ xs) (suc n) a b h = map_at f xs n a b (omega arith)
+use Rattle.kinds.proofs.Laws.{kind_count, NoneAfter, past_after}
 
 -- what a function says of each kind, by the kind's number
 pub of-kind : {A : Type 0} (f : Kind → A) (n : ℕ) (b : A) → n < kind_count → get_or (map f numbered) n b ≡ f (kind_of n)
 unfolding kind_of numbered
-of-kind f n b h = map_at f numbered n NoKind b h
+of-kind f n b h = get_or-map f numbered n NoKind b h
 
 pub past-kinds : (n : ℕ) → kind_count ≤ n → kind_of n ≡ NoKind
 unfolding kind_of numbered
@@ -40,14 +35,6 @@ unfolding shape_of form_number decimals_of words_in width
 no-shape n h = rw (past-kinds n h)
 
 -- ---- words
-
--- only a kind has words
-pub is-kind : (n k : ℕ) → k < length (words_in (kind_of n)) → n < kind_count
-unfolding words_in
-is-kind n k h =
-    by-test (ltb n kind_count)
-    (λ e. ltb-true n kind_count e)
-    (λ e. let z : k < 0 = rw (past-kinds n (ltb-false n kind_count e)) at h in absurd (omega arith))
 
 -- the n kinds from number a on, where they have no words
 none-in : (a n k : ℕ) → take n (drop a (map words_in numbered)) ≡ replicate n [] → a ≤ k → k < a + n → a + n ≤ kind_count → words_in (kind_of k) ≡ []
@@ -77,38 +64,25 @@ no-words k n h = elim (cases_lt k 20) [
 abbrev short : List ℕ → Bool
 short w = leb (length w) 14
 
-short_words : (x : Kind) → list_all short (words_in x) ≡ true
-unfolding words_in words
-short_words (Word vehicle_types) = refl
-short_words (Word categories) = refl
-short_words (Word yes_no) = refl
-short_words (Word petrol_directives) = refl
-short_words (Word brake_controls) = refl
-short_words (Word links) = refl
-short_words (Word gas_links) = refl
-short_words (Word counter_links) = refl
-short_words (Word outcomes) = refl
-short_words (S w) = refl
-short_words (C w) = refl
-short_words (N w) = refl
-short_words (NByHand w) = refl
-short_words (Fixed d w) = refl
-short_words (FixedByHand d w) = refl
-short_words D = refl
-short_words H = refl
-short_words Deriva = refl
-short_words DataPrimaImm = refl
-short_words AnnoPrimaImm = refl
-short_words PosAssiStaz = refl
-short_words Targa = refl
-short_words TempAmbiente = refl
-short_words NoKind = refl
+short_words : (l : WordList) → list_all short (words l) ≡ true
+unfolding words
+short_words vehicle_types = refl
+short_words categories = refl
+short_words yes_no = refl
+short_words petrol_directives = refl
+short_words brake_controls = refl
+short_words links = refl
+short_words gas_links = refl
+short_words counter_links = refl
+short_words outcomes = refl
 
 -- no word is longer than the longest of all lists
-pub word-short : (n k : ℕ) → length (get_or (words_in (kind_of n)) k []) ≤ 14
-word-short n k = at (words_in (kind_of n)) k (short_words (kind_of n))
+pub word-short : (x : Kind) (k : ℕ) → length (get_or (words_in x) k []) ≤ 14
+unfolding words_in
+word-short (Word l) k = at (words l) k (short_words l)
   where
     at : (ws : List (List ℕ)) (k : ℕ) → list_all short ws ≡ true → length (get_or ws k []) ≤ 14
     at [] k e = zero-le
     at (w ∷ ws) zero e = leb-true (length w) 14 (and_left (short w) (list_all short ws) e)
     at (w ∷ ws) (suc k) e = at ws k (and_right (short w) (list_all short ws) e)
+word-short _ k = zero-le

@@ -1,20 +1,21 @@
 -- One byte of a value at a time, and parts of digits. Assumes nothing.
 use mathlib.Core.Path.{◌≡◌, refl, sym, ap, ap₂, ◌∙◌}
-use mathlib.Core.Bool.{Bool, true, false, cond, ◌&&◌}
+use mathlib.Core.Bool.{true, false, cond, ◌&&◌}
 use mathlib.Core.List.{List, [], ◌∷◌}
 use Prim.Native.Nat.{ℕ, zero, suc, ◌+◌, ◌-◌, ◌*◌, ◌<◌, ◌≤◌, ◌^◌, zero-le}
 use native.Mathlib.Omega.{arith}
-use native.Mathlib.Nat.{pow-suc, pow-le-pow_right, le_of_suc-le-suc, le_refl, add-zero}
+use native.Mathlib.Nat.{pow-suc, pow-le-pow_right, le_of_suc-le-suc, add-zero}
 use native.Mathlib.Numerals.{add-one}
 use borrow.Author.Tests.{leb-true, eqb-true, lt-leb, eq-eqb, ne_eqb}
 use lib.Dec.{leb, eqb, lit<}
 use lib.ListN.{length, get_or, take, drop, length-take, length-drop, drop_of_length-le, get_or-eq_default}
-use lib.Seq.{drop-cons, take_all}
+use lib.Seq.{drop-cons}
 use Rattle.std.specs.Char.{is_ascii_digit}
 use Rattle.std.specs.List.{list_all}
 use Rattle.lines.specs.Bytes.{all_printable, same_bytes}
 use Rattle.lines.proofs.Bools.{clash, and_left, and_right, and-false}
 use Rattle.lines.proofs.Bytes.{same-is, same_refl}
+pub use Rattle.lines.proofs.Bools.{and-true, by-test}
 use Rattle.kinds.specs.Digits.{is_digit, all_digits, number, number_from}
 use Rattle.kinds.specs.Value.{is_s_or_n, all_s_or_n, is_fixed, are_digits, point_place, is_word_at, word_index, is_string, is_exact, is_number, kind_ok}
 use Rattle.kinds.specs.Kind.{Kind, S, C, NoKind, kind_of, numbered}
@@ -73,10 +74,6 @@ all_take (suc n) (c ∷ t) e = rw (and_left (is_digit c) (all_digits t) e, all_t
 pub part-digits : (n m : ℕ) (s : List ℕ) → n ≤ 9 → all_digits s ≡ true → (length (take n (drop m s)) ≤ 9) × (all_digits (take n (drop m s)) ≡ true)
 part-digits n m s h e = (simp length-take (omega arith), all_take n (drop m s) (all_drop m s e))
 
--- a part up to the end, `&l[a..]`
-pub tail_all : (a : ℕ) (l : List ℕ) → take (length l - a) (drop a l) ≡ drop a l
-tail_all a l = take_all (length l - a) (drop a l) (simp length-drop (le_refl (length l - a)))
-
 -- n digits
 module _ (n : ℕ) (v : List ℕ) (e : are_digits n v ≡ true) where
   pub digits-length : length v ≡ n
@@ -115,16 +112,7 @@ fixed-point d w v e =
       after = and_right (all_digits (take p v)) _ g;
     }
 
--- what the last arm of a `match` on a number knows, after arms at 0, 1 .. n - 1: the number is n or more
-abbrev pub NoneOf : ℕ → ℕ → Type 0
-NoneOf zero k = Unit {0}
-NoneOf (suc n) k = NoneOf n k × (k ≡ n → ⊥)
-
-pub past : (n k : ℕ) → NoneOf n k → n ≤ k
-past zero k t = zero-le
-past (suc n) k t = let h : n ≤ k = past n k t.0 in let d : k ≡ n → ⊥ = t.1 in omega arith
-
--- likewise from m on
+-- what the last arm of a `match` on a number knows, after arms at m, m + 1 .. m + n - 1: the number is m + n or more
 abbrev pub NoneAfter : ℕ → ℕ → ℕ → Type 0
 NoneAfter m zero k = Unit {0}
 NoneAfter m (suc n) k = NoneAfter m n k × (k ≡ m + n → ⊥)
@@ -132,6 +120,10 @@ NoneAfter m (suc n) k = NoneAfter m n k × (k ≡ m + n → ⊥)
 pub past_after : (m n k : ℕ) → m ≤ k → NoneAfter m n k → m + n ≤ k
 past_after m zero k l t = omega arith
 past_after m (suc n) k l t = let h : m + n ≤ k = past_after m n k l t.0 in let d : k ≡ m + n → ⊥ = t.1 in omega arith
+
+-- likewise from 0 on
+pub past : (n k : ℕ) → NoneAfter 0 n k → n ≤ k
+past n k t = let h : 0 + n ≤ k = past_after 0 n k zero-le t in omega arith
 
 -- the words from place k on, one at a time
 pub index-step : (ws : List (List ℕ)) (k : ℕ) (v : List ℕ) → k < length ws
@@ -165,10 +157,6 @@ module _ (w : ℕ) (v : List ℕ) (e : is_number w v ≡ true) where
   pub number-all : all_digits v ≡ true
   unfolding is_number
   number-all = and_right (leb (length v) w) (all_digits v) (and_right (leb 1 (length v)) _ e)
-
-pub and-true : (b : Bool) → (b && true) ≡ b
-and-true true = refl
-and-true false = refl
 
 -- what holds of every S and C holds of the kinds of the first numbers
 by-text : (P : Kind → Type 0) → ((w : ℕ) → P (S w)) → ((w : ℕ) → P (C w)) → (k : ℕ) → k ≤ 6 → P (kind_of k)
@@ -205,11 +193,6 @@ pub no_kind : (n : ℕ) (v : List ℕ) → kind_count ≤ n → kind_ok (kind_of
 unfolding kind_of numbered kind_ok
 no_kind n v h = rw (get_or-eq_default numbered NoKind h)
 
--- which way a test went
-pub by-test : {A : Type 0} (t : Bool) → (t ≡ true → A) → (t ≡ false → A) → A
-by-test true a b = a refl
-by-test false a b = b refl
-
 -- digits as long that spell the same number are the same
 spelt-same : (s t : List ℕ) (m n : ℕ) → length s ≡ length t → all_digits s ≡ true → all_digits t ≡ true → number_from m s ≡ number_from n t → (m ≡ n) × (s ≡ t)
 unfolding all_digits number_from
@@ -229,3 +212,7 @@ same_number n s t p q =
     by-test (same_bytes s t)
     (λ h. h ∙ sym (eq-eqb (number s) (number t) (ap number (same-is s t h))))
     (λ h. h ∙ sym (ne_eqb (number s) (number t) (λ e. let d : s ≡ t = (spelt e).1 in clash (cc (same_refl t)))))
+
+pub ruleset parts = (part-digits, text-empty, text-unprintable)
+
+pub ruleset numbers = (number_step, digit_at, rest_at, grows, small)

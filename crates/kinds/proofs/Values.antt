@@ -24,7 +24,7 @@ pub record Filled (w : ℕ) (v : List ℕ) : Type 0 where
   pub long : 1 ≤ length v
   pub short : length v ≤ w
 
-digits-printable : (v : List ℕ) → all_digits v ≡ true → all_printable v ≡ true
+pub digits-printable : (v : List ℕ) → all_digits v ≡ true → all_printable v ≡ true
 unfolding all_digits all_printable
 digits-printable [] e = refl
 digits-printable (c ∷ t) e =

@@ -26,6 +26,7 @@ pub fn all_digits(part: &[u8]) -> bool
 }
 
 // The number that digits spell: nine of them fit.
+#[tactic(auto, unfolding(crate::specs::Digits::number_from), using(crate::proofs::Laws::numbers))]
 fn number(part: &[u8]) -> u32
     requires { (length part.now ≤ 9) × (all_digits part.now ≡ true) }
     ensures { (result ≡ Digits·number part.now) × (result < 10 ^ length part.now) }
@@ -102,6 +103,7 @@ fn are_digits(value: &[u8], count: usize) -> bool
 }
 
 // The number that `count` digits spell, from place `at` on.
+#[tactic(auto, using(crate::proofs::Laws::parts))]
 fn number_at(value: &[u8], at: usize, count: usize) -> u32
     requires { (at + count ≤ length value.now) × (count ≤ 9) × (all_digits value.now ≡ true) }
     ensures { (result ≡ Digits·number (take count (drop at value.now))) × (result < 10 ^ count) }
@@ -219,7 +221,8 @@ fn place_among(words: &[&[u8]], value: &[u8]) -> Option<usize>
     words.iter().position(|word| lines::equal(value, word))
 }
 
-// The place of a value among the words of a list, by the list's number; their count where it is none of them.
+// The place of a value among the words of a list, by the list's number; their count where it is none of them: callers go by
+// ranges of places, in which that is one more, so an Option would be no plainer.
 pub fn word_index(list: u8, value: &[u8]) -> usize
     ensures { result ≡ word_index (words_of list) value.now }
 {
@@ -252,6 +255,7 @@ fn length_ok(kind: u8, value: &[u8]) -> bool
 }
 
 // S and C.
+#[tactic(auto, using(crate::proofs::Laws::parts))]
 fn is_text(kind: u8, value: &[u8]) -> bool
     requires { kind ≤ 6 }
     ensures { result ≡ kind_ok (kind_of kind) value.now }
@@ -267,7 +271,8 @@ fn is_plate(value: &[u8]) -> bool
     4 <= value.len() && is_text(numbers::S_10, value)
 }
 
-// All other kinds; a number that no kind has lets no value in.
+// All other kinds; a number that no kind has lets no value in. The nine kinds with words stand in `of_kind` too: one arm for
+// them, which would go by it, lists them all the same, and tells them apart twice (it was tried).
 #[tactic(auto, unfolding(crate::specs::Value::kind_ok, crate::specs::Value::words_of, crate::specs::Value::numbered_lists, crate::specs::Kind::kind_of, crate::specs::Kind::numbered))]
 fn is_other(kind: u8, value: &[u8]) -> bool
     requires { 7 ≤ kind }
@@ -364,7 +369,7 @@ fn signed(minus: bool, n: u32) -> i32
     if minus { -(n as i32) } else { n as i32 }
 }
 
-// A drift without its sign, and whether a minus stood before it.
+// A drift, from what follows its sign and whether that was a minus.
 #[tactic(auto, unfolding(crate::specs::Meaning::signed_read))]
 fn read_signed(minus: bool, value: &[u8]) -> Option<i32>
     ensures { result ≡ signed_read minus value.now }

@@ -14,7 +14,7 @@ pub struct Shape {
     pub words: u32,
 }
 
-// The numbers of the forms, which `form_number` (specs/Shapes.antt) gives.
+// The numbers of the forms, which `form_number` (specs/Shapes.antt) gives. Numbers and no enum: the C interface hands them out.
 const STRING: u32 = 1;
 
 const EXACT: u32 = 2;

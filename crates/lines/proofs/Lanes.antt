@@ -12,12 +12,7 @@ use borrow.Author.Tests.{eqb-true, eqb-false, eq-eqb, ne_eqb}
 use borrow.Author.Count.{below_more}
 use Rattle.lines.specs.Bytes.{is_printable, is_name, without}
 use Rattle.lines.specs.Words.{lanes, stops_at}
-use Rattle.lines.proofs.Bools.{and_left, and_right}
-
-lanes-same : (f g : ℕ → ℕ) → ((k : ℕ) → f k ≡ g k) → (n i : ℕ) → lanes f n i ≡ lanes g n i
-unfolding lanes
-lanes-same f g e zero i = refl
-lanes-same f g e (suc n) i = ap₂ (λ (x y : ℕ). x * 256 + y) (lanes-same f g e n (suc i)) (e i)
+use Rattle.lines.proofs.Bools.{and_left, and_right, by-test}
 
 -- the same bytes, from another place of another function
 pub lanes-moved : (f g : ℕ → ℕ) (n i j : ℕ) → ((k : ℕ) → k < n → f (i + k) ≡ g (j + k)) → lanes f n i ≡ lanes g n j
@@ -72,7 +67,7 @@ module _ (i : ℕ) {x y : ℕ} {f g : ℕ → ℕ} (h : Holds i x f) (k : Holds 
   holds-add l = record { is = ap₂ (λ (a b : ℕ). a + b) h.is k.is ∙ lanes-add f g 8 i; small = l }
 
 pub holds_same : (i x : ℕ) {f : ℕ → ℕ} (g : ℕ → ℕ) → Holds i x f → ((n : ℕ) → f n ≡ g n) → x ≡ lanes g 8 i
-holds_same i x {f} g h e = h.is ∙ lanes-same f g e 8 i
+holds_same i x {f} g h e = h.is ∙ lanes-moved f g 8 i i (λ k l. e (i + k))
 
 -- a test that each number below n passes, by computation
 abbrev pub each_below : (ℕ → Bool) → ℕ → Bool
@@ -124,19 +119,12 @@ module _ (i x : ℕ) (f : ℕ → ℕ) (h : Holds i x f) where
 zero-stop : (y : ℕ) → y < 256 → bit_and (bit_or (bit_and y 127 + 127) y) 128 ≡ cond (eqb y 0) 0 128
 zero-stop y h = eqb-true _ _ (each_below_lem (λ (k : ℕ). eqb (bit_and (bit_or (bit_and k 127 + 127) k) 128) (cond (eqb k 0) 0 128)) 256 refl y h)
 
-by_eqb : (a b : ℕ) (P : Type 0) → (a ≡ b → P) → ((a ≡ b → ⊥) → P) → P
-by_eqb a b P y n = by (eqb a b) refl
-  where
-    by : (t : Bool) → eqb a b ≡ t → P
-    by true e = y (eqb-true a b e)
-    by false e = n (eqb-false a b e)
-
 -- bits that do not differ are the same
 xor-none : (a b : ℕ) → eqb (bit_xor a b) 0 ≡ eqb a b
 xor-none a b =
-    by_eqb (bit_xor a b) 0 (eqb (bit_xor a b) 0 ≡ eqb a b)
-    (λ e. eq-eqb _ _ e ∙ sym (eq-eqb a b (omega (arith, xor_add_and a b, and_le_l a b, and_le_r a b))))
-    (λ n. ne_eqb _ _ n ∙ sym (ne_eqb a b (λ e. n (ap (λ (c : ℕ). bit_xor c b) e ∙ xor_self b))))
+    by-test (eqb (bit_xor a b) 0)
+    (λ e. e ∙ sym (eq-eqb a b (omega (arith, eqb-true _ _ e, xor_add_and a b, and_le_l a b, and_le_r a b))))
+    (λ n. n ∙ sym (ne_eqb a b (λ e. eqb-false _ _ n (ap (λ (c : ℕ). bit_xor c b) e ∙ xor_self b))))
 
 mark-small : (t : Bool) → cond t 0 128 < 256
 mark-small true = omega arith
@@ -196,3 +184,5 @@ module _ (b : ℕ) (s : List ℕ) where
   lacks-is zero i h = refl
   lacks-is (suc n) i h =
       rw (drop-cons s i 0 (omega arith)) (lacks-first _ (not (eqb (get_or s i 0) b)) (without b (take n (drop (suc i) s))) (lacks-is n (suc i) (omega arith)))
+
+pub ruleset masks = (name-mask)

@@ -9,15 +9,15 @@ use mathlib.Core.Bool.{Bool, true, false, cond, not, ◌&&◌}
 use lib.ListN.{length, get_or, take, drop, length-append, length-take, length-drop, take-append-drop}
 use lib.Seq.{take-append_seam, drop-drop, drop-cons, get_or-drop, get_or-append-add, get_or-append_seam}
 use lib.Dec.{eqb, leb, ltb}
-use borrow.Author.Tests.{leb-true, ltb-true, eqb-true, le-leb, lt-ltb, eq-eqb, not-true}
+use borrow.Author.Tests.{leb-true, ltb-true, eqb-true, eqb-false, le-leb, lt-ltb, eq-eqb, not-true}
 use Rattle.lines.specs.Bytes.{part, is_printable, all_printable, without, printable_run, before}
 use Rattle.lines.specs.Line.{Line, heading, entry, line_bytes, line_end, written_line, written_length, good_length, opens, closes, formed, well_formed}
 use Rattle.lines.specs.Reading.{lines_before, is_line, line_form, line_from, line_at, read_as}
 use Rattle.lines.specs.declared.Cursor.{Cursor}
 use Rattle.lines.specs.declared.LineRead.{LineRead}
 use Rattle.lines.specs.declared.LineRead.TheVariants.{End, Bad, Heading, Entry}
-use Rattle.lines.proofs.Bools.{clash, and_left, and_right}
-use Rattle.lines.proofs.Reading.{line-is, at-end, line-from, line-good}
+use Rattle.lines.proofs.Bools.{clash, and_left, and_right, by-test}
+use Rattle.lines.proofs.Reading.{line-is, at-end, good-line}
 use Rattle.lines.proofs.Writing.{written-length}
 
 -- the well-formed line l stands in the text s at place a
@@ -33,7 +33,7 @@ unfolding all_printable
 run_of [] r e = refl
 run_of (x ∷ b) r e = simp (and_left (is_printable x) (all_printable b) e, run_of b r (and_right (is_printable x) (all_printable b) e), one-add)
 
-before_of : (x : ℕ) (k v : List ℕ) → without x k ≡ true → before x (k ++ x ∷ v) ≡ length k
+pub before_of : (x : ℕ) (k v : List ℕ) → without x k ≡ true → before x (k ++ x ∷ v) ≡ length k
 unfolding without
 before_of x [] v e = simp (eq-eqb x x refl)
 before_of x (b ∷ k) v e =
@@ -73,8 +73,7 @@ reads s c l h =
     let z : a + length b + 1 ≡ a + (length b + 1) = omega arith in
     let lf : get_or s (a + length b + 1) 0 ≡ 10 = rw z (sym (get_or-drop a s (length b + 1) 0) ∙ rw here (get_or-append-add b (13 ∷ 10 ∷ t) 1 0)) in
     let whole : part s a (a + length b) ≡ b = rw (q, here) (take-append_seam b (13 ∷ 10 ∷ t)) in
-    sym (line-from s c (a + length b) (omega arith) (ap (λ (m : ℕ). a + m) (sym run)))
-    ∙ sym (line-good s a (a + length b) n (is-line-of s a (a + length b) long cr lf))
+    sym (good-line s c (a + length b) (omega arith) (ap (λ (m : ℕ). a + m) (sym run)) (is-line-of s a (a + length b) long cr lf))
     ∙ ap (λ (k : List ℕ). line_form k a n) whole
     ∙ form-is l a n f
 
@@ -83,11 +82,7 @@ reads s c l h =
 run-printable : (r : List ℕ) → all_printable (take (printable_run r) r) ≡ true
 unfolding all_printable
 run-printable [] = refl
-run-printable (b ∷ r) = go (is_printable b) refl (run-printable r)
-  where
-    go : (t : Bool) → is_printable b ≡ t → all_printable (take (printable_run r) r) ≡ true → all_printable (take (cond t (1 + printable_run r) 0) (b ∷ r)) ≡ true
-    go true e ih = simp (one-add, e, ih)
-    go false e ih = refl
+run-printable (b ∷ r) = by-test (is_printable b) (λ e. simp (one-add, e, run-printable r)) (λ e. simp e)
 
 -- a list split at its first x
 record Split (x : ℕ) (b : List ℕ) (i : ℕ) : Type 0 where
@@ -105,12 +100,10 @@ split-more x y b i e r =
 split : (x : ℕ) (b : List ℕ) → before x b < length b → Split x b (before x b)
 unfolding without
 split x [] h = absurd (omega arith)
-split x (y ∷ b) h = go (eqb y x) refl h (split x b)
-  where
-    go : (t : Bool) → eqb y x ≡ t → cond (not t) (1 + before x b) 0 < suc (length b)
-        → (before x b < length b → Split x b (before x b)) → Split x (y ∷ b) (cond (not t) (1 + before x b) 0)
-    go true e k ih = record { name = []; value = b; whole = ap (λ (z : ℕ). z ∷ b) (eqb-true y x e); first = refl; size = refl }
-    go false e k ih = rw one-add (split-more x y b (before x b) e (ih (omega arith)))
+split x (y ∷ b) h =
+    by-test (eqb y x)
+    (λ e. rw e (record { name = []; value = b; whole = ap (λ (z : ℕ). z ∷ b) (eqb-true y x e); first = refl; size = refl }))
+    (λ e. let k : 1 + before x b < suc (length b) = rw e at h in rw (e, one-add) (split-more x y b (before x b) e (split x b (omega arith))))
 
 ended-tail : (s : List ℕ) (e : ℕ) → get_or s e 0 ≡ 13 → get_or s (e + 1) 0 ≡ 10 → e + 2 ≤ length s → drop e s ≡ 13 ∷ 10 ∷ drop (e + 2) s
 ended-tail s e p q h =
@@ -138,16 +131,23 @@ entry-split b a n y o p e =
 
 form_of : (b : List ℕ) (a n : ℕ) (y : LineRead) → line_form b a n ≡ y → (y ≡ Bad n → ⊥) → Formed b a n y
 unfolding line_form
-form_of b a n y e w = go (opens b) (closes b) (ltb (before 61 b) (length b)) refl refl refl e
-  where
-    go : (t u v : Bool) → opens b ≡ t → closes b ≡ u → ltb (before 61 b) (length b) ≡ v
-        → cond t (cond u (Heading a (a + length b) (record { at = a + (length b + 2); line = n })) (Bad n))
-        (cond v (Entry a (a + before 61 b) (a + length b) (record { at = a + (length b + 2); line = n })) (Bad n)) ≡ y
-        → Formed b a n y
-    go true true v p q r e = record { line = heading b; whole = refl; good = rw (p, q); is = e }
-    go true false v p q r e = absurd (w (sym e))
-    go false u true p q r e = entry-split b a n y p (split 61 b (ltb-true _ _ r)) e
-    go false u false p q r e = absurd (w (sym e))
+form_of b a n y e w =
+    by-test (opens b)
+    (λ p. by-test (closes b)
+    (λ q. record { line = heading b; whole = refl; good = rw (p, q); is = rw (p, q) at e })
+    (λ q. absurd (w (sym (rw (p, q) at e)))))
+    (λ p. by-test (ltb (before 61 b) (length b))
+    (λ r. entry-split b a n y p (split 61 b (ltb-true _ _ r)) (rw (p, r) at e))
+    (λ r. absurd (w (sym (rw (p, r) at e)))))
+
+-- a line is neither the end nor bad
+no-end : {A : Type 0} (l : Line) (a n : ℕ) → read_as l a n ≡ End → A
+no-end (heading h) a n e = clash (cc)
+no-end (entry k v) a n e = clash (cc)
+
+not_bad : {A : Type 0} (l : Line) (a n m : ℕ) → read_as l a n ≡ Bad m → A
+not_bad (heading h) a n m e = clash (cc)
+not_bad (entry k v) a n m e = clash (cc)
 
 -- what is read at the position c, where it is a line
 pub record ReadLine (s : List ℕ) (c : Cursor) (y : LineRead) : Type 0 where
@@ -190,21 +190,14 @@ stands s c y e p q =
 
 -- law (c): the end is read at the end of the text, and only there
 pub end_is : (s : List ℕ) (c : Cursor) → line_at s c ≡ End → length s ≤ c.at
-unfolding line_at line_from line_form
+unfolding line_at line_from
 end_is s c e =
     let a = c.at in
     let f = a + printable_run (drop a s) in
-    let b = part s a f in
-    go (leb (length s) a) (is_line s a f) (opens b) (closes b) (ltb (before 61 b) (length b)) (Heading a (a + length b) _) (Entry a (a + before 61 b) (a + length b) _) refl (λ h. clash (cc)) (λ h. clash (cc)) e
-  where
-    go : (t u v w z : Bool) (x y : LineRead) → leb (length s) c.at ≡ t → (x ≡ End → ⊥) → (y ≡ End → ⊥)
-        → cond t End (cond u (cond v (cond w x (Bad (lines_before c + 1))) (cond z y (Bad (lines_before c + 1)))) (Bad (lines_before c + 1))) ≡ End → length s ≤ c.at
-    go true u v w z x y p m k e = leb-true _ _ p
-    go false true true true z x y p m k e = absurd (m e)
-    go false true true false z x y p m k e = clash (cc)
-    go false true false w true x y p m k e = absurd (k e)
-    go false true false w false x y p m k e = clash (cc)
-    go false false v w z x y p m k e = clash (cc)
+    by-test (leb (length s) a) (leb-true (length s) a)
+    (λ h. by-test (is_line s a f)
+    (λ i. let o = form_of (part s a f) a (lines_before c + 1) End (rw (h, i) at e) (λ x. clash (cc)) in no-end o.line _ _ o.is)
+    (λ i. let z : Bad (lines_before c + 1) ≡ End = rw (h, i) at e in clash (cc)))
 
 pub end_reads : (s : List ℕ) (c : Cursor) → length s ≤ c.at → line_at s c ≡ End
 end_reads s c h = sym (at-end s c h)
@@ -218,7 +211,7 @@ pub record Moves (s : List ℕ) (c next : Cursor) : Type 0 where
   pub number : next.line ≡ lines_before c + 1
   pub counted : next.line ≤ next.at
 
-two : (l : Line) → 2 ≤ written_length l
+pub two : (l : Line) → 2 ≤ written_length l
 two (heading h) = omega arith
 two (entry k v) = omega arith
 
@@ -273,22 +266,9 @@ entry-moves s c a q e next p = let r = entry_read s c a q e next p in moves s c 
 
 -- a line of bad form is numbered as a line is
 pub bad-number : (s : List ℕ) (c : Cursor) (n : ℕ) → line_at s c ≡ Bad n → n ≡ lines_before c + 1
-unfolding line_at line_from line_form
 bad-number s c n e =
-    let a = c.at in
-    let f = a + printable_run (drop a s) in
-    let b = part s a f in
-    go (leb (length s) a) (is_line s a f) (opens b) (closes b) (ltb (before 61 b) (length b)) _ _ (λ h. clash (cc)) (λ h. clash (cc)) e
-  where
-    go : (t u v w z : Bool) (x y : LineRead) → (x ≡ Bad n → ⊥) → (y ≡ Bad n → ⊥)
-        → cond t End (cond u (cond v (cond w x (Bad (lines_before c + 1))) (cond z y (Bad (lines_before c + 1)))) (Bad (lines_before c + 1))) ≡ Bad n
-        → n ≡ lines_before c + 1
-    go true u v w z x y m k e = clash (cc)
-    go false true true true z x y m k e = absurd (m e)
-    go false true true false z x y m k e = cc
-    go false true false w true x y m k e = absurd (k e)
-    go false true false w false x y m k e = cc
-    go false false v w z x y m k e = cc
+    by-test (eqb n (lines_before c + 1)) (eqb-true n _)
+    (λ h. let r = stands s c (Bad n) e (λ x. clash (cc)) (λ x. eqb-false n _ h (cc)) in not_bad r.line _ _ n r.is)
 
 -- the places of a heading and of an entry are in order and within the text
 pub record Inside (s : List ℕ) (a q e : ℕ) : Type 0 where

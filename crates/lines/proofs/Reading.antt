@@ -4,7 +4,7 @@ use native.Mathlib.Omega.{arith}
 use native.Mathlib.Nat.{add-zero}
 use mathlib.Core.Path.{◌≡◌, refl, ap, sym, ◌∙◌}
 use mathlib.Core.List.{List, [], ◌∷◌}
-use mathlib.Core.Bool.{Bool, true, false, cond, not, ◌&&◌}
+use mathlib.Core.Bool.{true, false, not, ◌&&◌}
 use lib.ListN.{length, get_or, take, drop, length-take, length-drop}
 use lib.Seq.{take_all, get_or-drop, get_or-take, drop-drop}
 use lib.Dec.{eqb, leb}
@@ -18,7 +18,7 @@ use Rattle.lines.specs.Line.{good_length}
 use Rattle.lines.specs.Reading.{lines_before, ended, is_line, line_form, line_from, line_at}
 use Rattle.lines.specs.declared.Cursor.{Cursor}
 use Rattle.lines.specs.declared.LineRead.TheVariants.{End, Bad, Heading, Entry}
-use Rattle.lines.proofs.Bools.{and_left, and_right, and-true}
+use Rattle.lines.proofs.Bools.{and_left, and_right, and-true, by-test}
 
 -- ---- is_line
 
@@ -64,35 +64,32 @@ unfolding line_at
 at-end s c h = simp (le-leb (length s) c.at h)
 
 module _ (s : List ℕ) (c : Cursor) (e : ℕ) (h : c.at < length s) (q : e ≡ c.at + printable_run (drop c.at s)) where
-  pub line-from : line_from s c.at e (lines_before c + 1) ≡ line_at s c
+  line-from : line_from s c.at e (lines_before c + 1) ≡ line_at s c
   unfolding line_at
   line-from = simp (lt-leb (length s) c.at h) (rw q)
 
   pub end-le : e ≤ length s
   end-le = omega (arith, prefix_len-le-length is_printable (drop c.at s), length-drop c.at s)
 
-pub line-bad : (s : List ℕ) (a e n : ℕ) → is_line s a e ≡ false → Bad n ≡ line_from s a e n
-unfolding line_from
-line-bad s a e n p = rw p
+  pub bad-line : is_line s c.at e ≡ false → Bad (lines_before c + 1) ≡ line_at s c
+  unfolding line_from
+  bad-line p = rw p at line-from
 
-pub line-good : (s : List ℕ) (a e n : ℕ) → is_line s a e ≡ true → line_form (part s a e) a n ≡ line_from s a e n
-unfolding line_from
-line-good s a e n p = rw p
+  pub good-line : is_line s c.at e ≡ true → line_form (part s c.at e) c.at (lines_before c + 1) ≡ line_at s c
+  unfolding line_from
+  good-line p = rw p at line-from
 
 -- ---- the name of an entry ends at `=`, or the printable bytes end there
 
 name-run : (r : List ℕ) → (printable_run r ≡ name_run r + printable_run (drop (name_run r) r)) × (before 61 (take (printable_run r) r) ≡ name_run r)
 name-run [] = (refl, refl)
-name-run (b ∷ r) = go (eqb b 61) (is_printable b) refl refl (name-run r)
-  where
-    go : (t u : Bool) → eqb b 61 ≡ t → is_printable b ≡ u
-        → (printable_run r ≡ name_run r + printable_run (drop (name_run r) r)) × (before 61 (take (printable_run r) r) ≡ name_run r)
-        → (cond u (1 + printable_run r) 0 ≡ cond (cond t false u) (1 + name_run r) 0 + printable_run (drop (cond (cond t false u) (1 + name_run r) 0) (b ∷ r)))
-        × (before 61 (take (cond u (1 + printable_run r) 0) (b ∷ r)) ≡ cond (cond t false u) (1 + name_run r) 0)
-    go true true p q ih = (simp q (omega arith), simp (one-add, p))
-    go true false p q ih = (simp q (omega arith), refl)
-    go false true p q ih = (simp one-add (omega (arith, ih.0)), simp (one-add, p) (ap suc ih.1))
-    go false false p q ih = (simp q (omega arith), refl)
+name-run (b ∷ r) =
+    let ih = name-run r in
+    by-test (is_printable b)
+    (λ q. by-test (eqb b 61)
+    (λ p. (simp (p, q) (omega arith), simp (one-add, p, q)))
+    (λ p. (simp (one-add, p, q) (omega (arith, ih.0)), simp (one-add, p, q) (ap suc ih.1))))
+    (λ q. by-test (eqb b 61) (λ p. (simp (p, q) (omega arith), simp (p, q))) (λ p. (simp (p, q) (omega arith), simp (p, q))))
 
 module _ (s : List ℕ) (a q e : ℕ) (name : q ≡ a + name_run (drop a s)) (end : e ≡ q + printable_run (drop q s)) where
   pub entry-run : e ≡ a + printable_run (drop a s)
@@ -106,40 +103,53 @@ module _ (s : List ℕ) (a q e : ℕ) (name : q ≡ a + name_run (drop a s)) (en
       let g : e - a ≡ printable_run (drop a s) = omega (arith, entry-run) in
       rw g (ap (λ (m : ℕ). a + m) (name-run (drop a s)).1 ∙ sym name)
 
--- ---- the form of the line from a to e
+-- ---- the form of the line from the position to e
 
-module _ (s : List ℕ) (a e n : ℕ) (h : a < e) (k : e ≤ length s) where
+module _ (s : List ℕ) (c : Cursor) (e : ℕ) (h : c.at < length s) (run : e ≡ c.at + printable_run (drop c.at s)) (i : is_line s c.at e ≡ true) where
+  abbrev a : ℕ
+  a = c.at
+
+  abbrev n : ℕ
+  n = lines_before c + 1
+
+  long : a < e
+  long = (line-is s a e i).some
+
   len : length (part s a e) ≡ e - a
-  len = simp (length-take, length-drop) (omega arith)
+  len = simp (length-take, length-drop) (omega (arith, line-is s a e i))
 
   first : get_or (part s a e) 0 0 ≡ get_or s a 0
-  first = get_or-take (e - a) (drop a s) 0 0 (omega arith) ∙ simp (get_or-drop, add-zero)
+  first = get_or-take (e - a) (drop a s) 0 0 (omega (arith, long)) ∙ simp (get_or-drop, add-zero)
 
   last : get_or (part s a e) (length (part s a e) - 1) 0 ≡ get_or s (e - 1) 0
   last =
-      rw len (get_or-take (e - a) (drop a s) (e - a - 1) 0 (omega arith) ∙ get_or-drop a s (e - a - 1) 0 ∙ ap (λ (m : ℕ). get_or s m 0) (omega arith))
+      rw len (get_or-take (e - a) (drop a s) (e - a - 1) 0 (omega (arith, long)) ∙ get_or-drop a s (e - a - 1) 0 ∙ ap (λ (m : ℕ). get_or s m 0) (omega (arith, long)))
 
   ends : a + length (part s a e) ≡ e
-  ends = omega (arith, len)
+  ends = omega (arith, len, long)
 
   after : a + (length (part s a e) + 2) ≡ e + 2
-  after = omega (arith, len)
+  after = omega (arith, len, long)
 
-  pub heading-form : get_or s a 0 ≡ 91 → get_or s (e - 1) 0 ≡ 93 → Heading a e (record { at = e + 2; line = n }) ≡ line_form (part s a e) a n
+  pub heading-line : get_or s a 0 ≡ 91 → get_or s (e - 1) 0 ≡ 93 → Heading a e (record { at = e + 2; line = n }) ≡ line_at s c
   unfolding line_form
-  heading-form p q = simp (first, last, eq-eqb _ _ p, eq-eqb _ _ q, ends, after)
+  heading-line p q = simp (first, last, eq-eqb _ _ p, eq-eqb _ _ q, ends, after) at (good-line s c e h run i)
 
-  pub open-form : get_or s a 0 ≡ 91 → (get_or s (e - 1) 0 ≡ 93 → ⊥) → Bad n ≡ line_form (part s a e) a n
+  pub open-line : get_or s a 0 ≡ 91 → (get_or s (e - 1) 0 ≡ 93 → ⊥) → Bad n ≡ line_at s c
   unfolding line_form
-  open-form p q = simp (first, last, eq-eqb _ _ p, ne_eqb _ _ q)
+  open-line p q = simp (first, last, eq-eqb _ _ p, ne_eqb _ _ q) at (good-line s c e h run i)
 
   module _ (p : get_or s a 0 ≡ 91 → ⊥) (f : ℕ) (q : a + before 61 (part s a e) ≡ f) where
-    pub no-equals-form : f ≡ e → Bad n ≡ line_form (part s a e) a n
+    pub no-equals-line : f ≡ e → Bad n ≡ line_at s c
     unfolding line_form
-    no-equals-form r = simp (first, ne_eqb _ _ p, le-ltb (before 61 (part s a e)) (length (part s a e)) (omega (arith, len)))
+    no-equals-line r = simp (first, ne_eqb _ _ p, le-ltb (before 61 (part s a e)) (length (part s a e)) (omega (arith, len, long))) at (good-line s c e h run i)
 
-    pub entry-form : (f ≡ e → ⊥) → Entry a f e (record { at = e + 2; line = n }) ≡ line_form (part s a e) a n
+    pub entry-line : (f ≡ e → ⊥) → Entry a f e (record { at = e + 2; line = n }) ≡ line_at s c
     unfolding line_form
-    entry-form r =
+    entry-line r =
         let u = prefix_len-le-length (λ b. not (eqb b 61)) (part s a e) in
-        simp (first, ne_eqb _ _ p, lt-ltb (before 61 (part s a e)) (length (part s a e)) (omega (arith, len, u)), ends, after, q)
+        simp (first, ne_eqb _ _ p, lt-ltb (before 61 (part s a e)) (length (part s a e)) (omega (arith, len, long, u)), ends, after, q) at (good-line s c e h run i)
+
+pub ruleset line_tests = (ended-is, le-leb, lt-leb, eq-eqb, ne_eqb)
+
+pub ruleset laws = (at-end, end-le, line-is)

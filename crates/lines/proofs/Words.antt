@@ -118,3 +118,5 @@ word-is s i =
     let sum : from_le_bytes w64 eight ≡ word_at eight 8 0 = omega arith in
     sum
     ∙ lanes-moved (λ (k : ℕ). get_or eight k 0) (λ (k : ℕ). get_or s k 0) 8 0 i (λ k h. get_or-take 8 (drop i s) (0 + k) 0 (omega arith) ∙ get_or-drop i s (0 + k) 0 ∙ ap (λ (m : ℕ). get_or s m 0) (omega arith))
+
+pub ruleset blocks = (other-found, passed, found)

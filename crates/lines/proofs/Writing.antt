@@ -1,53 +1,45 @@
 -- Laws of writing: writes one after the other are one write. Assumes nothing.
-use Prim.Native.Nat.{ℕ, ◌+◌, ◌≤◌}
+use Prim.Native.Nat.{ℕ, ◌+◌, ◌-◌, ◌≤◌}
+use native.Mathlib.Nat.{zero-add}
 use native.Mathlib.Omega.{arith}
-use native.Mathlib.Nat.{add_assoc}
-use mathlib.Core.Path.{◌≡◌, sym, ap, subst, ◌∙◌}
-use mathlib.Core.List.{List, [], ◌∷◌, ◌++◌, append_assoc}
-use lib.ListN.{length, take, drop, length-append, length-drop}
-use lib.Seq.{take_at, drop_at, drop-drop, length-take-le}
-use borrow.Rule.Slice.PartMut.{put_mid}
+use mathlib.Core.Path.{◌≡◌, refl, sym, ap, subst, ◌∙◌}
+use mathlib.Core.List.{List, [], ◌∷◌, ◌++◌, append_assoc, append-nil}
+use lib.ListN.{length, take, drop, length-append, length-drop, drop_of_length-le}
+use lib.Seq.{take_at, drop_at, drop-drop}
+use borrow.Rule.Slice.PartMut.{mid_of, put_mid}
+use Rattle.std.proofs.lemmas.List.{take_rest}
 use Rattle.lines.specs.Line.{Line, heading, entry, line_end, written_line, written_length}
 use Rattle.lines.specs.Writing.{put, Wrote}
 
--- the k bytes from a on replaced by those of s
-pub put_mid-put : (d : List ℕ) (a k : ℕ) (s e : List ℕ) → e ≡ s → k ≡ length s → put_mid a k d e ≡ put d a s
+-- bytes written at the beginning, and what is left behind them
+at-start : {d s e : List ℕ} {r : ℕ} → Wrote d 0 s e r → (r ≡ length s) × (e ≡ s ++ drop (length s) d)
 unfolding put
-put_mid-put d a k s e p q = rw (p, q, drop-drop) (sym (append_assoc (take a d) s (drop (a + length s) d)))
+at-start {d} {s} p = (omega (arith, p.place), p.list ∙ rw zero-add refl)
 
-pub length-put : (d : List ℕ) (a : ℕ) (s : List ℕ) → a + length s ≤ length d → length (put d a s) ≡ length d
+-- a write at the beginning, and then one at the beginning of the rest, which lies behind its b bytes
+pub wrote-both : {d s d₁ : List ℕ} {b : ℕ} {t x : List ℕ} {e : ℕ}
+    → Wrote d 0 s d₁ b → Wrote (mid_of b (length d₁ - b) d₁) 0 t x e → Wrote d 0 (s ++ t) (put_mid b (length d₁ - b) d₁ x) (b + e)
 unfolding put
-length-put d a s h = simp (length-append, length-drop) (omega (arith, length-take-le a d (omega arith)))
-
-pub put-put : (d : List ℕ) (a : ℕ) (s t : List ℕ) → a ≤ length d → put (put d a s) (a + length s) t ≡ put d a (s ++ t)
-unfolding put
-put-put d a s t h =
-    let p : List ℕ = take a d ++ s in
-    let r : List ℕ = drop (a + length s) d in
-    let n : length p ≡ a + length s = simp (length-append, length-take-le) in
-    rw (
-      take_at p r (a + length s) n,
-      ← drop-drop (length t) (a + length s) (p ++ r),
-      drop_at p r (a + length s) n,
-      drop-drop,
-      length-append,
-      ← add_assoc,
-      ← append_assoc (take a d) s t,
-    )
-
--- two writes, one after the other
-pub wrote-both : {d : List ℕ} {a : ℕ} {s d₁ : List ℕ} {b : ℕ} {t d₂ : List ℕ} {e : ℕ}
-    → Wrote d a s d₁ b → Wrote d₁ b t d₂ e → a ≤ length d → Wrote d a (s ++ t) d₂ e
-wrote-both {d} {a} {s} {d₁} {b} {t} p q h =
-    record { place = simp length-append (omega (arith, p.place, q.place)); list = q.list ∙ rw (p.place, p.list) (put-put d a s t h) }
+wrote-both {d} {s} {d₁} {b} {t} {x} {e} p q =
+    let r : List ℕ = drop (length s) d in
+    let f = at-start p in
+    let g = at-start q in
+    let a : take b d₁ ≡ s = rw (f.0, f.1) (take_at s r (length s) refl) in
+    let m : mid_of b (length d₁ - b) d₁ ≡ r = take_rest d₁ b ∙ rw (f.0, f.1) (drop_at s r (length s) refl) in
+    let z : drop (length d₁ - b) (drop b d₁) ≡ [] = drop_of_length-le (drop b d₁) (omega (arith, length-drop b d₁)) in
+    let y : x ≡ t ++ drop (length t) r = rw m at g.1 in
+    record {
+      place = simp length-append (omega (arith, f.0, g.0));
+      list = rw (a, z, y, append-nil, drop-drop, length-append, zero-add) (sym (append_assoc s t (drop (length s + length t) d)));
+    }
 
 -- and the output stays as long as it was
-pub wrote-length : {d : List ℕ} {a : ℕ} {s e : List ℕ} {r : ℕ} → Wrote d a s e r → a + length s ≤ length d → length e ≡ length d
-wrote-length {d} {a} {s} p h = rw p.list (length-put d a s h)
+pub wrote-length : {d s e : List ℕ} {r : ℕ} → Wrote d 0 s e r → length s ≤ length d → length e ≡ length d
+wrote-length {d} {s} p h = rw (at-start p).1 (omega (arith, length-append s (drop (length s) d), length-drop (length s) d))
 
 -- a name, `=`, a value and CR LF are an entry's line
-pub entry-line : {d : List ℕ} {a : ℕ} {e : List ℕ} {r : ℕ} (n v : List ℕ) → Wrote d a (n ++ 61 ∷ [] ++ v ++ line_end) e r → Wrote d a (written_line (entry n v)) e r
-entry-line {d} {a} {e} {r} n v p = subst (λ (s : List ℕ). Wrote d a s e r) (ap (λ (s : List ℕ). s ++ line_end) (append_assoc n (61 ∷ []) v)) p
+pub entry-line : {d e : List ℕ} {r : ℕ} (n v : List ℕ) → Wrote d 0 (n ++ 61 ∷ [] ++ v ++ line_end) e r → Wrote d 0 (written_line (entry n v)) e r
+entry-line {d} {e} {r} n v p = subst (λ (s : List ℕ). Wrote d 0 s e r) (ap (λ (s : List ℕ). s ++ line_end) (append_assoc n (61 ∷ []) v)) p
 
 pub written-length : (l : Line) → length (written_line l) ≡ written_length l
 written-length (heading h) = length-append h line_end

@@ -90,6 +90,7 @@ impl ByteClass for InName {
         b != b'=' && Printable::holds(b)
     }
 
+    #[tactic(auto, using(crate::proofs::Lanes::masks))]
     fn stops(text: &[u8], i: usize) -> u64 {
         Printable::stops(text, i) | marks_of(text, i, b'=')
     }
@@ -122,6 +123,7 @@ fn first_stop(stops: u64) -> usize
 }
 
 // Where among the eight bytes from `i` on, one of which is `b`, the first `b` stands: 0 for the first of them.
+#[tactic(auto, using(crate::proofs::Words::blocks))]
 pub fn first_of(bytes: &[u8], i: usize, b: u8) -> usize
     requires { (i + 8 ≤ length bytes.now) × (without b (take 8 (drop i bytes.now)) ≡ false) }
     ensures { result ≡ other_run b (drop i bytes.now) }
@@ -145,7 +147,9 @@ fn run_rest<C: ByteClass>(text: &[u8], at: usize) -> usize
 }
 
 // Where the bytes of a class from `at` on end.
-// Eight bytes by an index: a `for` over `as_chunks` was tried, and takes 2 % more instructions to read lines.
+// Eight bytes by an index: a `for` over `as_chunks` was tried, and takes 2 % more instructions to read lines, which is most of what
+// a set takes: the shortest car's set would no longer be judged in a quarter of what inih takes (docs/BENCH.md).
+#[tactic(auto, using(crate::proofs::Words::blocks))]
 fn run_end<C: ByteClass>(text: &[u8], at: usize) -> usize
     requires { at ≤ length text.now }
     ensures { result ≡ at + prefix_len C.holds (drop at text.now) }
@@ -162,6 +166,7 @@ fn run_end<C: ByteClass>(text: &[u8], at: usize) -> usize
 }
 
 // Whether the bytes from `at` to `end` are as many as a line has, and CR LF follows.
+#[tactic(auto, unfolding(crate::specs::Reading::is_line), using(crate::proofs::Reading::line_tests))]
 fn is_line(text: &[u8], at: usize, end: usize) -> bool
     requires { (at ≤ end) × (end ≤ length text.now) }
     ensures { result ≡ is_line text.now at end }
@@ -177,6 +182,7 @@ impl Cursor {
     }
 
     // The line at this position, with the position after it.
+    #[tactic(auto, using(crate::proofs::Reading::laws))]
     pub fn read_line(self, text: &[u8]) -> LineRead
         ensures { result ≡ line_at text.now self }
     {
@@ -229,7 +235,8 @@ pub fn all_printable(part: &[u8]) -> bool
     run_end::<Printable>(part, 0) == part.len()
 }
 
-// Whether two parts of one length hold the same bytes from `at` on, byte by byte.
+// Whether two parts of one length hold the same bytes from `at` on, byte by byte: the few that `equal` leaves, by hand for its
+// reason.
 #[tactic(auto, using(crate::proofs::Loops::same_more, crate::proofs::Loops::same_stop, crate::proofs::Loops::same_end))]
 fn equal_rest(a: &[u8], b: &[u8], at: usize) -> bool
     requires { (at ≤ length a.now) × (length a.now ≡ length b.now) }
@@ -244,7 +251,8 @@ fn equal_rest(a: &[u8], b: &[u8], at: usize) -> bool
 }
 
 // Whether two parts hold the same bytes, capitals included.
-// Eight bytes at a time: `a == b` was tried, and takes 7 % more instructions to read lines and find their names.
+// Eight bytes at a time: `a == b` was tried, and takes 7 % more instructions to read lines and find their names, so that the
+// shortest diesel set would pass the 0.27 of what inih takes (02, 2/14; docs/BENCH.md).
 pub fn equal(a: &[u8], b: &[u8]) -> bool
     ensures { result ≡ same_bytes a.now b.now }
 {
@@ -261,39 +269,40 @@ pub fn equal(a: &[u8], b: &[u8]) -> bool
     equal_rest(a, b, i)
 }
 
-// The comparison of entry names: a function of its own, so that the compiler does not join it, which is done most, with the others.
+// The comparison of entry names, apart from the others: a later request (02, 6/14) gives it a count of its steps.
 pub fn same_name(a: &[u8], b: &[u8]) -> bool
     ensures { result ≡ same_bytes a.now b.now }
 {
     equal(a, b)
 }
 
-// The bytes of `part` into `out` from `at` on; the place after the last.
-fn write(out: &mut [u8], at: usize, part: &[u8]) -> usize
-    requires { at + length part.now ≤ length out.old }
-    ensures { Wrote out.old at part.now out.new result }
+// The bytes of `part` at the beginning of `out`; how many.
+#[tactic(auto, unfolding(crate::specs::Writing::put))]
+fn write(out: &mut [u8], part: &[u8]) -> usize
+    requires { length part.now ≤ length out.old }
+    ensures { Wrote out.old 0 part.now out.new result }
 {
-    let end = at + part.len();
-    out[at..end].copy_from_slice(part);
+    out[..part.len()].copy_from_slice(part);
+    part.len()
+}
+
+// The line of a heading at the beginning of `out`; its length.
+pub fn write_heading(out: &mut [u8], text: &[u8]) -> usize
+    requires { written_length (heading text.now) ≤ length out.old }
+    ensures { Wrote out.old 0 (written_line (heading text.now)) out.new result }
+{
+    let end = write(out, text);
+    end + write(&mut out[end..], b"\r\n")
+}
+
+// The line of an entry at the beginning of `out`; its length.
+pub fn write_entry(out: &mut [u8], name: &[u8], value: &[u8]) -> usize
+    requires { written_length (entry name.now value.now) ≤ length out.old }
+    ensures { Wrote out.old 0 (written_line (entry name.now value.now)) out.new result }
+{
+    let mut end = write(out, name);
+    end += write(&mut out[end..], b"=");
+    end += write(&mut out[end..], value);
+    end += write(&mut out[end..], b"\r\n");
     end
-}
-
-// The line of a heading into `out` from `at` on; the place after it.
-pub fn write_heading(out: &mut [u8], at: usize, text: &[u8]) -> usize
-    requires { at + written_length (heading text.now) ≤ length out.old }
-    ensures { Wrote out.old at (written_line (heading text.now)) out.new result }
-{
-    let a = write(out, at, text);
-    write(out, a, b"\r\n")
-}
-
-// The line of an entry into `out` from `at` on; the place after it.
-pub fn write_entry(out: &mut [u8], at: usize, name: &[u8], value: &[u8]) -> usize
-    requires { at + written_length (entry name.now value.now) ≤ length out.old }
-    ensures { Wrote out.old at (written_line (entry name.now value.now)) out.new result }
-{
-    let a = write(out, at, name);
-    let b = write(out, a, b"=");
-    let c = write(out, b, value);
-    write(out, c, b"\r\n")
 }

@@ -9,6 +9,7 @@ use std::io;
 use std::io::{BufWriter, Read, Write};
 
 // The bytes before the first byte 00, or all, and those after it.
+// Stands in three programs: a library for eight lines would be no plainer.
 fn split_part(input: &[u8]) -> (&[u8], &[u8])
     ensures { length result.1.now ≤ length input.now - 1 }
 {

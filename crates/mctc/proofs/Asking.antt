@@ -1,24 +1,15 @@
--- The calls that explain: a law for each way out. Assumes nothing.
-use Prim.Native.Nat.{ℕ, zero, suc, ◌≤◌, ◌<◌}
+-- Reasons as twelve numbers, and the fields of an answer as 32-bit numbers. Assumes nothing.
+use Prim.Native.Nat.{ℕ, zero, suc, ◌<◌}
 use native.Mathlib.Omega.{arith}
 use mathlib.Core.Path.{◌≡◌, refl, ap, sym, ◌∙◌}
 use mathlib.Core.List.{List, [], ◌∷◌}
 use lib.ListN.{length, get_or}
-use borrow.Author.Tests.{le-leb, lt-leb}
 use Rattle.serial.specs.Reading.{Ordered, read_identification}
 use Rattle.serial.specs.declared.FieldEnds.{FieldEnds}
 use Rattle.serial.specs.declared.FieldEnds.{FieldEnds}
 use Rattle.std.specs.Prelude.{Option, Some, None}
 use Rattle.serial.proofs.Exact.{read-sound}
-use Rattle.mctc.specs.Answers.{answer_size, Filled}
-use Rattle.mctc.specs.Calls.{too_short, AskCall}
 use Rattle.mctc.specs.Asked.{EndsFit}
-
-pub ask-short : (ns a : List ℕ) → length a < answer_size → AskCall ns a a too_short
-ask-short ns a l = let b = lt-leb answer_size (length a) l in record { number = rw b; answer = rw b }
-
-pub ask-done : (ns a b : List ℕ) (r : ℕ) → answer_size ≤ length a → Filled ns a b r → AskCall ns a b r
-ask-done ns a b r l f = let t = le-leb answer_size (length a) l in record { number = rw t f.number; answer = rw t f.answer }
 
 -- ---- twelve numbers, one by one
 

@@ -14,9 +14,13 @@ use Rattle.sets.specs.declared.Acceptance.{Acceptance}
 abbrev pub answer_size : ℕ
 answer_size = 16
 
--- these numbers, then zeros, before what is past the first 16
+-- these numbers, then zeros
+abbrev pub padded : List ℕ → List ℕ
+padded ns = ns ++ replicate (answer_size - length ns) 0
+
+-- before what is past the first 16
 abbrev pub answered : List ℕ → List ℕ → List ℕ
-answered ns lent = ns ++ (replicate (answer_size - length ns) 0 ++ drop answer_size lent)
+answered ns lent = padded ns ++ drop answer_size lent
 
 -- 01, Judging: "a refusal that carries its number, file and line"
 abbrev pub refusal_numbers : Refusal → List ℕ
@@ -83,12 +87,11 @@ abbrev pub set_numbers : Answer Acceptance → List ℕ
 set_numbers = numbers_of set_carried
 
 -- there are numbers, and the array has room for them
-pub record Room (ns lent : List ℕ) : Type 0 where
+pub record Room (ns : List ℕ) : Type 0 where
   pub some : 1 ≤ length ns
   pub few : length ns ≤ answer_size
-  pub enough : answer_size ≤ length lent
 
--- an array that is long enough was filled, and its first number returned
-pub record Filled (ns before after : List ℕ) (r : ℕ) : Type 0 where
+-- an array's first 16 numbers were set, and the first of them returned
+pub record Filled (ns after : List ℕ) (r : ℕ) : Type 0 where
   pub number : r ≡ get_or ns 0 0
-  pub answer : after ≡ answered ns before
+  pub answer : after ≡ padded ns

@@ -1,5 +1,7 @@
 -- What each exported function promises, for an answer array of any length: the returned number, and every lent array after the call.
-use Rattle.std.specs.Prelude.{ℕ, ◌≤◌, ◌≡◌, ◌↔◌, true, cond, List, leb, length, get_or, take}
+use Rattle.std.specs.Prelude.{ℕ, ◌<◌, ◌≤◌, ◌≡◌, ◌↔◌, true, cond, List, ◌++◌, leb, length, get_or, take, drop}
+use Rattle.std.specs.Borrow.{MutBor}
+use Rattle.std.specs.Fn.{CalledAtMut, Mut}
 use Rattle.std.proofs.Math.Option.{Option}
 use Rattle.kinds.specs.Kind.{Kind}
 use Rattle.tables.specs.File.{least_places}
@@ -31,6 +33,12 @@ returned ns lent = where_fits lent (get_or ns 0 0) too_short
 -- the array with these numbers; one that is too short stays
 abbrev pub answer_after : List ℕ → List ℕ → List ℕ
 answer_after ns lent = where_fits lent (answered ns lent) lent
+
+-- for the contract of the code: a call was made on the first 16 numbers of an array that is long enough, and else not at all; what the
+-- call captures is f before and f' after, the array a before and b after
+pub record AnsweredBy {F : Type 0} (g : Mut F (MutBor (List ℕ) × Unit {0}) (ℕ × (MutBor (List ℕ) × Unit {0}))) (f f' : F) (a b : List ℕ) (r : ℕ) : Type 0 where
+  pub short : length a < answer_size → (r ≡ too_short) × (b ≡ a) × (f' ≡ f)
+  pub done : answer_size ≤ length a → (m : List ℕ) × CalledAtMut g f (take answer_size a) r f' m × (b ≡ m ++ drop answer_size a)
 
 -- one file read alone (01, Writing: "One file can also be read alone, by its number"): text s, places p before and q after, answer array a before and b after
 pub record ReadCall (file : ℕ) (s p q a b : List ℕ) (r : ℕ) : Type 0 where

@@ -5,17 +5,19 @@
 
 pub mod asked; // asked.rt: what the judge goes by, for whoever explains a refusal
 
-ghost use Rattle.std.specs.Prelude.{◌≡◌, ◌≤◌, ◌∷◌, List, ℕ, length};
+ghost use Rattle.std.specs.Prelude.{◌∷◌, List, ℕ};
 ghost use Rattle.refusals.specs.Answer.{answer_is};
 ghost use Rattle.names.specs.Names as N;
 ghost use Rattle.sets.specs.Records.{caller_of, slices_of};
-ghost use Rattle.mctc.specs.Answers.{answer_size, refusal_numbers, numbers_of, read_carried, write_carried, name_carried, kind_carried, set_carried, due_carried, Room, Filled};
-ghost use Rattle.mctc.specs.Calls.{ReadCall, WriteCall, NameCall, KindCall, JudgeCall, DueCall};
+ghost use Rattle.mctc.specs.Answers.{refusal_numbers, numbers_of, read_carried, write_carried, name_carried, kind_carried, set_carried, due_carried, Room, Filled};
+ghost use Rattle.mctc.specs.Calls.{AnsweredBy, ReadCall, WriteCall, NameCall, KindCall, JudgeCall, DueCall};
 
 use columns::ColumnAcceptance;
 use files::FileAcceptance;
+use judge::SetSlices;
 use kinds::shapes::Shape;
 use names::Named;
+use places::PlacedText;
 use refusals::Refusal;
 use sets::Acceptance;
 use writing::WriteAcceptance;
@@ -26,23 +28,24 @@ const ANSWER_SIZE: usize = 16;
 // Returned where the answer array is too short; no refusal has this number.
 const TOO_SHORT: u32 = 4294967295;
 
-// The answer array: these numbers, then zeros. The first is returned.
-fn fill(answer: &mut [u32], numbers: &[u32]) -> u32
-    requires { Room numbers.now answer.old }
-    ensures { Filled numbers.now answer.old answer.new result }
+// The numbers of an answer.
+type Numbers = [u32; ANSWER_SIZE];
+
+// These numbers, then zeros. The first is returned.
+fn fill(answer: &mut Numbers, numbers: &[u32]) -> u32
+    requires { Room numbers.now }
+    ensures { Filled numbers.now answer.new result }
 {
-    places::clear(answer, ANSWER_SIZE);
+    *answer = [0; ANSWER_SIZE];
     answer[..numbers.len()].copy_from_slice(numbers);
     numbers[0]
 }
 
 // Document 01's number of the refusal, its file and its line.
-fn fill_refusal(answer: &mut [u32], refusal: Refusal) -> u32
-    requires { answer_size ≤ length answer.old }
-    ensures { Filled (refusal_numbers refusal) answer.old answer.new result }
+fn fill_refusal(answer: &mut Numbers, refusal: Refusal) -> u32
+    ensures { Filled (refusal_numbers refusal) answer.new result }
 {
-    let number = refusals::refusal_number(refusal.kind);
-    fill(answer, &[number, refusal.file, refusal.line])
+    fill(answer, &[refusal.kind.into(), refusal.file, refusal.line])
 }
 
 // What an acceptance carries, as the numbers that follow the first three.
@@ -50,16 +53,15 @@ trait Carries {
     ghost carried: { Self → List ℕ };
 
     // The answer of an acceptance.
-    fn fill(self, answer: &mut [u32]) -> u32
-        requires { answer_size ≤ length answer.old }
-        ensures { Filled (0 ∷ 0 ∷ 0 ∷ carried self) answer.old answer.new result };
+    fn fill(self, answer: &mut Numbers) -> u32
+        ensures { Filled (0 ∷ 0 ∷ 0 ∷ carried self) answer.new result };
 }
 
 // A file read alone.
 impl Carries for FileAcceptance {
     ghost carried = { read_carried };
 
-    fn fill(self, answer: &mut [u32]) -> u32 {
+    fn fill(self, answer: &mut Numbers) -> u32 {
         let byhand = u32::from(self.byhand);
         fill(answer, &[0, 0, 0, self.axles, 0, 0, 0, 0, 0, byhand])
     }
@@ -69,7 +71,7 @@ impl Carries for FileAcceptance {
 impl Carries for WriteAcceptance {
     ghost carried = { write_carried };
 
-    fn fill(self, answer: &mut [u32]) -> u32 {
+    fn fill(self, answer: &mut Numbers) -> u32 {
         fill(answer, &[0, 0, 0, self.length])
     }
 }
@@ -78,7 +80,7 @@ impl Carries for WriteAcceptance {
 impl Carries for Acceptance {
     ghost carried = { set_carried };
 
-    fn fill(self, answer: &mut [u32]) -> u32 {
+    fn fill(self, answer: &mut Numbers) -> u32 {
         let drift = u32::from(self.driftmark);
         let suspension = u32::from(self.suspensionmark);
         let gas = u32::from(self.gasmark);
@@ -106,7 +108,7 @@ impl Carries for Acceptance {
 impl Carries for Named {
     ghost carried = { name_carried };
 
-    fn fill(self, answer: &mut [u32]) -> u32 {
+    fn fill(self, answer: &mut Numbers) -> u32 {
         fill(answer, &[0, 0, 0, self.length, self.section])
     }
 }
@@ -115,7 +117,7 @@ impl Carries for Named {
 impl Carries for Shape {
     ghost carried = { kind_carried };
 
-    fn fill(self, answer: &mut [u32]) -> u32 {
+    fn fill(self, answer: &mut Numbers) -> u32 {
         fill(
             answer,
             &[0, 0, 0, self.form, self.most, self.decimals, self.words],
@@ -127,19 +129,29 @@ impl Carries for Shape {
 impl Carries for ColumnAcceptance {
     ghost carried = { due_carried };
 
-    fn fill(self, answer: &mut [u32]) -> u32 {
+    fn fill(self, answer: &mut Numbers) -> u32 {
         fill(answer, &[0, 0, 0, self.axles, self.count])
     }
 }
 
 // What a call says that accepts or refuses.
-fn fill_answer<A: Carries>(answer: &mut [u32], given: Result<A, Refusal>) -> u32
-    requires { answer_size ≤ length answer.old }
-    ensures { Filled (numbers_of A.carried (answer_is given)) answer.old answer.new result }
+fn fill_answer<A: Carries>(answer: &mut Numbers, given: Result<A, Refusal>) -> u32
+    ensures { Filled (numbers_of A.carried (answer_is given)) answer.new result }
 {
     match given {
         Err(x) => fill_refusal(answer, x),
         Ok(a) => a.fill(answer),
+    }
+}
+
+// What a call says, in the first numbers of an answer array that is long enough; else nothing is done.
+fn answered<F: FnMut(&mut Numbers) -> u32>(answer: &mut [u32], call: &mut F) -> u32
+    requires { F.IsAlwaysCallable call.old }
+    ensures { AnsweredBy F.FnMut call.old call.new answer.old answer.new result }
+{
+    match answer.first_chunk_mut::<ANSWER_SIZE>() {
+        Some(numbers) => call(numbers),
+        None => TOO_SHORT,
     }
 }
 
@@ -161,11 +173,7 @@ pub fn mctc_judge(
         suspension.now gas.now identification.now opacity.now)
         places.old places.new answer.old answer.new result }
 {
-    if answer.len() < ANSWER_SIZE {
-        return TOO_SHORT;
-    }
-    let judged = judge::judge_set(
-        stem,
+    let slices = SetSlices {
         ac2,
         acc,
         drift,
@@ -173,20 +181,21 @@ pub fn mctc_judge(
         gas,
         identification,
         opacity,
-        places,
-    );
-    fill_answer(answer, judged)
+    };
+    answered(
+        answer,
+        &mut |numbers| { fill_answer(numbers, judge::judge_set(stem, &slices, places)) },
+    )
 }
 
 // One file read alone (01, Writing).
 pub fn mctc_read(file: u32, text: &[u8], places: &mut [u32], answer: &mut [u32]) -> u32
     ensures { ReadCall file text.now places.old places.new answer.old answer.new result }
 {
-    if answer.len() < ANSWER_SIZE {
-        return TOO_SHORT;
-    }
-    let read = files::read_alone(file, text, places);
-    fill_answer(answer, read)
+    answered(
+        answer,
+        &mut |numbers| { fill_answer(numbers, files::read_alone(file, text, places)) },
+    )
 }
 
 // One file written from a text and its pairs (01, Writing).
@@ -200,55 +209,51 @@ pub fn mctc_write(
 ) -> u32
     ensures { WriteCall text.now places.now file axles output.old output.new answer.old answer.new result }
 {
-    if answer.len() < ANSWER_SIZE {
-        return TOO_SHORT;
-    }
-    let written = writing::write_file(text, places, file, axles, output);
-    fill_answer(answer, written)
+    let values = PlacedText { text, places };
+    answered(
+        answer,
+        &mut |numbers| { fill_answer(numbers, writing::write_file(values, file, axles, output)) },
+    )
 }
 
 // The name of an entry, by its number in the order of the file's pairs (01, Judging).
 pub fn mctc_entry_name(file: u32, entry: u32, output: &mut [u8], answer: &mut [u32]) -> u32
     ensures { NameCall file (N.entry_name file entry) output.old output.new answer.old answer.new result }
 {
-    if answer.len() < ANSWER_SIZE {
-        return TOO_SHORT;
-    }
-    let copied = names::copy_entry_name(file, entry, output);
-    fill_answer(answer, copied)
+    answered(
+        answer,
+        &mut |numbers| { fill_answer(numbers, names::copy_entry_name(file, entry, output)) },
+    )
 }
 
 // The heading of a section, brackets included, by its number in the order of the file's table (01, Bookings, Results).
 pub fn mctc_heading_name(file: u32, section: u32, output: &mut [u8], answer: &mut [u32]) -> u32
     ensures { NameCall file (N.heading_name file section) output.old output.new answer.old answer.new result }
 {
-    if answer.len() < ANSWER_SIZE {
-        return TOO_SHORT;
-    }
-    let copied = names::copy_heading(file, section, output);
-    fill_answer(answer, copied)
+    answered(
+        answer,
+        &mut |numbers| { fill_answer(numbers, names::copy_heading(file, section, output)) },
+    )
 }
 
 // What a filled value of an entry must look like, by its number in the order of the file's pairs (01, Kinds of value).
 pub fn mctc_kind(file: u32, entry: u32, answer: &mut [u32]) -> u32
     ensures { KindCall file (N.entry_kind file entry) answer.old answer.new result }
 {
-    if answer.len() < ANSWER_SIZE {
-        return TOO_SHORT;
-    }
-    let found = names::kind_of_entry(file, entry);
-    fill_answer(answer, found)
+    answered(
+        answer,
+        &mut |numbers| fill_answer(numbers, names::kind_of_entry(file, entry)),
+    )
 }
 
 // A word that an entry's value may be, by its number in the order of its list (01, Kinds of value).
 pub fn mctc_word(file: u32, entry: u32, word: u32, output: &mut [u8], answer: &mut [u32]) -> u32
     ensures { NameCall file (N.entry_word file entry word) output.old output.new answer.old answer.new result }
 {
-    if answer.len() < ANSWER_SIZE {
-        return TOO_SHORT;
-    }
-    let copied = names::copy_word(file, entry, word, output);
-    fill_answer(answer, copied)
+    answered(
+        answer,
+        &mut |numbers| { fill_answer(numbers, names::copy_word(file, entry, word, output)) },
+    )
 }
 
 // The due column of one file (01, Due entries).
@@ -262,9 +267,13 @@ pub fn mctc_due(
 ) -> u32
     ensures { DueCall file ac2.now text.now places.old places.new column.old column.new answer.old answer.new result }
 {
-    if answer.len() < ANSWER_SIZE {
-        return TOO_SHORT;
-    }
-    let given = columns::due_column(file, ac2, text, places, column);
-    fill_answer(answer, given)
+    answered(
+        answer,
+        &mut |numbers| {
+            fill_answer(
+                numbers,
+                columns::due_column(file, ac2, text, places, column),
+            )
+        },
+    )
 }

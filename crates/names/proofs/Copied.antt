@@ -13,6 +13,7 @@ use Rattle.refusals.specs.declared.Refusal.{Refusal}
 use Rattle.refusals.specs.declared.RefusalKind.TheVariants.{OutputTooShort, FileOrAxles}
 use Rattle.tables.specs.File.{table_of}
 use Rattle.tables.specs.Row.{heading_at}
+use Rattle.names.proofs.Lengths.{sections-few, heading-short, name-short}
 use Rattle.names.specs.Names.{Name, name_with, heading_name, Copies}
 use Rattle.names.specs.declared.Named.{Named}
 
@@ -46,3 +47,5 @@ module _ {file : ℕ} {out : List ℕ} where
   pub is_name : {after : List ℕ} {r : Result Named Refusal} {x : Option Name} {s u : List ℕ} {c : ℕ} → x ≡ some (name_with s c) → u ≡ s
       → Copies file (some (name_with u c)) out after r → Copies file x out after r
   is_name e b h = rw (e, ← b) h
+
+pub ruleset copies = (heading-none, heading-some, refused, is_name, sections-few, heading-short, name-short)

@@ -5,6 +5,7 @@ use mathlib.Core.Path.{◌≡◌, ap, sym, ◌∙◌}
 use mathlib.Core.Bool.{true}
 use mathlib.Core.Option.{Option, none, some}
 use mathlib.Core.List.{List, [], ◌∷◌, ◌++◌, map}
+use Rattle.std.proofs.lemmas.List.{get_or-map}
 use lib.Dec.{ltb}
 use lib.ListN.{length, get_or, length-append, length-map, get_or-append}
 use lib.Seq.{get_or-append-add}
@@ -14,11 +15,13 @@ use Rattle.kinds.specs.Shapes.{words_in, shape_of}
 use Rattle.kinds.specs.declared.shapes.Shape.{Shape}
 use Rattle.lines.proofs.Bools.{clash}
 use Rattle.kinds.proofs.Laws.{by-test, kind_count}
-use Rattle.kinds.proofs.ByKind.{map_at}
 use Rattle.tables.specs.Section.{Entry, Section, entries_of}
 use Rattle.tables.specs.File.{table_of}
 use Rattle.tables.specs.Row.{no_entry, row_kinds, row_kind}
 use Rattle.tables.proofs.Rows.{heading-row, entry_row}
+use Rattle.names.proofs.Lengths.{sections-few, heading-short, name-short}
+use Rattle.names.proofs.Copied.{refused, is_name}
+use Rattle.kinds.proofs.ByKind.{word-short}
 use Rattle.names.specs.Names.{Name, name_with, section_of_entry, entry_name, entry_kind, entry_word}
 use Rattle.names.specs.Steps.{Stands}
 use Rattle.names.specs.declared.Standing.{Standing}
@@ -40,7 +43,7 @@ row_of (s ∷ t) k h =
     (λ e.
     let l : k < length es = ltb-true _ _ e in
     let i : k + 0 + 1 ≡ suc k = omega arith in
-    rw (e, i, get_or-append es (entries_of t) no_entry k l) (get_or-append (map kind_in es) (row_kinds t) none k (omega arith) ∙ map_at kind_in es k no_entry none l))
+    rw (e, i, get_or-append es (entries_of t) no_entry k l) (get_or-append (map kind_in es) (row_kinds t) none k (omega arith) ∙ get_or-map kind_in es k no_entry none l))
     (λ e.
     let l : length es ≤ k = ltb-false _ _ e in
     let m = section_of_entry t (k - length es) in
@@ -107,3 +110,7 @@ module _ (file k : ℕ) where
 pub words_count : (s : Shape) (x : Kind) → s ≡ shape_of x → s.words ≡ length (words_in x)
 unfolding shape_of
 words_count s x e = ap (λ (y : Shape). y.words) e
+
+pub ruleset kinds_of = (sections-few, kind_row, kind-numbered, kind-none)
+
+pub ruleset words_of = (kind-none, word-absent, word-missing, word_some, section-is, words_count, refused, is_name, sections-few, word-short)

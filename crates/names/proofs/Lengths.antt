@@ -8,8 +8,7 @@ use lib.Dec.{leb}
 use lib.ListN.{length, get_or}
 use borrow.Author.Tests.{leb-true}
 use Rattle.lines.proofs.Bools.{and_left, and_right}
-use Rattle.kinds.specs.Kind.{Kind, Word, WordList, words, vehicle_types, categories, yes_no, petrol_directives, brake_controls, links, gas_links, counter_links, outcomes}
-use Rattle.kinds.specs.Shapes.{words_in}
+pub use Rattle.kinds.proofs.ByKind.{word-short}
 use Rattle.tables.specs.Section.{Section}
 use Rattle.tables.specs.Entries.{
   new_booking,
@@ -97,22 +96,3 @@ module _ (file : ℕ) where
 
   pub name-short : (c i : ℕ) → length (name_at (table_of file) c i) ≤ 34
   name-short c i = short-in t c i (and_right (all_short 27 (headings t)) (short_names t) rest)
-
--- ---- words
-
-words-short : (l : WordList) → all_short 14 (words l) ≡ true
-unfolding all_short words
-words-short vehicle_types = refl
-words-short categories = refl
-words-short yes_no = refl
-words-short petrol_directives = refl
-words-short brake_controls = refl
-words-short links = refl
-words-short gas_links = refl
-words-short counter_links = refl
-words-short outcomes = refl
-
-pub word-short : (x : Kind) (w : ℕ) → length (get_or (words_in x) w []) ≤ 14
-unfolding words_in
-word-short (Word l) w = short-at 14 (words l) w (words-short l)
-word-short _ w = omega arith

@@ -77,3 +77,5 @@ module _ (file k : ℕ) where
   -- there is no such entry
   pub reached-end : (c i : ℕ) → length (table_of file) ≤ c → Reached c i → entry_name file k ≡ none
   reached-end c i l r = r ∙ rw (drop_of_length-le (table_of file) l) (from-none c i)
+
+pub ruleset walk = (reached-first, reached-here, reached-next, reached-end)

@@ -28,6 +28,7 @@ struct Standing {
 }
 
 // Where the entry of a number stands.
+#[tactic(auto, using(crate::proofs::Sections::walk))]
 fn find_standing(file: u32, entry: u32) -> Option<Standing>
     ensures { MatchOption result (entry_name file entry ≡ none) (Stands file entry) }
 {
@@ -77,6 +78,7 @@ fn absent(file: u32) -> Refusal
 }
 
 // The name of a file's entry of that number, in the order of the pairs with all nine axles.
+#[tactic(auto, using(crate::proofs::Copied::copies))]
 pub fn copy_entry_name(file: u32, entry: u32, output: &mut [u8]) -> Result<Named, Refusal>
     ensures { Copies file (entry_name file entry) output.old output.new result }
 {
@@ -88,6 +90,7 @@ pub fn copy_entry_name(file: u32, entry: u32, output: &mut [u8]) -> Result<Named
 }
 
 // The heading of a file's section of that number, brackets included.
+#[tactic(auto, using(crate::proofs::Copied::copies))]
 pub fn copy_heading(file: u32, section: u32, output: &mut [u8]) -> Result<Named, Refusal>
     ensures { Copies file (heading_name file section) output.old output.new result }
 {
@@ -100,6 +103,7 @@ pub fn copy_heading(file: u32, section: u32, output: &mut [u8]) -> Result<Named,
 
 // The number of the kind of an entry that stands there. Before the row of entry k stand k entries, the heading of its
 // section and those of the sections before.
+#[tactic(auto, using(crate::proofs::EntryKinds::kinds_of))]
 fn kind_number(file: u32, entry: u32, standing: Standing) -> u8
     requires { Stands file entry standing }
     ensures { entry_kind file entry ≡ some (kind_of result) }
@@ -108,6 +112,7 @@ fn kind_number(file: u32, entry: u32, standing: Standing) -> u8
 }
 
 // What a filled value of a file's entry of that number must look like.
+#[tactic(auto, using(crate::proofs::EntryKinds::kinds_of))]
 pub fn kind_of_entry(file: u32, entry: u32) -> Result<Shape, Refusal>
     ensures { answer_is result ≡ kind_answer_of file (entry_kind file entry) }
 {
@@ -118,6 +123,7 @@ pub fn kind_of_entry(file: u32, entry: u32) -> Result<Shape, Refusal>
 }
 
 // The word of that number of a file's entry.
+#[tactic(auto, using(crate::proofs::EntryKinds::words_of))]
 pub fn copy_word(file: u32, entry: u32, word: u32, output: &mut [u8]) -> Result<Named, Refusal>
     ensures { Copies file (entry_word file entry word) output.old output.new result }
 {

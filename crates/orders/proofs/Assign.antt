@@ -15,7 +15,7 @@ use Rattle.orders.specs.AnyOrder.{Name, Value, Perm}
 use Rattle.orders.specs.Rows.{Row, heading_row, entry_row, same_row, row_number, Found, then, if_empty, fill_row, run}
 use Rattle.orders.proofs.Options.{then-inv, then_same}
 use Rattle.orders.proofs.Items.{Item, items}
-use Rattle.orders.proofs.Rows.{Case, case_row, Apart, Distinct}
+use Rattle.orders.proofs.Rows.{Case, by-case, case_row, Apart, Distinct}
 
 -- rows filled by items, one after the other
 unfoldable pub assign : List Row → Found → List Item → Option Found
@@ -125,19 +125,11 @@ assign-sound ks (p ∷ l) a c n e =
 -- in the table's order the rows fill up
 pub number-here : (k : Row) (ks : List Row) → row_number k (k ∷ ks) ≡ zero
 unfolding row_number
-number-here k ks = go (same_row k k) (case_row k k)
-  where
-    go : (t : Bool) → Case (k ≡ k) t → cond t zero (suc (row_number k ks)) ≡ zero
-    go true c = refl
-    go false c = absurd (c refl)
+number-here k ks = by-case (same_row k k) (case_row k k) (λ e c. rw e) (λ e c. absurd (c refl))
 
 pub number_past : (j k : Row) (ks : List Row) → ¬ (k ≡ j) → row_number j (k ∷ ks) ≡ suc (row_number j ks)
 unfolding row_number
-number_past j k ks n = go (same_row j k) (case_row j k)
-  where
-    go : (t : Bool) → Case (j ≡ k) t → cond t zero (suc (row_number j ks)) ≡ suc (row_number j ks)
-    go true c = absurd (n (sym c))
-    go false c = refl
+number_past j k ks n = by-case (same_row j k) (case_row j k) (λ e c. absurd (n (sym c))) (λ e c. rw e)
 
 lift-none : (k : Row) (x : Option Value) (ks : List Row) (a c : Found) → assign ks a [] ≡ some c → assign (k ∷ ks) (x ∷ a) [] ≡ some (x ∷ c)
 unfolding assign
@@ -176,12 +168,3 @@ assigned ks l c e = rw (filled_none ks, append-nil) at (assign-sound ks l (repli
 
 pub assigns : (ks : List Row) (l : List Item) (c : Found) → Distinct ks → length c ≡ length ks → Perm l (filled ks c) → assign ks (replicate (length ks) none) l ≡ some c
 assigns ks l c p n d = assign-perm ks (Permᴰ.symm d) (replicate (length ks) none) c (assign-filled ks c p n)
-
-pub assign-length : (ks : List Row) (l : List Item) (a c : Found) → assign ks a l ≡ some c → length c ≡ length a
-unfolding assign
-assign-length ks [] a c e = ap length (some_inj e)
-  where
-    some_inj : some a ≡ some c → c ≡ a
-    some_inj e = cc
-assign-length ks (p ∷ l) a c e =
-    assign-length ks l (set a (row_number p.0 ks) (some p.1)) c (assign-inv ks a p l c e).1 ∙ length-set a (row_number p.0 ks) (some p.1)

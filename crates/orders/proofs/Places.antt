@@ -4,6 +4,7 @@ use mathlib.Core.Path.{◌≡◌, refl, ap, sym, ◌∙◌}
 use mathlib.Core.Option.{some}
 use mathlib.Core.List.{List, [], ◌∷◌, ◌++◌, map, append_assoc}
 use native.Mathlib.Omega.{arith}
+use Rattle.std.proofs.lemmas.List.{get_or-map}
 use lib.ListN.{length, get_or, length-map, get_or-append}
 use lib.Seq.{get_or-append-add}
 use Rattle.lines.proofs.Bools.{clash}
@@ -35,17 +36,12 @@ heading_of t s = (get_or t s ([], [])).0
 abbrev pub names_of : Table → ℕ → List Name
 names_of t s = (get_or t s ([], [])).1
 
-get_d-map-lt : {A B : Type 0} (f : A → B) (l : List A) (i : ℕ) (d : A) (e : B) → i < length l → get_or (map f l) i e ≡ f (get_or l i d)
-get_d-map-lt f [] i d e l = absurd (omega arith)
-get_d-map-lt f (x ∷ xs) zero d e l = refl
-get_d-map-lt f (x ∷ xs) (suc i) d e l = get_d-map-lt f xs i d e (omega arith)
-
 -- what stands there
 pub rows-entry : (t : Table) (s i : ℕ) (d : Row) → s < length t → i < length (names_of t s) → get_or (rows t) (entry_place t s i) d ≡ entry_row (some (heading_of t s)) (get_or (names_of t s) i [])
 rows-entry [] s i d l m = absurd (omega arith)
 rows-entry (x ∷ t) zero i d l m =
     let n : i < length (map (entry_row (some x.0)) x.1) = rw length-map m in
-    get_or-append (map (entry_row (some x.0)) x.1) (rows t) d i n ∙ get_d-map-lt (entry_row (some x.0)) x.1 i [] d m
+    get_or-append (map (entry_row (some x.0)) x.1) (rows t) d i n ∙ get_or-map (entry_row (some x.0)) x.1 i [] d m
 rows-entry (x ∷ t) (suc s) i d l m =
     rw (← (length-map x.1 (entry_row (some x.0)))) (get_or-append-add (map (entry_row (some x.0)) x.1) (rows t) (entry_place t s i) d ∙ rows-entry t s i d (omega arith) m)
 

@@ -1,14 +1,14 @@
 -- The tests on names and rows decide their equality; a table that passes the test has no row twice. Assumes nothing.
 use Prim.Native.Nat.{ℕ}
 use mathlib.Core.Path.{◌≡◌, refl, sym}
-use mathlib.Core.Bool.{Bool, true, false, not, ◌&&◌, ◌||◌, true≢false}
+use mathlib.Core.Bool.{Bool, true, false, ◌&&◌, true≢false}
 use mathlib.Core.Option.{Option, none, some}
 use mathlib.Core.List.Permᴰ
 use mathlib.Core.List.{List, [], ◌∷◌, ◌++◌}
 use borrow.Author.Tests.{eqb-true, eqb-false}
 use lib.Dec.{eqb}
 use Rattle.lines.specs.Bytes.{same_bytes}
-use Rattle.lines.proofs.Bools.{clash}
+use Rattle.lines.proofs.Bools.{clash, by-test}
 use Rattle.orders.specs.AnyOrder.{Name, Perm}
 use Rattle.orders.specs.Rows.{Row, heading_row, entry_row, same_heading, same_row, is_one_of, all_distinct}
 
@@ -18,11 +18,7 @@ Case P true = P
 Case P false = ¬ P
 
 pub case-eqb : (m n : ℕ) → Case (m ≡ n) (eqb m n)
-case-eqb m n = go (eqb m n) refl
-  where
-    go : (t : Bool) → eqb m n ≡ t → Case (m ≡ n) t
-    go true e = eqb-true m n e
-    go false e = eqb-false m n e
+case-eqb m n = by-test (eqb m n) (λ e. rw e (eqb-true m n e)) (λ e. rw e (eqb-false m n e))
 
 and-case : {P Q R : Type 0} (s t : Bool) → Case P s → Case Q t → (P → Q → R) → (R → P) → (R → Q) → Case R (s && t)
 and-case true true p q f g h = f p q
@@ -48,6 +44,11 @@ case_row (heading_row a) (heading_row b) = and-case {P = Unit {0}} true (same_by
 case_row (heading_row a) (entry_row h b) = λ e. clash (cc)
 case_row (entry_row h a) (heading_row b) = λ e. clash (cc)
 case_row (entry_row h a) (entry_row g b) = and-case (same_heading h g) (same_bytes a b) (case-heading h g) (case-bytes a b) (λ p q. cc) (λ r. cc) (λ r. cc)
+
+-- which way such a test went
+pub by-case : {P A : Type 0} (t : Bool) → Case P t → (t ≡ true → P → A) → (t ≡ false → ¬ P → A) → A
+by-case true c f g = f refl c
+by-case false c f g = g refl c
 
 -- `x` is none of the list; no two of the list are the same
 module _ {A : Type 0} where
@@ -86,16 +87,8 @@ module _ {A : Type 0} where
 
 other-apart : (k : Row) (ks : List Row) → is_one_of k ks ≡ false → Apart k ks
 other-apart k [] e = tt
-other-apart k (x ∷ ks) e = go (same_row k x) (case_row k x) (other-apart k ks) e
-  where
-    go : (t : Bool) → Case (k ≡ x) t → (is_one_of k ks ≡ false → Apart k ks) → t || is_one_of k ks ≡ false → Apart k (x ∷ ks)
-    go true c ih e = absurd (true≢false e)
-    go false c ih e = (c, ih e)
+other-apart k (x ∷ ks) e = by-case (same_row k x) (case_row k x) (λ q c. absurd (true≢false (rw q at e))) (λ q c. (c, other-apart k ks (rw q at e)))
 
 pub distinct-rows : (ks : List Row) → all_distinct ks ≡ true → Distinct ks
 distinct-rows [] e = tt
-distinct-rows (k ∷ ks) e = go (is_one_of k ks) refl (distinct-rows ks) e
-  where
-    go : (t : Bool) → is_one_of k ks ≡ t → (all_distinct ks ≡ true → Distinct ks) → not t && all_distinct ks ≡ true → Distinct (k ∷ ks)
-    go true h ih e = absurd (true≢false (sym e))
-    go false h ih e = (other-apart k ks h, ih e)
+distinct-rows (k ∷ ks) e = by-test (is_one_of k ks) (λ h. absurd (true≢false (sym (rw h at e)))) (λ h. (other-apart k ks h, distinct-rows ks (rw h at e)))

@@ -12,7 +12,7 @@ use Rattle.lines.specs.Bytes.{same_bytes}
 use Rattle.lines.specs.Line.{Line, heading, entry}
 use Rattle.orders.specs.AnyOrder.{Name, Value, Table, Values, Perm, zip, Group, entry_line, lines_of, Each, done, next, AnyOrder}
 use Rattle.orders.specs.Rows.{Row, heading_row, entry_row, rows, run, by_section}
-use Rattle.orders.proofs.Rows.{Case, case-bytes, Apart, Distinct, apart-append, distinct_append, distinct-perm}
+use Rattle.orders.proofs.Rows.{by-case, case-bytes, Apart, Distinct, apart-append, distinct_append, distinct-perm}
 use Rattle.orders.proofs.Items.{Item, items}
 use Rattle.orders.proofs.Assign.{run-assign, assigned}
 use Rattle.orders.proofs.Complete.{entry_item, group_items, items-lines, filled-zip}
@@ -120,27 +120,15 @@ entry-all h (g ∷ gs) = filter_map-append (entry_under h) (map (entry_item g.0)
 none-under : (h : Name) (gs : List Group) → Apart h (headings gs) → entries_under h gs ≡ []
 unfolding entries_under headings only
 none-under h [] p = refl
-none-under h (g ∷ gs) p = go (same_bytes h g.0) (case-bytes h g.0) (none-under h gs p.1)
-  where
-    go : (t : Bool) → Case (h ≡ g.0) t → entries_under h gs ≡ [] → only t g.1 ++ entries_under h gs ≡ []
-    go true c i = absurd (p.0 c)
-    go false c i = i
+none-under h (g ∷ gs) p = by-case (same_bytes h g.0) (case-bytes h g.0) (λ e c. absurd (p.0 c)) (λ e c. rw e (none-under h gs p.1))
 
 under-here : (g : Group) (gs : List Group) → Apart g.0 (headings gs) → entries_under g.0 (g ∷ gs) ≡ g.1
 unfolding entries_under only
-under-here g gs p = go (same_bytes g.0 g.0) (case-bytes g.0 g.0)
-  where
-    go : (t : Bool) → Case (g.0 ≡ g.0) t → only t g.1 ++ entries_under g.0 gs ≡ g.1
-    go true c = rw (none-under g.0 gs p, append-nil)
-    go false c = absurd (c refl)
+under-here g gs p = by-case (same_bytes g.0 g.0) (case-bytes g.0 g.0) (λ e c. rw (e, none-under g.0 gs p, append-nil)) (λ e c. absurd (c refl))
 
 under-past : (h : Name) (g : Group) (gs : List Group) → ¬ (g.0 ≡ h) → entries_under h (g ∷ gs) ≡ entries_under h gs
 unfolding entries_under only
-under-past h g gs n = go (same_bytes h g.0) (case-bytes h g.0)
-  where
-    go : (t : Bool) → Case (h ≡ g.0) t → only t g.1 ++ entries_under h gs ≡ entries_under h gs
-    go true c = absurd (n (sym c))
-    go false c = refl
+under-past h g gs n = by-case (same_bytes h g.0) (case-bytes h g.0) (λ e c. absurd (n (sym c))) (λ e c. rw e)
 
 -- the sections with these headings, in this order
 gathered : List Group → List Name → List Group

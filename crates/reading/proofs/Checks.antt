@@ -8,7 +8,7 @@ use native.Mathlib.Omega.{arith}
 use lib.Dec.{eqb}
 use lib.ListN.{get_or}
 use borrow.Author.Tests.{eq-eqb, ne_eqb}
-use Rattle.lines.proofs.Bools.{clash}
+use Rattle.lines.proofs.Bools.{clash, by-test}
 use Rattle.tables.specs.Section.{Section}
 use Rattle.tables.specs.Row.{rows_before}
 use Rattle.reading.specs.Reading.{Check, passes, fails, first_wrong, first_absent}
@@ -34,34 +34,6 @@ module _ (wrong : ℕ → Bool) (number : ℕ) (line : ℕ → ℕ) where
   unfolding first_wrong
   wrong-none zero r h = refl
   wrong-none (suc n) r h = rw (h r (omega arith) (omega arith)) (wrong-none n (r + 1) (λ (j : ℕ) (p : r + 1 ≤ j) (q : j < r + 1 + n). h j (omega arith) (omega arith)))
-
-  -- rows one part after the other
-  pub wrong-over : (n m r : ℕ) → first n r ≡ passes → first (n + m) r ≡ first m (r + n)
-  unfolding first_wrong
-  wrong-over zero m r e =
-      let p : 0 + m ≡ m = omega arith in
-      let q : r + 0 ≡ r = omega arith in
-      rw (p, q)
-  wrong-over (suc n) m r e =
-      let p : suc n + m ≡ suc (n + m) = omega arith in
-      rw p (go (wrong r) e (wrong-over n m (r + 1)))
-    where
-      go : (t : Bool) → cond t (fails number (line r)) (first n (r + 1)) ≡ passes → (first n (r + 1) ≡ passes → first (n + m) (r + 1) ≡ first m (r + 1 + n))
-          → cond t (fails number (line r)) (first (n + m) (r + 1)) ≡ first m (r + suc n)
-      go true e ih = clash (cc)
-      go false e ih = ih e ∙ ap (λ (x : ℕ). first m x) (omega arith)
-
-  pub wrong-early : (n m r k l : ℕ) → first n r ≡ fails k l → first (n + m) r ≡ fails k l
-  unfolding first_wrong
-  wrong-early zero m r k l e = clash (cc)
-  wrong-early (suc n) m r k l e =
-      let p : suc n + m ≡ suc (n + m) = omega arith in
-      rw p (go (wrong r) e (wrong-early n m (r + 1) k l))
-    where
-      go : (t : Bool) → cond t (fails number (line r)) (first n (r + 1)) ≡ fails k l → (first n (r + 1) ≡ fails k l → first (n + m) (r + 1) ≡ fails k l)
-          → cond t (fails number (line r)) (first (n + m) (r + 1)) ≡ fails k l
-      go true e ih = e
-      go false e ih = ih e
 
   -- a loop's turn, from r to e
   module _ (r e : ℕ) where
@@ -89,11 +61,9 @@ module _ (t : List Section) (l : List ℕ) where
   pub absent-le : (n c : ℕ) → first_absent t l n c ≤ c + n
   unfolding first_absent
   absent-le zero c = omega arith
-  absent-le (suc n) c = go (eqb (get_or l (rows_before t c) 0) 0) (absent-le n (c + 1))
-    where
-      go : (b : Bool) → first_absent t l n (c + 1) ≤ c + 1 + n → cond b c (first_absent t l n (c + 1)) ≤ c + suc n
-      go true ih = omega arith
-      go false ih = omega arith
+  absent-le (suc n) c =
+      let ih = absent-le n (c + 1) in
+      by-test (eqb (get_or l (rows_before t c) 0) 0) (λ e. rw e (omega arith)) (λ e. rw e (omega arith))
 
   pub absent-is : (n c k : ℕ) → c ≤ k → k ≤ c + n → ((j : ℕ) → j < k → ¬ (get_or l (rows_before t j) 0 ≡ 0)) → get_or l (rows_before t k) 0 ≡ 0 → first_absent t l n c ≡ k
   unfolding first_absent

@@ -8,7 +8,7 @@ use borrow.Author.Tests.{le-leb, lt-leb}
 use Rattle.tables.specs.Section.{Section}
 use Rattle.tables.specs.Row.{row_count, rows_before, row_kinds}
 use Rattle.reading.specs.Tables.{most_bytes}
-use Rattle.reading.specs.Reading.{Slots, empty_slots, stopped, scanned, passes, fails, sections_found, check_gap, check_absent, check_kinds, Reading, refused, read_slots, judge_slots, read_scan, read_text}
+use Rattle.reading.specs.Reading.{Slots, empty_slots, stopped, scanned, passes, fails, sections_found, check_gap, check_absent, Reading, refused, judge_slots, read_scan, read_text}
 use Rattle.reading.specs.Scanning.{Ready, Scanned}
 use Rattle.lines.specs.Bytes.{all_printable}
 use Rattle.reading.proofs.Reduce.{empty-at}
@@ -26,32 +26,12 @@ module _ (t : List Section) (least : ℕ) (s : List ℕ) (a : Slots) (c n : ℕ)
   judge-few l = from ∙ rw (lt-leb least c l)
 
   module _ (l : least ≤ c) where
-    pub judge-gap : (k i : ℕ) → check_gap a.line_numbers n ≡ fails k i → judged ≡ refused k i
-    judge-gap k i e =
-        let f = rw rows at e in
-        from ∙ rw (le-leb least c l, f)
-
     module _ (g : check_gap a.line_numbers n ≡ passes) where
       pub judge-absent : (k i : ℕ) → check_absent (row_kinds t) a.line_numbers n ≡ fails k i → judged ≡ refused k i
       judge-absent k i e =
           let f = rw rows at g in
           let h = rw rows at e in
           from ∙ rw (le-leb least c l, f, h)
-
-      module _ (b : check_absent (row_kinds t) a.line_numbers n ≡ passes) where
-        pub judge-kinds : (k i : ℕ) → check_kinds (row_kinds t) s a n ≡ fails k i → judged ≡ refused k i
-        judge-kinds k i e =
-            let f = rw rows at g in
-            let h = rw rows at b in
-            let j = rw rows at e in
-            from ∙ rw (le-leb least c l, f, h, j)
-
-        pub judge-read : check_kinds (row_kinds t) s a n ≡ passes → judged ≡ read_slots t a c
-        judge-read e =
-            let f = rw rows at g in
-            let h = rw rows at b in
-            let j = rw rows at e in
-            from ∙ rw (le-leb least c l, f, h, j)
 
 -- ---- the scan, and what follows from it
 

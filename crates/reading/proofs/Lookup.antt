@@ -1,23 +1,23 @@
 -- The row by section and place is the row's number in the list of the table's rows. Assumes nothing.
 use Prim.Native.Nat.{ℕ, zero, suc, ◌+◌, ◌<◌, ◌≤◌}
 use mathlib.Core.Path.{◌≡◌, refl, ap, sym, ◌∙◌}
-use mathlib.Core.Bool.{Bool, true, false, cond}
 use mathlib.Core.Option.{Option, none, some}
 use mathlib.Core.List.{List, [], ◌∷◌, ◌++◌, map, map-append, append_assoc}
 use native.Mathlib.Omega.{arith}
+use native.Mathlib.Nat.{zero-add}
 use lib.Dec.{ltb}
 use lib.ListN.{length, get_or, take, drop, length-append, length-map, take-append-drop, get_or-map}
 use lib.Seq.{get_or-append-add}
 use borrow.Author.Tests.{ltb-true, ltb-false}
 use Rattle.lines.specs.Bytes.{same_bytes}
-use Rattle.lines.proofs.Bools.{clash}
+use Rattle.lines.proofs.Bools.{clash, by-test}
 use Rattle.kinds.specs.Value.{word_index}
 use Rattle.tables.specs.Section.{Section}
 use Rattle.tables.specs.Row.{no_section, headings, names, heading_at, entries_in, index_of, section_of, entry_in, row_count, rows_before, row_at, row_kinds}
 use Rattle.tables.proofs.Rows.{rows-le}
 use Rattle.orders.specs.AnyOrder.{Name}
 use Rattle.orders.specs.Rows.{Row, heading_row, entry_row, rows, row_number}
-use Rattle.orders.proofs.Rows.{Case, case-bytes, Apart, Distinct}
+use Rattle.orders.proofs.Rows.{by-case, case-bytes, Apart, Distinct}
 use Rattle.orders.proofs.Assign.{number_past}
 use Rattle.orders.proofs.Sound.{distinct-headings}
 use Rattle.orders.proofs.Places.{number_at, entry_place, heading_of, names_of, rows-entry, number-apart, no_name, rows_append}
@@ -26,33 +26,21 @@ use Rattle.reading.specs.Reading.{heading_row_of, entry_row_of}
 
 -- ---- the place of a name
 
-pub index-le : (n : Name) (xs : List Name) → index_of n xs ≤ length xs
-unfolding word_index
-index-le n [] = omega arith
-index-le n (x ∷ xs) = go (same_bytes n x) (index-le n xs)
-  where
-    go : (t : Bool) → index_of n xs ≤ length xs → cond t zero (suc (index_of n xs)) ≤ suc (length xs)
-    go true ih = omega arith
-    go false ih = omega arith
-
 pub index-inv : (n : Name) (xs : List Name) → index_of n xs < length xs → get_or xs (index_of n xs) [] ≡ n
 unfolding word_index
 index-inv n [] l = absurd (omega arith)
-index-inv n (x ∷ xs) l = go (same_bytes n x) (case-bytes n x) (index-inv n xs) l
-  where
-    go : (t : Bool) → Case (n ≡ x) t → (index_of n xs < length xs → get_or xs (index_of n xs) [] ≡ n)
-        → cond t zero (suc (index_of n xs)) < suc (length xs) → get_or (x ∷ xs) (cond t zero (suc (index_of n xs))) [] ≡ n
-    go true c ih l = sym c
-    go false c ih l = ih (omega arith)
+index-inv n (x ∷ xs) l =
+    by-case (same_bytes n x) (case-bytes n x)
+    (λ e c. rw e (sym c))
+    (λ e c. let m : suc (index_of n xs) < suc (length xs) = rw e at l in rw e (index-inv n xs (omega arith)))
 
 index-apart : (n : Name) (xs : List Name) → length xs ≤ index_of n xs → Apart n xs
 unfolding word_index
 index-apart n [] l = tt
-index-apart n (x ∷ xs) l = go (same_bytes n x) (case-bytes n x) (index-apart n xs) l
-  where
-    go : (t : Bool) → Case (n ≡ x) t → (length xs ≤ index_of n xs → Apart n xs) → suc (length xs) ≤ cond t zero (suc (index_of n xs)) → Apart n (x ∷ xs)
-    go true c ih l = absurd (omega arith)
-    go false c ih l = (c, ih (omega arith))
+index-apart n (x ∷ xs) l =
+    by-case (same_bytes n x) (case-bytes n x)
+    (λ e c. let m : suc (length xs) ≤ zero = rw e at l in absurd (omega arith))
+    (λ e c. let m : suc (length xs) ≤ suc (index_of n xs) = rw e at l in (c, index-apart n xs (omega arith)))
 
 -- ---- the rows of a table
 
@@ -83,21 +71,10 @@ rows-less [] j (suc c) p q = absurd (omega arith)
 rows-less (x ∷ t) zero (suc c) p q = omega arith
 rows-less (x ∷ t) (suc j) (suc c) p q = omega (arith, rows-less t j c (omega arith) (omega arith))
 
--- past the last section there is no row
-pub rows-past : (t : List Section) (c : ℕ) → length t ≤ c → rows_before t c ≡ row_count t
-unfolding row_count
-rows-past [] zero l = refl
-rows-past [] (suc c) l = refl
-rows-past (x ∷ t) zero l = absurd (omega arith)
-rows-past (x ∷ t) (suc c) l = omega (arith, rows-past t c (omega arith))
-
 -- ---- headings
 
 skip-names : (h g : Name) (ns : List Name) (ks : List Row) → row_number (heading_row h) (map (entry_row (some g)) ns ++ ks) ≡ length ns + row_number (heading_row h) ks
-skip-names h g [] ks = sym (go (row_number (heading_row h) ks))
-  where
-    go : (m : ℕ) → 0 + m ≡ m
-    go m = omega arith
+skip-names h g [] ks = sym (zero-add (row_number (heading_row h) ks))
 skip-names h g (n ∷ ns) ks =
     let ih = skip-names h g ns ks in
     number_past (heading_row h) (entry_row (some g) n) (map (entry_row (some g)) ns ++ ks) (λ e. clash (cc)) ∙ omega arith
@@ -105,15 +82,9 @@ skip-names h g (n ∷ ns) ks =
 pub heading-number : (t : List Section) (h : Name) → row_number (heading_row h) (table_rows t) ≡ heading_row_of t h
 unfolding row_number word_index row_count
 heading-number [] h = refl
-heading-number (x ∷ t) h = go (same_bytes h x.heading) (heading-number t h)
-  where
-    go : (b : Bool) → row_number (heading_row h) (table_rows t) ≡ heading_row_of t h
-        → cond b zero (suc (row_number (heading_row h) (map (entry_row (some x.heading)) (names x.entries) ++ table_rows t)))
-        ≡ rows_before (x ∷ t) (cond b zero (suc (section_of t h)))
-    go true ih = refl
-    go false ih =
-        let n = skip-names h x.heading (names x.entries) (table_rows t) in
-        omega (arith, ih, length-map x.entries (λ e. e.name))
+heading-number (x ∷ t) h =
+    let n = skip-names h x.heading (names x.entries) (table_rows t) in
+    by-test (same_bytes h x.heading) (λ e. rw e) (λ e. rw e (omega (arith, heading-number t h, n, length-map x.entries (λ e. e.name))))
 
 -- ---- entries
 
@@ -165,36 +136,32 @@ entry_found t c n l = index-inv n (names (entries_in t c)) (rw length-map l)
 pub entry-number : (t : List Section) (c : ℕ) (n : Name) → Distinct (table_rows t) → c < length t
     → row_number (entry_row (some (heading_at t c)) n) (table_rows t) ≡ entry_row_of t c n
 unfolding row_at
-entry-number t c n d l = go (ltb (entry_in t c n) (length (entries_in t c))) refl
-  where
-    go : (b : Bool) → ltb (entry_in t c n) (length (entries_in t c)) ≡ b
-        → row_number (entry_row (some (heading_at t c)) n) (table_rows t) ≡ cond b (rows_before t c + 1 + entry_in t c n) (row_count t)
-    go true e =
-        let i = entry_in t c n in
-        let m = ltb-true i (length (entries_in t c)) e in
-        let k : get_or (table_rows t) (rows_before t c + 1 + i) no_row ≡ entry_row (some (heading_at t c)) n =
-        entry_at t c i no_row l m ∙ ap (λ (x : Name). entry_row (some (heading_at t c)) x) (entry_found t c n m) in
-        ap (λ (x : Row). row_number x (table_rows t)) (sym k)
-        ∙ number_at (table_rows t) (rows_before t c + 1 + i) no_row d (omega (arith, entry_in_lem t c i l m, rows-count t))
-    go false e =
-        let z : length (names (entries_in t c)) ≤ entry_in t c n = rw length-map (ltb-false _ _ e) in
-        let a : Apart n (names_of (name_table t) c) = rw (names-are t c) (index-apart n (names (entries_in t c)) z) in
-        let p = no_name (name_table t) c n (distinct-headings (name_table t) d) (rw length-map l) a in
-        let q : Apart (entry_row (some (heading_at t c)) n) (table_rows t) = rw (heading-is t c) at p in
-        number-apart (entry_row (some (heading_at t c)) n) (table_rows t) q ∙ rows-count t
+entry-number t c n d l =
+    let i = entry_in t c n in
+    by-test (ltb i (length (entries_in t c)))
+    (λ e.
+    let m = ltb-true i (length (entries_in t c)) e in
+    let k : get_or (table_rows t) (rows_before t c + 1 + i) no_row ≡ entry_row (some (heading_at t c)) n =
+    entry_at t c i no_row l m ∙ ap (λ (x : Name). entry_row (some (heading_at t c)) x) (entry_found t c n m) in
+    rw e (ap (λ (x : Row). row_number x (table_rows t)) (sym k)
+    ∙ number_at (table_rows t) (rows_before t c + 1 + i) no_row d (omega (arith, entry_in_lem t c i l m, rows-count t))))
+    (λ e.
+    let z : length (names (entries_in t c)) ≤ i = rw length-map (ltb-false _ _ e) in
+    let a : Apart n (names_of (name_table t) c) = rw (names-are t c) (index-apart n (names (entries_in t c)) z) in
+    let p = no_name (name_table t) c n (distinct-headings (name_table t) d) (rw length-map l) a in
+    let q : Apart (entry_row (some (heading_at t c)) n) (table_rows t) = rw (heading-is t c) at p in
+    rw e (number-apart (entry_row (some (heading_at t c)) n) (table_rows t) q ∙ rows-count t))
 
 -- a row of the table that an entry of section c has is that of its name under the section's heading
 pub entry_row_lem : (t : List Section) (c : ℕ) (n : Name) → c < length t → entry_row_of t c n < row_count t
     → get_or (table_rows t) (entry_row_of t c n) no_row ≡ entry_row (some (heading_at t c)) n
 unfolding row_at
-entry_row_lem t c n l h = go (ltb (entry_in t c n) (length (entries_in t c))) refl h
-  where
-    go : (b : Bool) → ltb (entry_in t c n) (length (entries_in t c)) ≡ b → cond b (rows_before t c + 1 + entry_in t c n) (row_count t) < row_count t
-        → get_or (table_rows t) (cond b (rows_before t c + 1 + entry_in t c n) (row_count t)) no_row ≡ entry_row (some (heading_at t c)) n
-    go true e h =
-        let m = ltb-true (entry_in t c n) (length (entries_in t c)) e in
-        entry_at t c (entry_in t c n) no_row l m ∙ ap (λ (x : Name). entry_row (some (heading_at t c)) x) (entry_found t c n m)
-    go false e h = absurd (omega arith)
+entry_row_lem t c n l h =
+    by-test (ltb (entry_in t c n) (length (entries_in t c)))
+    (λ e.
+    let m = ltb-true (entry_in t c n) (length (entries_in t c)) e in
+    rw e (entry_at t c (entry_in t c n) no_row l m ∙ ap (λ (x : Name). entry_row (some (heading_at t c)) x) (entry_found t c n m)))
+    (λ e. let k : row_count t < row_count t = rw e at h in absurd (omega arith))
 
 -- ---- the heading of a section
 

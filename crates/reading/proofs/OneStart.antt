@@ -11,10 +11,10 @@ use lib.ListN.{length, get_or, take, drop, length-append}
 use lib.Seq.{take-append_seam, drop-append_seam}
 use borrow.Author.Tests.{eqb-true, eq-eqb, not-true}
 use Rattle.lines.specs.Bytes.{part, all_printable, without}
-use Rattle.lines.specs.Line.{Line, heading, entry, line_bytes, written_line, written_length, text_of, good_length, opens, closes, formed, well_formed, all_well_formed}
+use Rattle.lines.specs.Line.{Line, heading, entry, line_bytes, written_line, text_of, good_length, opens, closes, formed, well_formed, all_well_formed}
 use Rattle.lines.specs.Reading.{start, read_as}
 use Rattle.lines.proofs.Bools.{clash, and_left, and_right}
-use Rattle.lines.proofs.Lines.{Stands, reads}
+use Rattle.lines.proofs.Lines.{Stands, reads, two}
 use Rattle.lines.proofs.Writing.{written-length}
 use Rattle.lines.proofs.Texts.{heading-part, name-part, value-part}
 use Rattle.kinds.specs.Value.{width}
@@ -55,11 +55,7 @@ same_line l m x y g h e =
     reads-alike s l m a b (sym (reads s start l a) ∙ reads s start m b)
 
 no_line : (l : Line) (x : List ℕ) → written_line l ++ x ≡ [] → ⊥
-no_line l x e = go l (written-length l) (length-append (written_line l) x ∙ omega arith) (ap length e)
-  where
-    go : (l : Line) → length (written_line l) ≡ written_length l → length (written_line l ++ x) ≡ length (written_line l) + length x → length (written_line l ++ x) ≡ 0 → ⊥
-    go (heading h) p q r = omega arith
-    go (entry n v) p q r = omega arith
+no_line l x e = omega (arith, ap length e, length-append (written_line l) x, written-length l, two l)
 
 -- whole lines that a text begins with are its first lines
 record Begins (b ls : List Line) (x : List ℕ) : Type 0 where

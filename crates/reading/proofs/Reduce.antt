@@ -1,21 +1,23 @@
 -- Forgetting reasons and lines, the scan of a text is the run over its lines, and the values are those at the pairs. Assumes nothing.
 use Prim.Native.Nat.{ℕ, zero, suc, ◌+◌, ◌-◌, ◌<◌, ◌≤◌}
 use mathlib.Core.Path.{◌≡◌, refl, ap, sym, ◌∙◌}
-use mathlib.Core.Bool.{Bool, true, false, cond}
+use mathlib.Core.Bool.{true, false, cond}
 use mathlib.Core.Option.{Option, none, some}
 use mathlib.Core.List.{List, [], ◌∷◌, ◌++◌, map}
 use native.Mathlib.Omega.{arith}
 use native.Mathlib.Numerals.{add-one}
 use lib.Dec.{eqb, ltb}
+use Rattle.std.proofs.lemmas.List.{get_or_default}
 use lib.ListN.{length, get_or, set, replicate, length-set, length-replicate, get_or-eq_default}
 use borrow.Author.Tests.{eqb-true, ltb-true, ltb-false, ne_eqb, eq-eqb}
 use Rattle.lines.specs.Bytes.{part}
 use Rattle.lines.specs.Line.{Line, heading, entry}
 use Rattle.lines.specs.Layout.{Layout, done, bad_at, heading_at, entry_at, onto, lines_in}
-use Rattle.lines.proofs.Bools.{clash}
+use Rattle.lines.proofs.Bools.{clash, by-test}
 use Rattle.places.specs.Places.{Pair, value_at}
 use Rattle.tables.specs.Section.{Section}
 use Rattle.tables.specs.Row.{row_count, rows_before, section_of}
+use Rattle.tables.proofs.Sections.{rows_all}
 use Rattle.orders.specs.AnyOrder.{Name, Value, Table, zip}
 use Rattle.orders.specs.Rows.{Row, heading_row, entry_row, rows, row_number, Found, then, if_empty, fill_row, run}
 use Rattle.orders.proofs.Options.{then-comm, then-then}
@@ -23,7 +25,7 @@ use Rattle.orders.proofs.Rows.{Apart, Distinct}
 use Rattle.orders.proofs.Places.{number-apart}
 use Rattle.reading.specs.Fitting.{name_table}
 use Rattle.reading.specs.Reading.{heading_row_of, entry_row_of, Slots, empty_slots, fill, is_free, Scan, stopped, scanned, scan}
-use Rattle.reading.proofs.Lookup.{table_rows, rows-count, heading-number, entry-number, heading_above, heading-some, heading-none, heading-found, rows-past}
+use Rattle.reading.proofs.Lookup.{table_rows, rows-count, heading-number, entry-number, heading_above, heading-some, heading-none, heading-found}
 
 -- ---- what the slots hold
 
@@ -127,24 +129,12 @@ free_in (x ∷ l) (suc r) e = let h = free_in l r e in omega arith
 pub not_free : (l : List ℕ) (r : ℕ) → length l ≤ r → is_free l r ≡ false
 not_free l r h = ap (λ (x : ℕ). eqb x 0) (get_or-eq_default l 1 h)
 
-default : (l : List ℕ) (r d e : ℕ) → r < length l → get_or l r d ≡ get_or l r e
-default [] r d e h = absurd (omega arith)
-default (x ∷ l) zero d e h = refl
-default (x ∷ l) (suc r) d e h = default l r d e (omega arith)
-
 pub free-is : (l : List ℕ) (r : ℕ) → r < length l → get_or l r 0 ≡ 0 → is_free l r ≡ true
-free-is l r h e = eq-eqb (get_or l r 1) 0 (default l r 1 0 h ∙ e)
-
-pub taken_is : (l : List ℕ) (r : ℕ) → r < length l → ¬ (get_or l r 0 ≡ 0) → is_free l r ≡ false
-taken_is l r h n = ne_eqb (get_or l r 1) 0 (λ e. n (default l r 0 1 h ∙ e))
+free-is l r h e = eq-eqb (get_or l r 1) 0 (get_or_default l r 1 0 h ∙ e)
 
 -- a section whose heading has a row is one of the table's
 pub in_table : (t : List Section) (c : ℕ) → rows_before t c < row_count t → c < length t
-in_table t c l = go (ltb c (length t)) refl
-  where
-    go : (b : Bool) → ltb c (length t) ≡ b → c < length t
-    go true e = ltb-true c (length t) e
-    go false e = absurd (omega (arith, rows-past t c (ltb-false c (length t) e)))
+in_table t c l = by-test (ltb c (length t)) (ltb-true c (length t)) (λ e. absurd (omega (arith, rows_all t (ltb-false c (length t) e))))
 
 -- ---- no row of a table stands under no heading
 
@@ -198,49 +188,36 @@ module _ (t : List Section) (s : List ℕ) (d : Distinct (table_rows t)) where
       let r = heading_row_of t h in
       heading-step (heading_above t cur) (view s a) b e n m
       ∙ rw (heading-number t h, fill-view s a (row_count t) r n 0 0 z)
-      (go h (is_free a.line_numbers r) refl (reduce m (section_of t h) (fill a r (n + 1) 0 0) (fill-sized a (row_count t) r (n + 1) 0 0 z)))
-    where
-      go : (h : Name) (u : Bool) → is_free a.line_numbers (heading_row_of t h) ≡ u
-          → rest (heading_above t (section_of t h)) (view s (fill a (heading_row_of t h) (n + 1) 0 0)) m ≡ forget s (scan t s (section_of t h) (fill a (heading_row_of t h) (n + 1) 0 0) m)
-          → then (cond u (some (view s (fill a (heading_row_of t h) (n + 1) 0 0))) none) (λ g. rest (some h) g m)
-          ≡ forget s (cond u (scan t s (section_of t h) (fill a (heading_row_of t h) (n + 1) 0 0) m) (stopped 5 (n + 1)))
-      go h true q ih =
-          let l = free_in a.line_numbers (heading_row_of t h) q in
-          let i = in_table t (section_of t h) (omega (arith, z.lines_are)) in
-          ap (λ (k : Option Name). rest k (view s (fill a (heading_row_of t h) (n + 1) 0 0)) m) (sym (heading-found t h i)) ∙ ih
-      go h false q ih = refl
+      (by-test (is_free a.line_numbers r)
+      (λ f.
+      let l = free_in a.line_numbers r f in
+      let i = in_table t (section_of t h) (omega (arith, z.lines_are)) in
+      rw f (ap (λ (k : Option Name). rest k (view s (fill a r (n + 1) 0 0)) m) (sym (heading-found t h i))
+      ∙ reduce m (section_of t h) (fill a r (n + 1) 0 0) (fill-sized a (row_count t) r (n + 1) 0 0 z)))
+      (λ f. rw f))
   reduce (entry_at b q e n m) cur a z =
-      let r = entry_row_of t cur (part s b q) in
-      entry-step (heading_above t cur) (view s a) b q e n m
-      ∙ go (part s b q) (e - (q + 1)) (ltb cur (length t)) refl
-      (reduce m cur (fill a r (n + 1) (q + 1) (e - (q + 1))) (fill-sized a (row_count t) r (n + 1) (q + 1) (e - (q + 1)) z))
-    where
-      filled : Name → ℕ → Slots
-      filled k w = fill a (entry_row_of t cur k) (n + 1) (q + 1) w
-
-      pick : (k : Name) (w : ℕ) (f : Bool) → rest (heading_above t cur) (view s (filled k w)) m ≡ forget s (scan t s cur (filled k w) m)
-          → then (cond f (some (view s (filled k w))) none) (λ g. rest (heading_above t cur) g m) ≡ forget s (cond f (scan t s cur (filled k w) m) (stopped 6 (n + 1)))
-      pick k w true ih = ih
-      pick k w false ih = refl
-
-      go : (k : Name) (w : ℕ) (u : Bool) → ltb cur (length t) ≡ u
-          → rest (heading_above t cur) (view s (fill a (entry_row_of t cur k) (n + 1) (q + 1) w)) m ≡ forget s (scan t s cur (fill a (entry_row_of t cur k) (n + 1) (q + 1) w) m)
-          → then (fill_row (view s a) (row_number (entry_row (heading_above t cur) k) (table_rows t)) (value_at s (q + 1, w))) (λ g. rest (heading_above t cur) g m)
-          ≡ forget s (cond u (cond (is_free a.line_numbers (entry_row_of t cur k)) (scan t s cur (fill a (entry_row_of t cur k) (n + 1) (q + 1) w) m) (stopped 6 (n + 1))) (stopped 4 (n + 1)))
-      go k w true p ih =
-          let i : row_number (entry_row (heading_above t cur) k) (table_rows t) ≡ entry_row_of t cur k =
-          ap (λ (o : Option Name). row_number (entry_row o k) (table_rows t)) (heading-some t cur (ltb-true cur (length t) p)) ∙ entry-number t cur k d (ltb-true cur (length t) p) in
-          ap (λ (o : Option Found). then o (λ g. rest (heading_above t cur) g m))
-          (ap (λ (r : ℕ). fill_row (view s a) r (value_at s (q + 1, w))) i ∙ fill-view s a (row_count t) (entry_row_of t cur k) n (q + 1) w z)
-          ∙ pick k w (is_free a.line_numbers (entry_row_of t cur k)) ih
-      go k w false p ih =
-          let i : row_number (entry_row (heading_above t cur) k) (table_rows t) ≡ row_count t =
-          ap (λ (o : Option Name). row_number (entry_row o k) (table_rows t)) (heading-none t cur (ltb-false cur (length t) p)) ∙ no_stray t k in
-          let f : is_free a.line_numbers (row_count t) ≡ false = not_free a.line_numbers (row_count t) (omega (arith, z.lines_are)) in
-          let v = fill-view s a (row_count t) (row_count t) n (q + 1) w z in
-          let x : fill_row (view s a) (row_count t) (value_at s (q + 1, w)) ≡ none =
-          v ∙ ap (λ (y : Bool). cond y (some (view s (fill a (row_count t) (n + 1) (q + 1) w))) none) f in
-          ap (λ (o : Option Found). then o (λ g. rest (heading_above t cur) g m)) (ap (λ (r : ℕ). fill_row (view s a) r (value_at s (q + 1, w))) i ∙ x)
+      let k = part s b q in
+      let w = e - (q + 1) in
+      let r = entry_row_of t cur k in
+      let row : (o : Option Name) (j : ℕ) → heading_above t cur ≡ o → row_number (entry_row o k) (table_rows t) ≡ j → row_number (entry_row (heading_above t cur) k) (table_rows t) ≡ j =
+      λ o j u v. ap (λ (x : Option Name). row_number (entry_row x k) (table_rows t)) u ∙ v in
+      let step : then (fill_row (view s a) (row_number (entry_row (heading_above t cur) k) (table_rows t)) (value_at s (q + 1, w))) (λ g. rest (heading_above t cur) g m)
+      ≡ forget s (scan t s cur a (entry_at b q e n m)) =
+      by-test (ltb cur (length t))
+      (λ p.
+      let l = ltb-true cur (length t) p in
+      rw (row _ r (heading-some t cur l) (entry-number t cur k d l), fill-view s a (row_count t) r n (q + 1) w z, p)
+      (by-test (is_free a.line_numbers r)
+      (λ f. rw f (reduce m cur (fill a r (n + 1) (q + 1) w) (fill-sized a (row_count t) r (n + 1) (q + 1) w z)))
+      (λ f. rw f)))
+      (λ p.
+      rw (
+        row _ (row_count t) (heading-none t cur (ltb-false cur (length t) p)) (no_stray t k),
+        fill-view s a (row_count t) (row_count t) n (q + 1) w z,
+        not_free a.line_numbers (row_count t) (omega (arith, z.lines_are)),
+        p,
+      )) in
+      entry-step (heading_above t cur) (view s a) b q e n m ∙ step
 
   -- of the whole text
   pub whole-scan : (m : Layout)
@@ -257,20 +234,13 @@ scan-sized t s done cur z a b h e = let q : a ≡ b = cc in rw q at h
 scan-sized t s (bad_at n) cur z a b h e = clash (cc)
 scan-sized t s (heading_at x y n m) cur z a b h e =
     let r = heading_row_of t (part s x y) in
-    go (is_free a.line_numbers r) (fill a r (n + 1) 0 0)
-    (scan-sized t s m (section_of t (part s x y)) z (fill a r (n + 1) 0 0) b (fill-sized a z r (n + 1) 0 0 h)) e
-  where
-    go : (k : Bool) (f : Slots) → (scan t s (section_of t (part s x y)) f m ≡ scanned b → Sized b z)
-        → cond k (scan t s (section_of t (part s x y)) f m) (stopped 5 (n + 1)) ≡ scanned b → Sized b z
-    go true f ih e = ih e
-    go false f ih e = clash (cc)
+    by-test (is_free a.line_numbers r)
+    (λ k. scan-sized t s m (section_of t (part s x y)) z (fill a r (n + 1) 0 0) b (fill-sized a z r (n + 1) 0 0 h) (rw k at e))
+    (λ k. let w : stopped 5 (n + 1) ≡ scanned b = rw k at e in clash (cc))
 scan-sized t s (entry_at x q y n m) cur z a b h e =
     let r = entry_row_of t cur (part s x q) in
-    go (ltb cur (length t)) (is_free a.line_numbers r) (fill a r (n + 1) (q + 1) (y - (q + 1)))
-    (scan-sized t s m cur z (fill a r (n + 1) (q + 1) (y - (q + 1))) b (fill-sized a z r (n + 1) (q + 1) (y - (q + 1)) h)) e
-  where
-    go : (u k : Bool) (f : Slots) → (scan t s cur f m ≡ scanned b → Sized b z)
-        → cond u (cond k (scan t s cur f m) (stopped 6 (n + 1))) (stopped 4 (n + 1)) ≡ scanned b → Sized b z
-    go true true f ih e = ih e
-    go true false f ih e = clash (cc)
-    go false k f ih e = clash (cc)
+    by-test (ltb cur (length t))
+    (λ u. by-test (is_free a.line_numbers r)
+    (λ k. scan-sized t s m cur z (fill a r (n + 1) (q + 1) (y - (q + 1))) b (fill-sized a z r (n + 1) (q + 1) (y - (q + 1)) h) (rw (u, k) at e))
+    (λ k. let w : stopped 6 (n + 1) ≡ scanned b = rw (u, k) at e in clash (cc)))
+    (λ u. let w : stopped 4 (n + 1) ≡ scanned b = rw u at e in clash (cc))

@@ -1,7 +1,7 @@
 -- Each start that the scan keeps is that of its entry: whole lines stand before it, the last heading among them its section's, then its name and `=`. Assumes nothing.
 use Prim.Native.Nat.{ℕ, ◌+◌, ◌-◌, ◌<◌, ◌≤◌}
 use mathlib.Core.Path.{◌≡◌, refl, ap, ap₂, sym, ◌∙◌}
-use mathlib.Core.Bool.{Bool, true, false, cond}
+use mathlib.Core.Bool.{true}
 use mathlib.Core.Option.{Option, none, some}
 use mathlib.Core.List.{List, [], ◌∷◌, ◌++◌, append_assoc, append-nil}
 use native.Mathlib.Decide.{ℕ_discrete}
@@ -11,8 +11,8 @@ use lib.ListN.{length, get_or, set, drop, length-append}
 use lib.Seq.{get_or-set_same, get_or-set_other, drop-append_seam}
 use borrow.Author.Tests.{ltb-true}
 use Rattle.lines.specs.Line.{Line, heading, entry, line_bytes, written_line, written_length, text_of, well_formed, all_well_formed}
-use Rattle.lines.specs.Layout.{Layout, layout, layout_of}
-use Rattle.lines.proofs.Bools.{clash, and_left, and_right}
+use Rattle.lines.specs.Layout.{layout, layout_of}
+use Rattle.lines.proofs.Bools.{clash, and_left, and_right, by-test}
 use Rattle.lines.proofs.Lines.{Stands}
 use Rattle.lines.proofs.Writing.{written-length}
 use Rattle.lines.proofs.Texts.{heading-part, name-part, laid_out}
@@ -148,43 +148,34 @@ module _ (t : List Section) (s : List ℕ) where
   unfolding scan layout_of
   scan-placed [] b at n cur a c h e = let q : a ≡ c = cc in rw q at h.placed
   scan-placed (heading k ∷ ls) b at n cur a c h e =
-      let m = layout_of (at + written_length (heading k)) (n + 1) ls in
-      go m (is_free a.line_numbers (heading_row_of t k)) refl (scan-placed ls (b ++ heading k ∷ []) (at + written_length (heading k)) (n + 1) (section_of t k) (fill a (heading_row_of t k) (n + 1) 0 0) c)
-      (rw (heading-part s at k (line-here b ls (heading k) at n cur a h)) at e)
-    where
-      go : (m : Layout) (u : Bool) → is_free a.line_numbers (heading_row_of t k) ≡ u
-          → (Before (b ++ heading k ∷ []) ls (at + written_length (heading k)) (n + 1) (section_of t k) (fill a (heading_row_of t k) (n + 1) 0 0)
-          → scan t s (section_of t k) (fill a (heading_row_of t k) (n + 1) 0 0) m ≡ scanned c → AllPlaced t s c)
-          → cond u (scan t s (section_of t k) (fill a (heading_row_of t k) (n + 1) 0 0) m) (stopped 5 (n + 1)) ≡ scanned c → AllPlaced t s c
-      go m true f ih e =
-          let r = heading_row_of t k in
-          let z = h.sized in
-          let l : r < row_count t = rw z.lines_are at (free_in a.line_numbers r f) in
-          let i = in_table t (section_of t k) l in
-          let w : RowHas (Placed s) (get_or (table_rows t) r no_row) (n + 1, (0, 0)) = rw (heading-at t (section_of t k) no_row i) tt in
-          ih (line_on b ls (heading k) at n cur (section_of t k) a (fill a r (n + 1) 0 0) h (heading-new k b) (fill-sized a (row_count t) r (n + 1) 0 0 z) (fill-placed a r (n + 1) 0 0 z l h.placed w)) e
-      go m false f ih e = clash (cc)
+      let r = heading_row_of t k in
+      let z = h.sized in
+      let p = heading-part s at k (line-here b ls (heading k) at n cur a h) in
+      by-test (is_free a.line_numbers r)
+      (λ f.
+      let l : r < row_count t = rw z.lines_are at (free_in a.line_numbers r f) in
+      let w : RowHas (Placed s) (get_or (table_rows t) r no_row) (n + 1, (0, 0)) = rw (heading-at t (section_of t k) no_row (in_table t (section_of t k) l)) tt in
+      scan-placed ls (b ++ heading k ∷ []) (at + written_length (heading k)) (n + 1) (section_of t k) (fill a r (n + 1) 0 0) c
+      (line_on b ls (heading k) at n cur (section_of t k) a (fill a r (n + 1) 0 0) h (heading-new k b) (fill-sized a (row_count t) r (n + 1) 0 0 z) (fill-placed a r (n + 1) 0 0 z l h.placed w))
+      (rw (p, f) at e))
+      (λ f. let w : stopped 5 (n + 1) ≡ scanned c = rw (p, f) at e in clash (cc))
   scan-placed (entry k v ∷ ls) b at n cur a c h e =
-      let m = layout_of (at + written_length (entry k v)) (n + 1) ls in
       let q = at + length k + 1 in
       let y = at + (length k + 1 + length v) - q in
-      go m q y refl (omega arith) (ltb cur (length t)) refl (is_free a.line_numbers (entry_row_of t cur k)) refl
-      (scan-placed ls (b ++ entry k v ∷ []) (at + written_length (entry k v)) (n + 1) cur (fill a (entry_row_of t cur k) (n + 1) q y) c)
-      (rw (name-part s at k v (line-here b ls (entry k v) at n cur a h)) at e)
-    where
-      go : (m : Layout) (q y : ℕ) → q ≡ at + length k + 1 → y ≡ length v → (w : Bool) → ltb cur (length t) ≡ w → (u : Bool) → is_free a.line_numbers (entry_row_of t cur k) ≡ u
-          → (Before (b ++ entry k v ∷ []) ls (at + written_length (entry k v)) (n + 1) cur (fill a (entry_row_of t cur k) (n + 1) q y)
-          → scan t s cur (fill a (entry_row_of t cur k) (n + 1) q y) m ≡ scanned c → AllPlaced t s c)
-          → cond w (cond u (scan t s cur (fill a (entry_row_of t cur k) (n + 1) q y) m) (stopped 6 (n + 1))) (stopped 4 (n + 1)) ≡ scanned c → AllPlaced t s c
-      go m q y eq ey true x true f ih e =
-          let r = entry_row_of t cur k in
-          let z = h.sized in
-          let l = ltb-true cur (length t) x in
-          let i : r < row_count t = rw z.lines_are at (free_in a.line_numbers r f) in
-          let w : RowHas (Placed s) (get_or (table_rows t) r no_row) (n + 1, (q, y)) = rw (entry_row_lem t cur k l i) (entry-placed b ls k v at n cur a h l q y eq ey) in
-          ih (line_on b ls (entry k v) at n cur cur a (fill a r (n + 1) q y) h (λ g. entry_more none b k v ∙ h.above g) (fill-sized a (row_count t) r (n + 1) q y z) (fill-placed a r (n + 1) q y z i h.placed w)) e
-      go m q y eq ey true x false f ih e = clash (cc)
-      go m q y eq ey false x u f ih e = clash (cc)
+      let r = entry_row_of t cur k in
+      let z = h.sized in
+      let p = name-part s at k v (line-here b ls (entry k v) at n cur a h) in
+      by-test (ltb cur (length t))
+      (λ x. by-test (is_free a.line_numbers r)
+      (λ f.
+      let l = ltb-true cur (length t) x in
+      let i : r < row_count t = rw z.lines_are at (free_in a.line_numbers r f) in
+      let w : RowHas (Placed s) (get_or (table_rows t) r no_row) (n + 1, (q, y)) = rw (entry_row_lem t cur k l i) (entry-placed b ls k v at n cur a h l q y refl (omega arith)) in
+      scan-placed ls (b ++ entry k v ∷ []) (at + written_length (entry k v)) (n + 1) cur (fill a r (n + 1) q y) c
+      (line_on b ls (entry k v) at n cur cur a (fill a r (n + 1) q y) h (λ g. entry_more none b k v ∙ h.above g) (fill-sized a (row_count t) r (n + 1) q y z) (fill-placed a r (n + 1) q y z i h.placed w))
+      (rw (p, x, f) at e))
+      (λ f. let w : stopped 6 (n + 1) ≡ scanned c = rw (p, x, f) at e in clash (cc)))
+      (λ x. let w : stopped 4 (n + 1) ≡ scanned c = rw (p, x) at e in clash (cc))
 
 -- every row that the scan of a whole text found
 pub text-placed : (t : List Section) (s : List ℕ) (ls : List Line) (a : Slots) → s ≡ text_of ls → all_well_formed ls ≡ true

@@ -1,7 +1,7 @@
 -- A text is read exactly when it is the lines of kept values, in any order; the values are those at the pairs, and no other values have these lines. Assumes nothing.
 use Prim.Native.Nat.{ℕ, suc, ◌+◌, ◌-◌, ◌<◌, ◌≤◌}
 use mathlib.Core.Path.{◌≡◌, refl, ap, ap₂, sym, ◌∙◌}
-use mathlib.Core.Bool.{Bool, true, false, cond, not}
+use mathlib.Core.Bool.{true, false, not}
 use mathlib.Core.Option.{Option, none, some}
 use mathlib.Core.List.{List, [], ◌∷◌, ◌++◌, map}
 use native.Mathlib.Omega.{arith}
@@ -11,7 +11,7 @@ use lib.Seq.{get_or-take, length-take-le}
 use borrow.Author.Tests.{leb-true, le-leb, eqb-false, ne_eqb, ltb-false, le-ltb, not-false}
 use Rattle.lines.specs.Line.{Line}
 use Rattle.lines.specs.Layout.{layout, lines_in}
-use Rattle.lines.proofs.Bools.{clash}
+use Rattle.lines.proofs.Bools.{clash, by-test}
 use Rattle.lines.proofs.Texts.{text-is, text-reads}
 use Rattle.kinds.specs.Kind.{Kind}
 use Rattle.places.specs.Places.{Pair, value_at, Within}
@@ -69,11 +69,7 @@ unless-inv passes r c ps ls e = (refl, e)
 unless-inv (fails k n) r c ps ls e = clash (cc)
 
 least-inv : (least c : ℕ) → check_least least c ≡ passes → least ≤ c
-least-inv least c e = leb-true least c (go (leb least c) e)
-  where
-    go : (t : Bool) → cond t passes (fails 7 0) ≡ passes → t ≡ true
-    go true e = refl
-    go false e = clash (cc)
+least-inv least c e = by-test (leb least c) (leb-true least c) (λ h. let w : fails 7 0 ≡ passes = rw h at e in clash (cc))
 
 found-zero : (x : ℕ) → ltb 0 x ≡ false → x ≡ 0
 found-zero x e = let l = ltb-false 0 x e in omega arith

@@ -1,22 +1,17 @@
--- The lines of values in table order fit these values, so a written text is read back. Assumes nothing.
-use Prim.Native.Nat.{ℕ, suc, ◌≤◌}
+-- The lines of values in table order fit these values. Assumes nothing.
+use Prim.Native.Nat.{suc, ◌≤◌}
 use mathlib.Core.Path.{◌≡◌, refl, ap, sym, ◌∙◌}
-use mathlib.Core.Bool.{true}
 use mathlib.Core.List.Permᴰ
-use mathlib.Core.List.{List, [], ◌∷◌, ◌++◌, map}
+use mathlib.Core.List.{List, [], ◌∷◌, ◌++◌}
 use native.Mathlib.Omega.{arith}
+use Rattle.std.proofs.lemmas.List.{nil_from_length}
 use lib.ListN.{length, take, drop, length-append, length-drop, length-map, take-append-drop}
 use lib.Seq.{length-take-le}
-use Rattle.places.specs.Places.{Pair, value_at}
 use Rattle.tables.specs.Section.{Entry, Section, entries_of}
 use Rattle.tables.specs.Row.{names}
 use Rattle.orders.specs.AnyOrder.{Value, Values, zip, lines_of, Each, done, next}
 use Rattle.reading.specs.Fitting.{joined, name_table, FitsText, EachKept}
-use Rattle.reading.specs.Tables.{distinct_rows, clean_table}
-use Rattle.reading.specs.Reading.{read, read_text}
-use Rattle.reading.specs.Theorem.{IsText}
 use Rattle.reading.specs.Writing.{groups_of, write_text}
-use Rattle.reading.proofs.Theorem.{complete}
 
 parts_of : List Section → List Value → Values
 parts_of [] vs = []
@@ -32,11 +27,7 @@ rest-length x t vs n =
 
 parts-joined : (t : List Section) (vs : List Value) → length vs ≡ length (entries_of t) → vs ≡ joined (parts_of t vs)
 unfolding parts_of joined
-parts-joined [] vs n = unfold entries_of in none_left vs n
-  where
-    none_left : (vs : List Value) → length vs ≡ 0 → vs ≡ []
-    none_left [] n = refl
-    none_left (v ∷ vs) n = absurd (omega arith)
+parts-joined [] vs n = unfold entries_of in nil_from_length vs n
 parts-joined (x ∷ t) vs n =
     let r = rest-length x t vs n in
     sym (take-append-drop (length x.entries) vs) ∙ ap (λ (l : List Value). take (length x.entries) vs ++ l) (parts-joined t (drop (length x.entries) vs) r.1)
@@ -66,11 +57,3 @@ written t vs n =
       in-any-order = record { groups = groups_of t vs; each = each-written t vs n; order = groups_of t vs; any_order = Permᴰ.refl (groups_of t vs); are = refl };
       text-is = refl;
     }
-
-module _ (t : List Section) (least : ℕ) (apart : distinct_rows t ≡ true) (clean : clean_table t ≡ true) (c : ℕ) (vs : List Value)
-    (enough : least ≤ c) (most : c ≤ length t) (kept : EachKept (entries_of (take c t)) vs) where
-  pub written_is : IsText t least c vs (write_text (take c t) vs)
-  written_is = record { enough = enough; most = most; fits = written (take c t) vs (kept-length (entries_of (take c t)) vs kept); kept = kept }
-
-  pub read_back : (ps : List Pair) × (ls : List ℕ) × (read_text t least (write_text (take c t) vs) ≡ read c ps ls) × (map (value_at (write_text (take c t) vs)) ps ≡ vs)
-  read_back = complete t least (write_text (take c t) vs) apart clean c vs written_is

@@ -13,7 +13,7 @@ use due::{Condition, Version};
 use kinds::numbers::CATEGORIES;
 use tables::{AC2, ACC, DRIFT, GAS, IDENTIFICATION, OPACITY, SUSPENSION, pairs};
 
-// What is asked.
+// What is asked. Numbers and no enum, as those of the tests: the C interface passes them, and a caller may ask of any.
 const ALWAYS: u32 = 1;
 
 const FREE: u32 = 3;
@@ -68,8 +68,8 @@ const VERSION: u32 = (pairs::GAS_NUM_VERSIONE_PROTOCOLLO - pairs::GAS_FIRST) as 
 
 const LINK: u32 = (pairs::GAS_TIPO_COLLEGAMENTO - pairs::GAS_FIRST) as u32;
 
-// The number of a file with links, and its own entries that conditions look at; the number of its entries for one that it
-// has not.
+// The number of a file with links, and its own entries that conditions look at; the number of its entries for one that it has not: a
+// number as all that C is handed.
 #[derive(Clone, Copy)]
 struct OwnEntries {
     file: u32,
@@ -150,7 +150,7 @@ pub fn passes(test: u32, value: &[u8]) -> bool
     }
 }
 
-// What a condition asks of its entries, as a number.
+// What a condition asks of its entries, as the C interface's number. No `From`, which would have to stand in `due`, far from the tests.
 #[tactic(auto, unfolding(crate::specs::Asked::asked_of))]
 fn asked_number(condition: Condition) -> u32
     ensures { result ≡ asked_number (asked_of condition) }
@@ -162,7 +162,7 @@ fn asked_number(condition: Condition) -> u32
     }
 }
 
-// What is asked of an entry, 0 where there is no such entry.
+// What is asked of an entry; 0 where there is no such entry, a number as all that are asked for.
 #[tactic(auto, unfolding(crate::specs::Asked::entry_asked))]
 pub fn entry_asked(file: u32, entry: u32) -> u32
     ensures { result ≡ entry_asked file entry }
@@ -173,7 +173,7 @@ pub fn entry_asked(file: u32, entry: u32) -> u32
     0
 }
 
-// What is asked of a file, 0 where there is no such file.
+// What is asked of a file; 0 where there is no such file, a number as all that are asked for.
 #[tactic(auto, unfolding(crate::specs::Asked::file_asked, crate::specs::Asked::given_asked, tables::specs::File::of_number))]
 pub fn file_asked(file: u32) -> u32
     ensures { result ≡ file_asked file }
@@ -192,7 +192,7 @@ type Reason = [u32; 4];
 
 const NO_REASON: Reason = [0; 4];
 
-// At most three. One array of numbers, as the C interface hands it out.
+// At most three. One array of numbers, as the C interface hands it out; number by number, which three copies would not make plainer.
 fn joined(a: Reason, b: Reason, c: Reason) -> [u32; 12]
     ensures { result ≡ four a ++ (four b ++ four c) }
 {

@@ -5,7 +5,7 @@ ghost use Rattle.std.specs.Prelude.{◌≡◌};
 ghost use Rattle.refusals.specs.Refusals.{number_of};
 
 // The rows of the table, in its order.
-#[derive(Clone, Copy)]
+#[derive(Debug, PartialEq, Eq, Clone, Copy)]
 pub enum RefusalKind {
     PlacesTooShort,
     StemForm,
@@ -27,7 +27,7 @@ pub enum RefusalKind {
     OutputTooShort,
 }
 
-#[derive(Clone, Copy)]
+#[derive(Debug, PartialEq, Eq, Clone, Copy)]
 pub struct Refusal {
     pub kind: RefusalKind,
     pub file: u32,
@@ -35,27 +35,29 @@ pub struct Refusal {
 }
 
 // Document 01's number of a refusal.
-pub fn refusal_number(kind: RefusalKind) -> u32
-    ensures { result ≡ number_of kind }
-{
-    match kind {
-        RefusalKind::PlacesTooShort => 1,
-        RefusalKind::StemForm => 2,
-        RefusalKind::FileTooLong => 3,
-        RefusalKind::LineForm => 4,
-        RefusalKind::HeadingNotExpected => 5,
-        RefusalKind::EntryNotExpected => 6,
-        RefusalKind::SectionAbsent => 7,
-        RefusalKind::EntryAbsent => 8,
-        RefusalKind::WrongKind => 9,
-        RefusalKind::NotAsDue => 10,
-        RefusalKind::SliceNotAsDue => 11,
-        RefusalKind::BookingRule => 12,
-        RefusalKind::DifferenceRule => 13,
-        RefusalKind::IdentificationForm => 14,
-        RefusalKind::IdentificationDiffers => 15,
-        RefusalKind::FileOrAxles => 16,
-        RefusalKind::PairOutside => 17,
-        RefusalKind::OutputTooShort => 18,
+impl From<RefusalKind> for u32 {
+    ghost from_gives = { λ kind n. n ≡ number_of kind };
+
+    fn from(kind: RefusalKind) -> u32 {
+        match kind {
+            RefusalKind::PlacesTooShort => 1,
+            RefusalKind::StemForm => 2,
+            RefusalKind::FileTooLong => 3,
+            RefusalKind::LineForm => 4,
+            RefusalKind::HeadingNotExpected => 5,
+            RefusalKind::EntryNotExpected => 6,
+            RefusalKind::SectionAbsent => 7,
+            RefusalKind::EntryAbsent => 8,
+            RefusalKind::WrongKind => 9,
+            RefusalKind::NotAsDue => 10,
+            RefusalKind::SliceNotAsDue => 11,
+            RefusalKind::BookingRule => 12,
+            RefusalKind::DifferenceRule => 13,
+            RefusalKind::IdentificationForm => 14,
+            RefusalKind::IdentificationDiffers => 15,
+            RefusalKind::FileOrAxles => 16,
+            RefusalKind::PairOutside => 17,
+            RefusalKind::OutputTooShort => 18,
+        }
     }
 }

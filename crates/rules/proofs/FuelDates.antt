@@ -20,7 +20,7 @@ use Rattle.kinds.proofs.Readings.{part-most, parts-told, same-date}
 use Rattle.rules.specs.Bookings.{period_at, is_month_only, compared_date, period_of}
 use Rattle.rules.specs.declared.Period.{Period}
 use Rattle.rules.specs.declared.Period.TheVariants.{Before1986, Before2002, Later}
-use Rattle.rules.proofs.Tests.{read_of}
+use Rattle.std.proofs.lemmas.Option.{cond_some}
 
 -- ---- by the number yyyymmdd
 
@@ -91,7 +91,7 @@ module _ (v : List ℕ) (e : is_first_day v ≡ true) where
 pub period-by-month : (v : List ℕ) (day : ℕ) → day_read v ≡ Some day → period_of v ≡ by_month day
 unfolding day_read
 period-by-month v day e =
-    let r = read_of (is_first_day v) (day_number v) day e in
+    let r = cond_some (is_first_day v) (day_number v) day e in
     by_number v r.0 ∙ ap by_month r.1
 
 -- ---- day 01 of a known month is a day

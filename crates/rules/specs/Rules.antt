@@ -1,9 +1,11 @@
 -- The rules of each file (01, Judging: "then 12 or 13").
-use Rattle.std.specs.Prelude.{ℕ, List, []}
+use Rattle.std.specs.Prelude.{ℕ, ◌≡◌, List, []}
 use Rattle.tables.specs.File.{File, ac2, acc, drift, suspension, gas, opacity}
 use Rattle.rules.specs.Rule.{Rule, RuleCheck, first_broken}
-use Rattle.tables.specs.Value.{values_of}
+use Rattle.tables.specs.Value.{values_of, Held}
 use Rattle.due.specs.Values.{new_values}
+use Rattle.due.specs.Booking.{booking_in}
+use Rattle.due.specs.declared.Booking.{Booking}
 use Rattle.rules.specs.Bookings.{new_rules, old_rules}
 use Rattle.rules.specs.Differences.{differences_from}
 
@@ -15,6 +17,10 @@ rules_of drift a own n = []
 rules_of suspension a own n = differences_from own 0 n
 rules_of gas a own n = []
 rules_of opacity a own n = []
+
+-- AC2's values lie within the text s, at its pairs in p, and b is what they say
+abbrev pub Says : List ℕ → List ℕ → Booking → Type 0
+Says s p b = Held ac2 0 s p × (b ≡ booking_in (new_values s p))
 
 -- the first broken rule of the values at a file's pairs: AC2's text, the file's own text, places
 abbrev pub first_broken_at : File → ℕ → List ℕ → List ℕ → List ℕ → RuleCheck

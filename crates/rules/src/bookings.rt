@@ -1,17 +1,19 @@
 // The rules of bookings (01, Bookings; row 12): AC2's own, and ACC against AC2. Each test is of values.
-ghost use Rattle.std.specs.Prelude.{◌≡◌, cond, List, [], ◌∷◌, map, ℕ, ◌-◌, ◌≤◌, Some, Ok};
+ghost use Rattle.std.specs.Prelude.{◌≡◌, cond, List, [], ◌∷◌, ◌++◌, map, ℕ, ◌-◌, ◌≤◌, Some, Ok};
 ghost use Rattle.kinds.specs.Value.{is_word};
 ghost use Rattle.kinds.specs.Meaning.{day_read};
 ghost use Rattle.tables.specs.File.{ac2, acc};
 ghost use Rattle.tables.specs.Value.{values_of, Held};
 ghost use Rattle.due.specs.Values.{new_values};
 ghost use Rattle.due.specs.Booking.{booking_in};
+ghost use Rattle.rules.specs.Rules.{Says};
 ghost use Rattle.rules.specs.Rule.{broken, first_broken};
-ghost use Rattle.rules.specs.Bookings.{type_of, type_is, parking_brake_fits, descriptions_of, descriptions, year_fits, directive_of, period_of, petrol_word, petrol_fits, diesel_fits, fuel_fits, old_brake_fits, number_is, count_of, parking_axles_fit, new_rules, old_rules};
+ghost use Rattle.rules.specs.Bookings.{type_of, type_is, parking_brake_fits, descriptions_of, special_words, descriptions, year_fits, directive_of, period_of, petrol_word, petrol_fits, diesel_fits, fuel_fits, old_brake_fits, number_is, count_of, parking_axles_fit, new_rules, old_rules};
 ghost use Rattle.rules.specs.declared.Directive.{Directive};
 ghost use Rattle.refusals.specs.declared.RefusalKind.{RefusalKind};
 
-use crate::{BrokenRule, Descriptions, Directive, Period, PetrolWord, VehicleType};
+use crate::{BrokenRule, Descriptions, Directive, NewBooking, Period, PetrolWord, VehicleType};
+use places::PlacedText;
 use tables::pairs;
 
 // ---- categories
@@ -104,20 +106,25 @@ fn keep(holds: bool, first: usize, pair: usize) -> Result<(), BrokenRule>
     })
 }
 
-// b is what AC2 says.
-pub fn check_new_booking(b: due::Booking, booking: &[u8], places: &[u32]) -> Result<(), BrokenRule>
-    requires { Held ac2 0 booking.now places.now × (b ≡ booking_in (new_values booking.now places.now)) }
-    ensures { result ≡ first_broken ac2 (new_rules (new_values booking.now places.now)) }
+// AC2's own rules, in their order.
+pub fn check_new_booking(new: &NewBooking<'_>, places: &[u32]) -> Result<(), BrokenRule>
+    requires { Says new.now.text.now places.now new.now.says }
+    ensures { result ≡ first_broken ac2 (new_rules (new_values new.now.text.now places.now)) }
 {
-    let kind = places::value_of(booking, places, pairs::AC2_TIPO_VEICOLO);
-    let brake = places::value_of(booking, places, pairs::AC2_AZIONAMENTO_FRENO_STAZIONAMENTO);
+    let category = new.says.category;
+    let new = PlacedText {
+        text: new.text,
+        places,
+    };
+    let kind = new.value(pairs::AC2_TIPO_VEICOLO);
+    let brake = new.value(pairs::AC2_AZIONAMENTO_FRENO_STAZIONAMENTO);
     keep(
-        type_fits(b.category, kind),
+        type_fits(category, kind),
         pairs::AC2_FIRST,
         pairs::AC2_TIPO_VEICOLO,
     )?;
     keep(
-        parking_brake_fits(b.category, brake),
+        parking_brake_fits(category, brake),
         pairs::AC2_FIRST,
         pairs::AC2_AZIONAMENTO_FRENO_STAZIONAMENTO,
     )
@@ -132,29 +139,30 @@ fn is_among(words: &[&[u8]], value: &[u8]) -> bool
     words.iter().any(|word| lines::equal(value, word))
 }
 
+// The words that M1 and N share.
+static SPECIAL_WORDS: [&[u8]; 2] = [b"TRASPORTO SPECIFICO", b"USO SPECIALE"];
+
+// One of these words, or of those.
+fn is_description(words: &[&[u8]], value: &[u8]) -> bool
+    ensures { result ≡ is_word (map (λ w. w.now) words.now ++ special_words) value.now }
+{
+    is_among(words, value) || is_among(&SPECIAL_WORDS, value)
+}
+
 #[tactic(auto, unfolding(kinds::specs::Value::is_word, kinds::specs::Value::word_index))]
 fn description_fits(category: usize, old: &[u8]) -> bool
     ensures { result ≡ is_word (descriptions (descriptions_of category)) old.now }
 {
     match descriptions_of(category) {
-        Descriptions::OfM1 => is_among(
-            &[
-                b"AUTOVETTURA",
-                b"PROMISCUO",
-                b"AUTOCARAVAN",
-                b"TRASPORTO SPECIFICO",
-                b"USO SPECIALE",
-            ],
-            old,
-        ),
+        Descriptions::OfM1 => {
+            is_description(&[b"AUTOVETTURA", b"PROMISCUO", b"AUTOCARAVAN"], old)
+        }
         Descriptions::OfM2M3 => is_among(&[b"AUTOBUS"], old),
-        Descriptions::OfN => is_among(
+        Descriptions::OfN => is_description(
             &[
                 b"AUTOCARRO",
                 b"TRATTORE STRADALE",
                 b"TRATTORE PER SEMIRIMORCHIO",
-                b"TRASPORTO SPECIFICO",
-                b"USO SPECIALE",
             ],
             old,
         ),
@@ -243,27 +251,24 @@ fn diesel_fits(turbo: &[u8], corrector: &[u8], old: &[u8]) -> bool
 }
 
 // ACC's Alimentazione_1, by AC2's fuel and the values that it leads to.
-fn fuel_fits(fuel: due::Fuel, booking: &[u8], places: &[u32], old: &[u8]) -> bool
-    requires { Held ac2 0 booking.now places.now × (fuel ≡ (booking_in (new_values booking.now places.now)).fuel) }
-    ensures { result ≡ fuel_fits (new_values booking.now places.now) old.now }
+fn fuel_fits(fuel: due::Fuel, new: PlacedText<'_>, old: &[u8]) -> bool
+    requires { Held ac2 0 new.text.now new.places.now × (fuel ≡ (booking_in (new_values new.text.now new.places.now)).fuel) }
+    ensures { result ≡ fuel_fits (new_values new.entry.text.now new.entry.places.now) old.now }
 {
     match fuel {
         due::Fuel::Petrol => petrol_fits(
             petrol_word(
-                directive_of(places::value_of(booking, places, pairs::AC2_DIRETTIVA_BENZINA_AUTO)),
-                period_of(places::value_of(booking, places, pairs::AC2_DATA_PRIMA_IMM)),
+                directive_of(new.value(pairs::AC2_DIRETTIVA_BENZINA_AUTO)),
+                period_of(new.value(pairs::AC2_DATA_PRIMA_IMM)),
             ),
             old,
         ),
         due::Fuel::Diesel => diesel_fits(
-            places::value_of(booking, places, pairs::AC2_TURBO),
-            places::value_of(booking, places, pairs::AC2_CORRETTORE_PRESSIONE),
+            new.value(pairs::AC2_TURBO),
+            new.value(pairs::AC2_CORRETTORE_PRESSIONE),
             old,
         ),
-        due::Fuel::OtherFuel => lines::equal(
-            old,
-            places::value_of(booking, places, pairs::AC2_ALIMENTAZIONE_1),
-        ),
+        due::Fuel::OtherFuel => lines::equal(old, new.value(pairs::AC2_ALIMENTAZIONE_1)),
     }
 }
 
@@ -298,33 +303,33 @@ fn parking_axles_fit(positions: &[u8], old: &[u8]) -> bool
     number_is(old, count_s(positions))
 }
 
-// b is what AC2 says, `text` is ACC.
-pub fn check_old_booking(
-    b: due::Booking,
-    booking: &[u8],
-    text: &[u8],
-    places: &[u32],
-) -> Result<(), BrokenRule>
-    requires { Held ac2 0 booking.now places.now × (b ≡ booking_in (new_values booking.now places.now)) × Held acc 0 text.now places.now }
-    ensures { result ≡ first_broken acc (old_rules (new_values booking.now places.now) (values_of acc 0 text.now places.now)) }
+// The rules of ACC against AC2, in their order; `own` is ACC.
+pub fn check_old_booking(new: &NewBooking<'_>, own: PlacedText<'_>) -> Result<(), BrokenRule>
+    requires { Says new.now.text.now own.places.now new.now.says × Held acc 0 own.text.now own.places.now }
+    ensures { result ≡ first_broken acc (old_rules (new_values new.now.text.now own.entry.places.now) (values_of acc 0 own.entry.text.now own.entry.places.now)) }
 {
-    let kind = places::value_of(booking, places, pairs::AC2_TIPO_VEICOLO);
-    let date = places::value_of(booking, places, pairs::AC2_DATA_PRIMA_IMM);
-    let brake = places::value_of(booking, places, pairs::AC2_AZIONAMENTO_FRENO_STAZIONAMENTO);
-    let positions = places::value_of(booking, places, pairs::AC2_POS_ASSI_STAZ);
-    let old_kind = places::value_of(text, places, pairs::ACC_TIPO_VEICOLO);
-    let description = places::value_of(text, places, pairs::ACC_DESCRIZIONE_VEICOLO);
-    let year = places::value_of(text, places, pairs::ACC_ANNO_PRIMA_IMM);
-    let fuel = places::value_of(text, places, pairs::ACC_ALIMENTAZIONE_1);
-    let old_brake = places::value_of(text, places, pairs::ACC_FRENO_STAZIONAMENTO);
-    let axles = places::value_of(text, places, pairs::ACC_NUM_ASSI_STAZIONAMENTO);
+    let due::Booking { category, fuel, .. } = new.says;
+    let new = PlacedText {
+        text: new.text,
+        places: own.places,
+    };
+    let kind = new.value(pairs::AC2_TIPO_VEICOLO);
+    let date = new.value(pairs::AC2_DATA_PRIMA_IMM);
+    let brake = new.value(pairs::AC2_AZIONAMENTO_FRENO_STAZIONAMENTO);
+    let positions = new.value(pairs::AC2_POS_ASSI_STAZ);
+    let old_kind = own.value(pairs::ACC_TIPO_VEICOLO);
+    let description = own.value(pairs::ACC_DESCRIZIONE_VEICOLO);
+    let year = own.value(pairs::ACC_ANNO_PRIMA_IMM);
+    let old_fuel = own.value(pairs::ACC_ALIMENTAZIONE_1);
+    let old_brake = own.value(pairs::ACC_FRENO_STAZIONAMENTO);
+    let axles = own.value(pairs::ACC_NUM_ASSI_STAZIONAMENTO);
     keep(
         lines::equal(old_kind, kind),
         pairs::ACC_FIRST,
         pairs::ACC_TIPO_VEICOLO,
     )?;
     keep(
-        description_fits(b.category, description),
+        description_fits(category, description),
         pairs::ACC_FIRST,
         pairs::ACC_DESCRIZIONE_VEICOLO,
     )?;
@@ -334,7 +339,7 @@ pub fn check_old_booking(
         pairs::ACC_ANNO_PRIMA_IMM,
     )?;
     keep(
-        fuel_fits(b.fuel, booking, places, fuel),
+        fuel_fits(fuel, new, old_fuel),
         pairs::ACC_FIRST,
         pairs::ACC_ALIMENTAZIONE_1,
     )?;

@@ -6,6 +6,7 @@ ghost use Rattle.rules.specs.Rule.{first_broken};
 ghost use Rattle.rules.specs.Differences.{difference, difference_fits, differences_from};
 
 use crate::{BrokenRule, bookings};
+use places::PlacedText;
 use tables::pairs;
 
 fn axle_fits(left: &[u8], right: &[u8], value: &[u8]) -> bool
@@ -17,16 +18,16 @@ fn axle_fits(left: &[u8], right: &[u8], value: &[u8]) -> bool
     }
 }
 
-pub fn check_differences(axles: usize, text: &[u8], places: &[u32]) -> Result<(), BrokenRule>
-    requires { (axles ≤ most_axles) × Held suspension axles text.now places.now }
-    ensures { result ≡ first_broken suspension (differences_from (values_of suspension axles text.now places.now) 0 axles) }
+pub fn check_differences(axles: usize, own: PlacedText<'_>) -> Result<(), BrokenRule>
+    requires { (axles ≤ most_axles) × Held suspension axles own.text.now own.places.now }
+    ensures { result ≡ first_broken suspension (differences_from (values_of suspension axles own.entry.text.now own.entry.places.now) 0 axles) }
 {
     for i in 0..axles {
         let k = pairs::SUSPENSION_AXLE_PAIRS * i;
-        let left = places::value_of(text, places, pairs::SUSPENSION_ADERENZA_SX + k);
-        let right = places::value_of(text, places, pairs::SUSPENSION_ADERENZA_DX + k);
+        let left = own.value(pairs::SUSPENSION_ADERENZA_SX + k);
+        let right = own.value(pairs::SUSPENSION_ADERENZA_DX + k);
         let pair = pairs::SUSPENSION_DIFFERENZA + k;
-        if !axle_fits(left, right, places::value_of(text, places, pair)) {
+        if !axle_fits(left, right, own.value(pair)) {
             return Err(BrokenRule {
                 entry: pair - pairs::SUSPENSION_FIRST,
                 kind: refusals::RefusalKind::DifferenceRule,

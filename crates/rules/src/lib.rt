@@ -9,16 +9,18 @@ mod marks; // marks.rt: what acceptance says of a result file
 mod slices; // slices.rt: the stem, and which slices are due and read
 
 ghost use Rattle.std.specs.Prelude.{◌≡◌, ◌≤◌, Ok};
-ghost use Rattle.tables.specs.File.{ac2, of_number, most_axles};
-ghost use Rattle.due.specs.Values.{new_values};
-ghost use Rattle.tables.specs.Value.{Held, NumberHeld};
-ghost use Rattle.due.specs.Booking.{booking_in};
-ghost use Rattle.rules.specs.Rules.{first_broken_at};
+ghost use Rattle.tables.specs.File.{of_number, most_axles};
+ghost use Rattle.tables.specs.Value.{NumberHeld};
+ghost use Rattle.rules.specs.Rules.{Says, first_broken_at};
 
 pub use identification::same_fields;
 pub use marks::is_marked;
+use places::PlacedText;
 pub use slices::{good_stem, identification_right, is_read, slice_right, stated_of};
 use tables::{AC2, ACC, SUSPENSION};
+
+// But for `Period`, each of these enums has a case for no word or no directive: rules go by all cases in one `match`, as the
+// definitions do, so an `Option` would be no plainer.
 
 // The word that TipoVeicolo must be.
 #[derive(Debug, PartialEq, Eq, Clone, Copy)]
@@ -71,29 +73,34 @@ pub struct Stated {
     pub nine: bool,
 }
 
+// AC2 that was read: its text, and what it says.
+#[derive(Debug, Clone, Copy)]
+pub struct NewBooking<'a> {
+    pub text: &'a [u8],
+    pub says: due::Booking,
+}
+
 // A rule that does not hold: its entry's place in entry order, and its refusal.
-#[derive(Clone, Copy)]
+#[derive(Debug, PartialEq, Eq, Clone, Copy)]
 pub struct BrokenRule {
     pub entry: usize,
     pub kind: refusals::RefusalKind,
 }
 
-// 12 and 13: the first rule of the file, by its number, that its values and AC2's do not keep. b is what AC2 says.
+// 12 and 13: the first rule of the file, by its number, that its values and AC2's do not keep. Its clauses stay: see `places`.
 pub fn first_broken(
     file: u32,
     axles: usize,
-    b: due::Booking,
-    booking: &[u8],
-    text: &[u8],
-    places: &[u32],
+    new: &NewBooking<'_>,
+    own: PlacedText<'_>,
 ) -> Result<(), BrokenRule>
-    requires { (axles ≤ most_axles) × Held ac2 0 booking.now places.now × (b ≡ booking_in (new_values booking.now places.now)) × NumberHeld file axles text.now places.now }
-    ensures { result ≡ of_number (Ok tt) (λ f. first_broken_at f axles booking.now text.now places.now) file }
+    requires { (axles ≤ most_axles) × Says new.now.text.now own.places.now new.now.says × NumberHeld file axles own.text.now own.places.now }
+    ensures { result ≡ of_number (Ok tt) (λ f. first_broken_at f axles new.now.text.now own.entry.text.now own.entry.places.now) file }
 {
     match file {
-        AC2 => bookings::check_new_booking(b, booking, places),
-        ACC => bookings::check_old_booking(b, booking, text, places),
-        SUSPENSION => differences::check_differences(axles, text, places),
+        AC2 => bookings::check_new_booking(new, own.places),
+        ACC => bookings::check_old_booking(new, own),
+        SUSPENSION => differences::check_differences(axles, own),
         _ => Ok(()),
     }
 }

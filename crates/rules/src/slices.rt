@@ -5,6 +5,7 @@ ghost use Rattle.tables.specs.Value.{values_of, Held};
 ghost use Rattle.rules.specs.Slices.{good_stem, stated_of, exactly, old_booking_right, opacity_due, slice_right, is_read, identification_right};
 
 use crate::Stated;
+use places::PlacedText;
 use tables::{AC2, ACC, GAS, OPACITY, pairs};
 
 // 2
@@ -73,12 +74,11 @@ pub fn is_read(file: u32, booking: due::Booking, given: bool) -> bool
     }
 }
 
-// 11 of slice 6, from gas's text. Of gas that is not given no value is looked at.
-pub fn identification_right(text: &[u8], places: &[u32], given: bool) -> bool
-    requires { 0 < length text.now → Held gas 0 text.now places.now }
-    ensures { result ≡ identification_right (ltb 0 (length text.now)) (values_of gas 0 text.now places.now) given }
+// 11 of slice 6; `own` is gas. Of gas that is not given no value is looked at.
+pub fn identification_right(own: PlacedText<'_>, given: bool) -> bool
+    requires { 0 < length own.text.now → Held gas 0 own.text.now own.places.now }
+    ensures { result ≡ identification_right (ltb 0 (length own.entry.text.now)) (values_of gas 0 own.entry.text.now own.entry.places.now) given }
 {
-    let serial = text.len() > 0
-        && due::is_serial(places::value_of(text, places, pairs::GAS_TIPO_COLLEGAMENTO));
+    let serial = own.text.len() > 0 && due::is_serial(own.value(pairs::GAS_TIPO_COLLEGAMENTO));
     is_exactly(serial, given)
 }

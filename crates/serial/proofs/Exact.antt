@@ -17,7 +17,7 @@ use Rattle.serial.specs.Reading.{framed, checksum_ok, end_of, ends_of, Ordered, 
 use Rattle.serial.specs.declared.FieldEnds.{FieldEnds}
 use Rattle.serial.proofs.Tests.{both}
 use Rattle.serial.proofs.Places.{framed-size, ends-ordered}
-use Rattle.serial.proofs.Fields.{drop-take, address-of, seven-of, ten-joined, field_after, field-stands, last-stands, field, address}
+use Rattle.serial.proofs.Fields.{drop-before, address-of, seven-of, ten-joined, field_after, field-stands, last-stands, field, address}
 use Rattle.serial.proofs.Frame.{frame-sound, whole, whole_length, whole-front, whole-framed, whole-checked}
 
 -- ---- what is read was written
@@ -73,7 +73,7 @@ written t e h w f =
     let a = address-of m t e o in
     let s = seven-of m t e o in
     let d : drop 1 (front t) ≡ ten_fields (address_in t e) (seven_in t e) = rw (a, s) at f.ten in
-    let b : summed t ≡ ten_fields (address_in t e) (seven_in t e) = sym (drop-take 1 m t) ∙ d in
+    let b : summed t ≡ ten_fields (address_in t e) (seven_in t e) = sym (drop-before 1 m t (omega arith)) ∙ d in
     let q : 2 ∷ summed t ++ (checksum (summed t) ++ 3 ∷ []) ≡ identification_of (address_in t e) (seven_in t e) = ap (λ (l : List ℕ). 2 ∷ l ++ (checksum l ++ 3 ∷ [])) b in
     record {
       answer = w ∙ q;

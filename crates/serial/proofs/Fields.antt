@@ -1,54 +1,49 @@
 -- Bytes are cut into fields at each 17 hex exactly as fields are joined by it. Assumes nothing.
-use Prim.Native.Nat.{ℕ, zero, suc, ◌+◌, ◌-◌, ◌≤◌, ◌<◌}
+use Prim.Native.Nat.{ℕ, suc, ◌+◌, ◌-◌, ◌≤◌, ◌<◌}
 use native.Mathlib.Numerals.{add-one, one-add}
 use native.Mathlib.Omega.{arith}
-use native.Mathlib.Nat.{add-sub_cancel_left, sub-zero}
+use native.Mathlib.Nat.{add-sub_cancel_left}
 use mathlib.Core.Path.{◌≡◌, refl, ap, ap₂, sym, ◌∙◌}
 use mathlib.Core.Bool.{true, not, ◌&&◌}
 use mathlib.Core.List.{List, [], ◌∷◌, ◌++◌}
 use lib.Dec.{leb, eqb}
 use lib.ListN.{length, get_or, take, drop, length-drop}
-use lib.Seq.{drop-drop, take_all, take_at, drop_at, take-nil, take-take}
+use lib.Seq.{drop-drop, take_all, take_at, drop_at, take-take}
 use borrow.Author.Tests.{leb-true, eqb-true, ne_eqb, not-true}
+use Rattle.std.proofs.lemmas.List.{drop-take}
 use Rattle.std.proofs.lemmas.List.Sums.{split_at_first, passes_at_first}
 use Rattle.lines.specs.Bytes.{part, is_printable, all_printable, without, before}
-use Rattle.kinds.specs.Digits.{is_digit, all_digits}
+use Rattle.kinds.specs.Digits.{all_digits}
 use Rattle.serial.specs.Identification.{separated, address_ok, field_ok}
 use Rattle.serial.specs.Reading.{field_end, end_of, Ordered, address_in, seven_in}
 use Rattle.serial.specs.declared.FieldEnds.{FieldEnds}
 use Rattle.serial.proofs.Tests.{both}
 use Rattle.serial.proofs.Places.{ends-up}
-use Rattle.lines.proofs.Loops.{printable-yes}
+use Rattle.lines.proofs.Lines.{before_of}
+use Rattle.kinds.proofs.Values.{digits-printable}
 
 -- ---- parts of the bytes before a place
 
-pub drop-take : (a m : ℕ) (t : List ℕ) → drop a (take m t) ≡ take (m - a) (drop a t)
-drop-take zero m t = rw (sub-zero m) refl
-drop-take (suc a) zero t =
-    let z : 0 - suc a ≡ 0 = omega arith in
-    rw z refl
-drop-take (suc a) (suc m) [] = sym (take-nil (suc m - suc a))
-drop-take (suc a) (suc m) (x ∷ t) =
-    let d : suc m - suc a ≡ m - a = omega arith in
-    drop-take a m t ∙ ap (λ (k : ℕ). take k (drop a t)) (sym d)
+pub drop-before : (a m : ℕ) (t : List ℕ) → a ≤ m → drop a (take m t) ≡ take (m - a) (drop a t)
+drop-before a m t h = let k : a + (m - a) ≡ m = omega arith in rw k at (drop-take a (m - a) t)
 
-part_of : (m a e : ℕ) (t : List ℕ) → e ≤ m → part (take m t) a e ≡ part t a e
-part_of m a e t h = rw (drop-take a m t) (take-take (e - a) (m - a) (drop a t) (omega arith))
+part_of : (m a e : ℕ) (t : List ℕ) → a ≤ e → e ≤ m → part (take m t) a e ≡ part t a e
+part_of m a e t h l = rw (drop-before a m t (omega arith)) (take-take (e - a) (m - a) (drop a t) (omega arith))
 
 -- fields that stand before place m are the same in the bytes before it
 pub address-of : (m : ℕ) (t : List ℕ) (e : FieldEnds) → Ordered m e → address_in (take m t) e ≡ address_in t e
-address-of m t e o = part_of m (e.gas + 1) e.address t (omega arith)
+address-of m t e o = part_of m (e.gas + 1) e.address t (omega arith) (omega arith)
 
 pub seven-of : (m : ℕ) (t : List ℕ) (e : FieldEnds) → Ordered m e → seven_in (take m t) e ≡ seven_in t e
 seven-of m t e o =
     rw (
-      part_of m (e.id + 1) e.mar t (omega arith),
-      part_of m (e.mar + 1) e.model t (omega arith),
-      part_of m (e.model + 1) e.numom t (omega arith),
-      part_of m (e.numom + 1) e.numser t (omega arith),
-      part_of m (e.numser + 1) e.datasca t (omega arith),
-      part_of m (e.datasca + 1) e.numver t (omega arith),
-      part_of m (e.numver + 1) e.vermctcnet t (omega arith),
+      part_of m (e.id + 1) e.mar t (omega arith) (omega arith),
+      part_of m (e.mar + 1) e.model t (omega arith) (omega arith),
+      part_of m (e.model + 1) e.numom t (omega arith) (omega arith),
+      part_of m (e.numom + 1) e.numser t (omega arith) (omega arith),
+      part_of m (e.numser + 1) e.datasca t (omega arith) (omega arith),
+      part_of m (e.datasca + 1) e.numver t (omega arith) (omega arith),
+      part_of m (e.numver + 1) e.vermctcnet t (omega arith) (omega arith),
     ) refl
 
 -- ---- fields that were cut, joined again
@@ -103,13 +98,6 @@ ten-joined s e =
 
 -- ---- fields that were joined, cut again
 
-before-joined : (f s : List ℕ) → without 23 f ≡ true → before 23 (f ++ 23 ∷ s) ≡ length f
-unfolding without
-before-joined [] s e = refl
-before-joined (c ∷ f) s e =
-    let r = both (not (eqb c 23)) (without 23 f) e in
-    rw (not-true (eqb c 23) r.0, one-add) (ap suc (before-joined f s r.1))
-
 before_last : (f : List ℕ) → without 23 f ≡ true → before 23 f ≡ length f
 unfolding without
 before_last [] e = refl
@@ -121,7 +109,7 @@ pub field-stands : (s : List ℕ) (i : ℕ) (f rest : List ℕ) → without 23 f
     → (part s i (field_end s i) ≡ f) × (drop (field_end s i + 1) s ≡ rest)
 unfolding field_end
 field-stands s i f rest w e =
-    let r : before 23 (drop i s) ≡ length f = rw e (before-joined f rest w) in
+    let r : before 23 (drop i s) ≡ length f = rw e (before_of 23 f rest w) in
     let k : i + length f + 1 ≡ i + (length f + 1) = omega arith in (
       rw (add-sub_cancel_left, r, e) (take_at f (23 ∷ rest) (length f) refl),
       rw (r, k, ← (drop-drop (length f + 1) i s), e) (sym (drop-drop 1 (length f) (f ++ 23 ∷ rest)) ∙ ap (λ (l : List ℕ). drop 1 l) (drop_at f (23 ∷ rest) (length f) refl)),
@@ -143,16 +131,6 @@ printable-without (c ∷ f) e =
     let r = both (is_printable c) (all_printable f) e in
     let l = leb-true 32 c (both (leb 32 c) (leb c 126) r.0).0 in
     rw (ne_eqb c 23 (λ q. omega arith)) (printable-without f r.1)
-
-digits-printable : (f : List ℕ) → all_digits f ≡ true → all_printable f ≡ true
-unfolding all_digits all_printable
-digits-printable [] e = refl
-digits-printable (c ∷ f) e =
-    let r = both (is_digit c) (all_digits f) e in
-    let d = both (leb 48 c) (leb c 57) r.0 in
-    let l = leb-true 48 c d.0 in
-    let h = leb-true c 57 d.1 in
-    rw (printable-yes c (omega arith) (omega arith)) (digits-printable f r.1)
 
 pub record Field (f : List ℕ) (most : ℕ) : Type 0 where
   pub whole : without 23 f ≡ true

@@ -22,9 +22,8 @@ module _ (s : List ℕ) (i : ℕ) (h : i < length s) where
   unfolding sum
   sum_more n = rw (add-one i, drop-cons s i 0 h) (omega arith)
 
-pub before-end : (x : ℕ) (s : List ℕ) (i : ℕ) → length s ≤ i → i + before x (drop i s) ≡ i
-before-end x s i h = rw (drop_of_length-le s h) (add-zero i)
-
 pub sum-end : (s : List ℕ) (i n : ℕ) → length s ≤ i → n < 256 → (n + sum (drop i s)) % 256 ≡ n
 unfolding sum
 sum-end s i n h k = rw (drop_of_length-le s h) (omega arith)
+
+pub ruleset sums = (sum_more, sum-end)

@@ -26,3 +26,5 @@ first-end s = omega arith
 pub ends-ordered : (s : List ℕ) → (ends_of s).vermctcnet ≡ length s → Ordered (length s) (ends_of s)
 unfolding ends_of
 ends-ordered s e = (ends-up s 0, ends-up s 1, ends-up s 2, ends-up s 3, ends-up s 4, ends-up s 5, ends-up s 6, ends-up s 7, ends-up s 8, omega arith)
+
+pub ruleset ends = (first-end, ends-ordered)

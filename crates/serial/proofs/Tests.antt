@@ -1,5 +1,5 @@
 -- A test that a function made for its caller, and what its answer says of the definition. Assumes nothing.
-use mathlib.Core.Path.{◌≡◌, refl, sym, ◌∙◌}
+use mathlib.Core.Path.{◌≡◌, sym, ◌∙◌}
 use mathlib.Core.Bool.{Bool, true, false, not, ◌&&◌}
 use borrow.Author.Tests.{not-true, not-false}
 use Rattle.lines.proofs.Bools.{and_left, and_right}
@@ -11,10 +11,6 @@ passed {r} e n = sym e ∙ not-false r n
 -- `if !f(..)` was taken: it does not
 pub failed : {r a : Bool} → r ≡ a → not r ≡ true → a ≡ false
 failed {r} e n = sym e ∙ not-true r n
-
-pub and-true : (a : Bool) → (a && true) ≡ a
-and-true true = refl
-and-true false = refl
 
 pub both : (a b : Bool) → (a && b) ≡ true → (a ≡ true) × (b ≡ true)
 both a b e = (and_left a b e, and_right a b e)

@@ -24,6 +24,7 @@ pub struct FieldEnds {
     pub vermctcnet: usize,
 }
 
+#[tactic(auto, using(crate::proofs::Loops::sums))]
 fn sum_modulo_256(part: &[u8]) -> u32
     ensures { result ≡ sum part.now % 256 }
 {
@@ -142,7 +143,7 @@ fn seven_ok(front: &[u8], e: FieldEnds) -> bool
 }
 
 // The ten fields of what stands before the checksum.
-#[tactic(auto, unfolding(crate::specs::Reading::read_fields))]
+#[tactic(auto, unfolding(crate::specs::Reading::read_fields), using(crate::proofs::Places::ends))]
 fn read_fields(front: &[u8]) -> Option<FieldEnds>
     requires { length front.now ≤ 512 }
     ensures { result ≡ read_fields front.now }

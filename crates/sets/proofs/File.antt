@@ -35,11 +35,12 @@ use Rattle.sets.proofs.Steps.{require-inv, both-passed}
 -- ---- the checks
 
 due-passed : (f : File) (c : Conditions) (vs : List (List ℕ)) → check_due f c vs ≡ passed → (i : ℕ) → i < length vs → is_as_due f c i (get_or vs i []) ≡ true
-due-passed f c vs e = each-as-due f c vs (at-end (ltb (first_not_as_due f c vs) (length vs)) refl e)
-  where
-    at-end : (b : Bool) → ltb (first_not_as_due f c vs) (length vs) ≡ b → cond b (failed 10 (first_not_as_due f c vs)) passed ≡ passed → first_not_as_due f c vs ≡ length vs
-    at-end true q e = clash (cc)
-    at-end false q e = omega (arith, ltb-false (first_not_as_due f c vs) (length vs) q, first-le f c vs)
+due-passed f c vs e =
+    let n = first_not_as_due f c vs in
+    each-as-due f c vs
+    (by-test (ltb n (length vs))
+    (λ q. let w : failed 10 n ≡ passed = rw q at e in clash (cc))
+    (λ q. omega (arith, ltb-false n (length vs) q, first-le f c vs)))
 
 passed-due : (f : File) (c : Conditions) (vs : List (List ℕ)) → ((i : ℕ) → i < length vs → is_as_due f c i (get_or vs i []) ≡ true) → check_due f c vs ≡ passed
 passed-due f c vs h =

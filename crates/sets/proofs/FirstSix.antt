@@ -2,10 +2,11 @@
 -- slices 1 to 6. Assumes nothing.
 use Prim.Native.Nat.{ℕ}
 use mathlib.Core.Path.{◌≡◌, refl, ap, ◌∙◌}
-use mathlib.Core.Bool.{Bool, true, false, cond}
+use mathlib.Core.Bool.{Bool, true, false}
 use mathlib.Core.List.{List, [], ◌∷◌, ◌++◌}
 use lib.Dec.{leb}
 use lib.ListN.{length}
+use Rattle.kinds.proofs.Laws.{by-test}
 use Rattle.refusals.specs.Answer.{Answer, refusal, acceptance, require, followed, given_by}
 use Rattle.places.specs.Places.{set_pairs}
 use Rattle.tables.specs.File.{File, ac2, opacity, files, least_places}
@@ -71,10 +72,4 @@ module _ (s : Slices) (w : WithoutOpacity s) (st : Stated) where
 -- 02, 2/14: answer and places are those of the fold over slices 1 to 6
 pub old-answers : (caller : Caller) (s : Slices) (p : List ℕ) → WithoutOpacity s → judge caller s p ≡ judge_first_six caller s p
 unfolding judge
-old-answers caller s p w = by_length (leb least_places (length p))
-  where
-    by_length : (enough : Bool)
-        → cond enough (settled_by files p (require (good_stem caller.stem) 2 0 0 (judge_slices (stated_in caller) s))) (refusal 1 0 0, p)
-        ≡ cond enough (settled_by first_files p (require (good_stem caller.stem) 2 0 0 (judge_through first_slices (stated_in caller) s))) (refusal 1 0 0, p)
-    by_length true = stem-settled s w (stated_in caller) p (good_stem caller.stem)
-    by_length false = refl
+old-answers caller s p w = by-test (leb least_places (length p)) (λ e. rw e (stem-settled s w (stated_in caller) p (good_stem caller.stem))) (λ e. rw e)

@@ -7,7 +7,8 @@ use lib.ListN.{length, get_or, drop}
 use Rattle.places.specs.Places.{Pair, place_size, start_of, length_of, set_pairs, pairs_at, cleared, Within}
 use Rattle.places.proofs.Laws.{set-length, numbers-before, numbers_after, pairs_set, drop-pairs, cleared-length, cleared-drop, cleared-zero}
 use Rattle.tables.specs.File.{File, ac2, acc, drift, suspension, gas, opacity, files, room, first_pair, least_places}
-use Rattle.tables.proofs.Numbers.{first-pairs, room_in}
+use Rattle.tables.proofs.Numbers.{first-pairs}
+use Rattle.files.proofs.Texts.{rooms-fit}
 use Rattle.sets.specs.Judge.{SetRead, set_files}
 
 -- ---- one pair
@@ -75,10 +76,6 @@ starts-after k [] c f m = elim m [ ]
 starts-after k (_ ∷ fs) c f here = omega (arith, c)
 starts-after k (g ∷ fs) c f (there m) = omega (arith, starts-after (k + room g) fs c.1 f m)
 
-room-least : (f : File) → place_size * (first_pair f + room f) ≤ least_places
-unfolding least_places
-room-least f = omega (arith, room_in f)
-
 module _ (x : SetRead) (fit : (f : File) → length (x.file f).pairs ≤ room f) where
   pub files-length : (fs : List File) (p : List ℕ) → length (set_files fs x p) ≡ length p
   files-length [] p = refl
@@ -88,7 +85,7 @@ module _ (x : SetRead) (fit : (f : File) → length (x.file f).pairs ≤ room f)
   files-drop [] p = refl
   files-drop (f ∷ fs) p =
       files-drop fs (set_pairs (first_pair f) (x.file f).pairs p)
-      ∙ drop-pairs least_places (first_pair f) (x.file f).pairs p (omega (arith, room-least f, fit f))
+      ∙ drop-pairs least_places (first_pair f) (x.file f).pairs p (omega (arith, rooms-fit f, fit f))
 
   -- pairs before the first of these files stay
   files-before : (k : ℕ) (fs : List File) → Chained k fs → (p : List ℕ) (j : ℕ) → j < k → pair_at (set_files fs x p) j ≡ pair_at p j
@@ -102,7 +99,7 @@ module _ (x : SetRead) (fit : (f : File) → length (x.file f).pairs ≤ room f)
   files-set k [] c f m p l i h = elim m [ ]
   files-set k (_ ∷ fs) c f here p l i h =
       files-before (k + room f) fs c.1 (set_pairs (first_pair f) (x.file f).pairs p) (first_pair f + i) (omega (arith, c.0, fit f))
-      ∙ pair_set (first_pair f) (x.file f).pairs p i (omega (arith, room-least f, fit f)) h
+      ∙ pair_set (first_pair f) (x.file f).pairs p i (omega (arith, rooms-fit f, fit f)) h
   files-set k (g ∷ fs) c f (there m) p l i h =
       files-set (k + room g) fs c.1 f m (set_pairs (first_pair g) (x.file g).pairs p) (omega (arith, set-length (first_pair g) (x.file g).pairs p)) i h
 
@@ -129,8 +126,8 @@ module _ (x : SetRead) (fit : (f : File) → length (x.file f).pairs ≤ room f)
     unused-pair f i h r =
         files-unset 0 files chained f (among f) (cleared least_places p) i h r
         ∙ ap₂ (λ (a b : ℕ). (a, b))
-        (cleared-zero least_places p (place_size * (first_pair f + i)) (omega (arith, room-least f)))
-        (cleared-zero least_places p (place_size * (first_pair f + i) + 1) (omega (arith, room-least f)))
+        (cleared-zero least_places p (place_size * (first_pair f + i)) (omega (arith, rooms-fit f)))
+        (cleared-zero least_places p (place_size * (first_pair f + i) + 1) (omega (arith, rooms-fit f)))
 
     pub places-beyond : drop least_places filled ≡ drop least_places p
     places-beyond = files-drop files (cleared least_places p) ∙ cleared-drop least_places p

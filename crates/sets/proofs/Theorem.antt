@@ -7,6 +7,7 @@ use mathlib.Core.List.{List, []}
 use lib.Dec.{leb}
 use lib.ListN.{length, get_or, drop, length-map, get_or-map}
 use borrow.Author.Tests.{le-leb, lt-leb, leb-true}
+use Rattle.kinds.proofs.Laws.{by-test}
 use Rattle.refusals.specs.Answer.{Answer, refusal, acceptance, require}
 use Rattle.places.specs.Places.{Pair, start_of, length_of, value_at, cleared}
 use Rattle.places.proofs.Laws.{cleared-length, cleared-drop, cleared-zero}
@@ -46,11 +47,7 @@ module _ (st : Stated) (s : Slices) (p : List ℕ) (enough : least_places ≤ le
 
   -- by cases, whether a file is read
   by_read : {A : Type 0} (f : File) → (Read (record_of s x) f → A) → (NotRead (record_of s x) f → A) → A
-  by_read f h k = on (is_read f (booking_in (x.file ac2).values) (is_given (s.file f))) h k
-    where
-      on : {A : Type 0} (b : Bool) → (b ≡ true → A) → (b ≡ false → A) → A
-      on true h k = h refl
-      on false h k = k refl
+  by_read f h k = by-test (is_read f (booking_in (x.file ac2).values) (is_given (s.file f))) h k
 
   no_pairs : (f : File) → NotRead (record_of s x) f → length (pairs_of f) ≡ 0
   no_pairs f q = ap (λ (g : FileRead). length g.pairs) ((w.file f).unread q)

@@ -3,7 +3,7 @@
 
 // What acceptance takes from a file that passed: its axle count, whether its CodErrore is filled, and whether its idle
 // speed was entered by hand.
-#[derive(Clone, Copy)]
+#[derive(Debug, PartialEq, Eq, Clone, Copy)]
 pub struct Figures {
     pub axles: u32,
     pub mark: bool,
@@ -12,7 +12,7 @@ pub struct Figures {
 
 // "acceptance, with two axle counts (0 for a file not given) and a mark per result file", opacity's too (02, 2/14), and
 // whether gas's idle speed was entered by hand (02, 1/14).
-#[derive(Clone, Copy)]
+#[derive(Debug, PartialEq, Eq, Clone, Copy)]
 pub struct Acceptance {
     pub driftaxles: u32,
     pub suspensionaxles: u32,

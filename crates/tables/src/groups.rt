@@ -329,7 +329,7 @@ static OPACITY_TAGS: [u8; 55] = [
 ];
 
 // The group of a file; of a number that no file has that of AC2, of which nothing is looked for.
-pub fn group_of(file: u32) -> Group
+pub fn group_of(file: u32) -> Group<'static>
     ensures { Lent (names (group_of file)) result }
 {
     match file {

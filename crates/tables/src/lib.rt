@@ -45,7 +45,8 @@ pub struct SectionPlace {
     pub before: usize,
 }
 
-// The number that a table has for a file, by the file's number; 0 where it has none.
+// The number that a table has for a file, by the file's number; 0 where it has none. Each function has its own numbers beside it:
+// one table of structs would hold them apart from what says what they are.
 fn of_file(table: &[u8], file: u32) -> usize
     ensures { result ≡ get_or table.now file 0 }
 {
@@ -203,7 +204,7 @@ pub fn row_count(file: u32) -> usize
     of_file(&[0, 13, 7, 35, 53, 55, 0, 56], file)
 }
 
-// The digit 1 to 9 that a byte is; 0 for any other byte.
+// The digit 1 to 9 that a byte is; 0 for any other byte, since the heading without a digit is that of section 0.
 fn section_digit(byte: u8) -> usize
     ensures { result ≡ section_digit byte }
 {
@@ -213,7 +214,7 @@ fn section_digit(byte: u8) -> usize
     }
 }
 
-// The one section that a heading can be.
+// The one section that a heading can be; 0, the first, where it ends in no digit.
 fn likely_section(part: &[u8]) -> usize
     ensures { result ≡ likely_section part.now }
 {
@@ -251,7 +252,13 @@ pub fn section_place(file: u32, section: usize) -> SectionPlace
 
 // The row of the entry of a name in a section of that place; the number of rows where it is none of the section's: no Option,
 // for the same reason. The file's group is lent.
-pub fn find_row(file: u32, section: usize, place: SectionPlace, group: Group, part: &[u8]) -> usize
+pub fn find_row(
+    file: u32,
+    section: usize,
+    place: SectionPlace,
+    group: Group<'_>,
+    part: &[u8],
+) -> usize
     requires { IsPlaceOf file section place × Lent (names (group_of file)) group }
     ensures { result ≡ row_at (table_of file) section (entry_in (table_of file) section part.now) }
 {
@@ -274,12 +281,12 @@ pub fn heading(file: u32, section: usize) -> &'static [u8]
         .unwrap_or(b"")
 }
 
-// The line of a section's heading into `out` from `at` on; the place after it.
-pub fn write_heading(file: u32, section: usize, out: &mut [u8], at: usize) -> usize
-    requires { at + written_length (heading_line (heading_at (table_of file) section)) ≤ length out.old }
-    ensures { Wrote out.old at (written_line (heading_line (heading_at (table_of file) section))) out.new result }
+// The line of a section's heading at the beginning of `out`; its length.
+pub fn write_heading(file: u32, section: usize, out: &mut [u8]) -> usize
+    requires { written_length (heading_line (heading_at (table_of file) section)) ≤ length out.old }
+    ensures { Wrote out.old 0 (written_line (heading_line (heading_at (table_of file) section))) out.new result }
 {
-    lines::write_heading(out, at, heading(file, section))
+    lines::write_heading(out, heading(file, section))
 }
 
 // The name of an entry; what is no entry has the empty name.
@@ -293,17 +300,10 @@ pub fn name(file: u32, section: usize, entry: usize) -> &'static [u8]
     }
 }
 
-// The line of an entry with that value into `out` from `at` on; the place after it.
-pub fn write_entry(
-    file: u32,
-    section: usize,
-    entry: usize,
-    value: &[u8],
-    out: &mut [u8],
-    at: usize,
-) -> usize
-    requires { at + written_length (entry_line (name_at (table_of file) section entry) value.now) ≤ length out.old }
-    ensures { Wrote out.old at (written_line (entry_line (name_at (table_of file) section entry) value.now)) out.new result }
+// The line of an entry with that value at the beginning of `out`; its length.
+pub fn write_entry(file: u32, section: usize, entry: usize, value: &[u8], out: &mut [u8]) -> usize
+    requires { written_length (entry_line (name_at (table_of file) section entry) value.now) ≤ length out.old }
+    ensures { Wrote out.old 0 (written_line (entry_line (name_at (table_of file) section entry) value.now)) out.new result }
 {
-    lines::write_entry(out, at, name(file, section, entry), value)
+    lines::write_entry(out, name(file, section, entry), value)
 }

@@ -5,18 +5,18 @@ ghost use Rattle.tables.specs.Tags.{tag_of, PassesTo};
 
 // The names of a group, and their tags: these lie apart, since eight of them are tested at one load.
 #[derive(Clone, Copy)]
-pub struct Group {
-    pub names: &'static [&'static [u8]],
-    pub tags: &'static [u8],
+pub struct Group<'a> {
+    pub names: &'a [&'a [u8]],
+    pub tags: &'a [u8],
     pub ghost tagged: { tags.now ≡ map tag_of (map (λ n. n.now) names.now) },
 }
 
-impl Group {
+impl Group<'_> {
     // The row of a name among those from `start` to `end`, looked for in that order; `end` where it is none of them. A name
-    // is compared only where its tag is the part's.
+    // is compared only where its tag is the part's. No `for`: a row is not followed by the next, but by the next of that tag.
     pub(crate) fn find(self, start: usize, end: usize, part: &[u8]) -> usize
         requires { (start ≤ end) × (end ≤ length self.names.now) }
-        ensures { result ≡ start + index_of part.now (drop start (take end (map (λ n. n.now) self.names.now))) }
+        ensures { result ≡ start + index_of part.now (drop start (take end (map (λ n. n.now) self.entry.names.now))) }
     {
         let tag = tag_of(part);
         let mut row = pass_over(self.tags, start, end, tag);

@@ -8,7 +8,7 @@ use crate::{AC2, ACC, DRIFT, GAS, OPACITY, SUSPENSION};
 use kinds::numbers;
 
 // The number of a row that is a heading, or that the table has not: of no kind, and not the next that a kind will have.
-// Numbers and no enum: the C interface passes them, and one load answers a row's.
+// Numbers and no enum, as those of kinds (numbers.rt): one load answers a row's.
 pub const HEADING: u8 = 255;
 
 static AC2_KINDS: [u8; 13] = [

@@ -1,12 +1,14 @@
 -- Bytes that are written part by part. Assumes nothing.
-use Prim.Native.Nat.{ℕ, zero, suc, ◌+◌, ◌*◌, ◌≤◌, ◌<◌}
+use Prim.Native.Nat.{ℕ, zero, suc, ◌+◌, ◌-◌, ◌*◌, ◌≤◌, ◌<◌}
 use native.Mathlib.Numerals.{add-one}
 use native.Mathlib.Nat.{add-zero, zero-add, suc-add}
 use native.Mathlib.Omega.{arith}
 use mathlib.Core.Path.{◌≡◌, refl, ap, sym, ◌∙◌}
 use mathlib.Core.List.{List, [], ◌∷◌, ◌++◌, map, append_assoc, append-nil}
-use lib.ListN.{length, get_or, take, drop, length-append, take-append-drop, drop_of_length-le}
+use lib.ListN.{length, get_or, take, drop, length-append, length-drop, drop_of_length-le}
 use lib.Seq.{drop-cons, take_at, drop_at, get_or-take, length-take-le}
+use borrow.Rule.Slice.PartMut.{mid_of, put_mid}
+use Rattle.std.proofs.lemmas.List.{take_rest}
 use Rattle.lines.specs.Line.{Line, heading, entry, written_line, written_length, text_of}
 use Rattle.lines.specs.Writing.{put, Wrote}
 use Rattle.lines.proofs.Writing.{wrote-both, wrote-length, written-length}
@@ -19,34 +21,33 @@ use Rattle.orders.specs.AnyOrder.{Value, zip, entry_line, lines_of}
 use Rattle.reading.specs.Writing.{groups_of, write_text}
 use Rattle.writing.specs.Steps.{Ready, entries_text, section_text, sections_text}
 
--- ---- of the whole, written from place a on, the rest is still to be written, from place r on
+-- what lies behind the first r bytes
+length-rest : (r : ℕ) (e : List ℕ) → length (mid_of r (length e - r) e) ≡ length e - r
+length-rest r e = ap length (take_rest e r) ∙ length-drop r e
 
-pub record Partly (d : List ℕ) (a : ℕ) (whole e : List ℕ) (r : ℕ) (rest : List ℕ) : Type 0 where
+-- ---- of the whole the first r bytes are written at the beginning, and the rest is still to be written behind them
+
+pub record Partly (d whole e : List ℕ) (r : ℕ) (rest : List ℕ) : Type 0 where
   pub start : List ℕ
-  pub wrote : Wrote d a start e r
+  pub wrote : Wrote d 0 start e r
   pub whole_is : whole ≡ start ++ rest
-  pub room : a + length whole ≤ length d
+  pub room : length whole ≤ length d
 
-pub partly_none : (d : List ℕ) (a : ℕ) (whole : List ℕ) → a + length whole ≤ length d → Partly d a whole d a whole
-partly_none d a whole h =
-    let z : put d a [] ≡ d = unfold put in rw (append-nil, add-zero) (take-append-drop a d) in
-    record { start = []; wrote = record { place = omega arith; list = sym z }; whole_is = refl; room = h }
+pub partly_none : (d whole : List ℕ) → length whole ≤ length d → Partly d whole d 0 whole
+unfolding put
+partly_none d whole h = record { start = []; wrote = record { place = refl; list = refl }; whole_is = refl; room = h }
 
-module _ {d : List ℕ} {a : ℕ} {whole e : List ℕ} {r : ℕ} where
-  pub partly-length : {rest : List ℕ} → Partly d a whole e r rest → length e ≡ length d
+module _ {d whole e : List ℕ} {r : ℕ} where
+  pub partly-length : {rest : List ℕ} → Partly d whole e r rest → length e ≡ length d
   partly-length {rest} h = wrote-length h.wrote (omega (arith, h.room, ap length h.whole_is, length-append h.start rest))
 
-  pub partly-next : (x rest : List ℕ) {e₁ : List ℕ} {r₁ : ℕ} → Partly d a whole e r (x ++ rest) → Wrote e r x e₁ r₁ → Partly d a whole e₁ r₁ rest
+  pub partly-next : (x rest : List ℕ) {y : List ℕ} {k : ℕ}
+      → Partly d whole e r (x ++ rest) → Wrote (mid_of r (length e - r) e) 0 x y k → Partly d whole (put_mid r (length e - r) e y) (r + k) rest
   partly-next x rest h w =
-      record {
-        start = h.start ++ x;
-        wrote = wrote-both h.wrote w (omega (arith, h.room));
-        whole_is = h.whole_is ∙ sym (append_assoc h.start x rest);
-        room = h.room;
-      }
+      record { start = h.start ++ x; wrote = wrote-both h.wrote w; whole_is = h.whole_is ∙ sym (append_assoc h.start x rest); room = h.room }
 
-  pub partly-room : (x rest : List ℕ) → Partly d a whole e r (x ++ rest) → r + length x ≤ length e
-  partly-room x rest h =
+  partly-place : (x rest : List ℕ) → Partly d whole e r (x ++ rest) → r + length x ≤ length e
+  partly-place x rest h =
       omega (
         arith,
         h.room,
@@ -57,7 +58,13 @@ module _ {d : List ℕ} {a : ℕ} {whole e : List ℕ} {r : ℕ} where
         length-append x rest,
       )
 
-  pub partly-all : Partly d a whole e r [] → Wrote d a whole e r
+  pub partly-room : (x rest : List ℕ) → Partly d whole e r (x ++ rest) → length x ≤ length (mid_of r (length e - r) e)
+  partly-room x rest h = omega (arith, partly-place x rest h, length-rest r e)
+
+  pub partly-fits : (x rest : List ℕ) {y : List ℕ} {k : ℕ} → Partly d whole e r (x ++ rest) → Wrote (mid_of r (length e - r) e) 0 x y k → r + k ≤ length d
+  partly-fits x rest h w = omega (arith, partly-place x rest h, partly-length h, w.place)
+
+  pub partly-all : Partly d whole e r [] → Wrote d 0 whole e r
   partly-all h = rw (h.whole_is, append-nil h.start) h.wrote
 
 -- ---- an entry
@@ -113,24 +120,23 @@ no-sections s p k = refl
 
 -- ---- the loop over the entries es, before entry i
 
-pub record Entries (es : List Entry) (s p : List ℕ) (first : ℕ) (d : List ℕ) (a i : ℕ) (e : List ℕ) (r : ℕ) : Type 0 where
+pub record Entries (es : List Entry) (s p : List ℕ) (first : ℕ) (d : List ℕ) (i : ℕ) (e : List ℕ) (r : ℕ) : Type 0 where
   pub inside : i ≤ length es
-  pub kept : length e ≡ length d
-  pub part : Partly d a (entries_text es s p first) e r (entries_text (drop i es) s p (first + i))
+  pub part : Partly d (entries_text es s p first) e r (entries_text (drop i es) s p (first + i))
 
-pub entries-start : (es : List Entry) (s p : List ℕ) (first : ℕ) (d : List ℕ) (a : ℕ) → a + length (entries_text es s p first) ≤ length d → Entries es s p first d a 0 d a
-entries-start es s p first d a h = record { inside = omega arith; kept = refl; part = rw (add-zero first) (partly_none d a (entries_text es s p first) h) }
+pub entries-start : (es : List Entry) (s p : List ℕ) (first : ℕ) (d : List ℕ) → length (entries_text es s p first) ≤ length d → Entries es s p first d 0 d 0
+entries-start es s p first d h = record { inside = omega arith; part = rw (add-zero first) (partly_none d (entries_text es s p first) h) }
 
-module _ {es : List Entry} {s p : List ℕ} {first : ℕ} {d : List ℕ} {a i : ℕ} {e : List ℕ} {r : ℕ} (h : Entries es s p first d a i e r) where
+module _ {es : List Entry} {s p : List ℕ} {first : ℕ} {d : List ℕ} {i : ℕ} {e : List ℕ} {r : ℕ} (h : Entries es s p first d i e r) where
   module _ (l : i < length es) where
     line : List ℕ
     line = written_line (entry (name_in es i) (value_at s (start_of p (first + i), length_of p (first + i))))
 
-    entries-part : Partly d a (entries_text es s p first) e r (line ++ entries_text (drop (i + 1) es) s p (first + (i + 1)))
+    entries-part : Partly d (entries_text es s p first) e r (line ++ entries_text (drop (i + 1) es) s p (first + (i + 1)))
     unfolding line
     entries-part = rw (entry_next es s p first i l) at h.part
 
-    pub entries-room : r + written_length (entry (name_in es i) (value_at s (start_of p (first + i), length_of p (first + i)))) ≤ length e
+    pub entries-room : written_length (entry (name_in es i) (value_at s (start_of p (first + i), length_of p (first + i)))) ≤ length (mid_of r (length e - r) e)
     unfolding line
     entries-room =
         omega (
@@ -139,21 +145,25 @@ module _ {es : List Entry} {s p : List ℕ} {first : ℕ} {d : List ℕ} {a i : 
           written-length (entry (name_in es i) (value_at s (start_of p (first + i), length_of p (first + i)))),
         )
 
-    pub entries_next : {e₁ : List ℕ} {r₁ : ℕ} → Wrote e r (written_line (entry (name_in es i) (value_at s (start_of p (first + i), length_of p (first + i))))) e₁ r₁
-        → Entries es s p first d a (i + 1) e₁ r₁
-    unfolding line
-    entries_next w =
-        let q = partly-next line (entries_text (drop (i + 1) es) s p (first + (i + 1))) entries-part w in
-        record { inside = omega arith; kept = partly-length q; part = q }
+    module _ {y : List ℕ} {k : ℕ} (w : Wrote (mid_of r (length e - r) e) 0 (written_line (entry (name_in es i) (value_at s (start_of p (first + i), length_of p (first + i))))) y k) where
+      pub entries-fit : r + k ≤ length d
+      unfolding line
+      entries-fit = partly-fits line (entries_text (drop (i + 1) es) s p (first + (i + 1))) entries-part w
 
-  pub entries-end : length es ≤ i → Wrote d a (entries_text es s p first) e r
+      pub entries_next : Entries es s p first d (i + 1) (put_mid r (length e - r) e y) (r + k)
+      unfolding line
+      entries_next =
+          let q = partly-next line (entries_text (drop (i + 1) es) s p (first + (i + 1))) entries-part w in
+          record { inside = omega arith; part = q }
+
+  pub entries-end : length es ≤ i → Wrote d 0 (entries_text es s p first) e r
   entries-end l =
       let z : entries_text (drop i es) s p (first + i) ≡ [] = unfold entries_text text_of in rw (drop_of_length-le es l) in
       partly-all (rw z at h.part)
 
 -- ---- section c of t: its heading, then its entries
 
-module _ (t : List Section) (c : ℕ) {s p : List ℕ} {k n : ℕ} {out : List ℕ} {a : ℕ} (h : Ready s p k n out a (section_text (get_or t c no_section) s p k)) where
+module _ (t : List Section) (c : ℕ) {s p : List ℕ} {k n : ℕ} {out : List ℕ} (h : Ready s p k n out (section_text (get_or t c no_section) s p k)) where
   head : List ℕ
   head = written_line (heading (heading_at t c))
 
@@ -161,43 +171,51 @@ module _ (t : List Section) (c : ℕ) {s p : List ℕ} {k n : ℕ} {out : List �
   unfolding section_text head
   section-is = rw (heading-of t c)
 
-  section-room : a + (length head + length (entries_text (entries_in t c) s p k)) ≤ length out
+  section-room : length head + length (entries_text (entries_in t c) s p k) ≤ length out
   section-room = omega (arith, h.room, ap length section-is, length-append head (entries_text (entries_in t c) s p k))
 
-  pub heading-room : a + written_length (heading (heading_at t c)) ≤ length out
+  pub heading-room : written_length (heading (heading_at t c)) ≤ length out
   unfolding head
   heading-room = omega (arith, section-room, written-length (heading (heading_at t c)))
 
-  module _ {out₁ : List ℕ} {r : ℕ} (w : Wrote out a (written_line (heading (heading_at t c))) out₁ r) where
-    pub entries-ready : Ready s p k n out₁ r (entries_text (entries_in t c) s p k)
+  module _ {out₁ : List ℕ} {r : ℕ} (w : Wrote out 0 (written_line (heading (heading_at t c))) out₁ r) where
+    pub entries-ready : Ready s p k n (mid_of r (length out₁ - r) out₁) (entries_text (entries_in t c) s p k)
     unfolding head
     entries-ready =
         record {
           pairs = h.pairs;
           within = h.within;
-          room = omega (arith, section-room, w.place, wrote-length w (omega (arith, section-room)));
+          room = omega (arith, section-room, w.place, wrote-length w (omega (arith, section-room)), length-rest r out₁);
         }
 
-    pub section-wrote : {out₂ : List ℕ} {r₂ : ℕ} → Wrote out₁ r (entries_text (entries_in t c) s p k) out₂ r₂ → Wrote out a (section_text (get_or t c no_section) s p k) out₂ r₂
+    pub heading-within : r ≤ length out₁
     unfolding head
-    section-wrote v = rw section-is (wrote-both w v (omega (arith, h.room)))
+    heading-within = omega (arith, section-room, w.place, wrote-length w (omega (arith, section-room)))
+
+    module _ {y : List ℕ} {i : ℕ} (v : Wrote (mid_of r (length out₁ - r) out₁) 0 (entries_text (entries_in t c) s p k) y i) where
+      pub section-fits : r + i ≤ length out
+      unfolding head
+      section-fits = omega (arith, section-room, w.place, v.place)
+
+      pub section-wrote : Wrote out 0 (section_text (get_or t c no_section) s p k) (put_mid r (length out₁ - r) out₁ y) (r + i)
+      unfolding head
+      section-wrote = rw section-is (wrote-both w v)
 
 -- ---- the loop over the first `count` sections of t, before section c, whose first pair is k
 
-pub record Sections (t : List Section) (count : ℕ) (s p : List ℕ) (first : ℕ) (d : List ℕ) (a c k : ℕ) (e : List ℕ) (r : ℕ) : Type 0 where
+pub record Sections (t : List Section) (count : ℕ) (s p : List ℕ) (first : ℕ) (d : List ℕ) (c k : ℕ) (e : List ℕ) (r : ℕ) : Type 0 where
   pub inside : c ≤ count
   pub most : count ≤ length t
   pub pairs : place_size * (k + length (entries_of (drop c (take count t)))) ≤ length p
   pub within : Within s (pairs_at p k (length (entries_of (drop c (take count t)))))
-  pub kept : length e ≡ length d
-  pub part : Partly d a (sections_text (take count t) s p first) e r (sections_text (drop c (take count t)) s p k)
+  pub part : Partly d (sections_text (take count t) s p first) e r (sections_text (drop c (take count t)) s p k)
 
-pub sections-start : (t : List Section) (count : ℕ) (s p : List ℕ) (first : ℕ) (d : List ℕ) (a : ℕ) → count ≤ length t
-    → Ready s p first (length (entries_of (take count t))) d a (sections_text (take count t) s p first) → Sections t count s p first d a 0 first d a
-sections-start t count s p first d a m h =
-    record { inside = omega arith; most = m; pairs = h.pairs; within = h.within; kept = refl; part = partly_none d a (sections_text (take count t) s p first) h.room }
+pub sections-start : (t : List Section) (count : ℕ) (s p : List ℕ) (first : ℕ) (d : List ℕ) → count ≤ length t
+    → Ready s p first (length (entries_of (take count t))) d (sections_text (take count t) s p first) → Sections t count s p first d 0 first d 0
+sections-start t count s p first d m h =
+    record { inside = omega arith; most = m; pairs = h.pairs; within = h.within; part = partly_none d (sections_text (take count t) s p first) h.room }
 
-module _ {t : List Section} {count : ℕ} {s p : List ℕ} {first : ℕ} {d : List ℕ} {a c k : ℕ} {e : List ℕ} {r : ℕ} (h : Sections t count s p first d a c k e r) where
+module _ {t : List Section} {count : ℕ} {s p : List ℕ} {first : ℕ} {d : List ℕ} {c k : ℕ} {e : List ℕ} {r : ℕ} (h : Sections t count s p first d c k e r) where
   module _ (l : c < count) where
     x : Section
     x = get_or t c no_section
@@ -218,26 +236,34 @@ module _ {t : List Section} {count : ℕ} {s p : List ℕ} {first : ℕ} {d : Li
     both : Within s (pairs_at p k (length x.entries)) × Within s (pairs_at p (k + length x.entries) (length (entries_of rest)))
     both = within-append s p k (length x.entries) (length (entries_of rest)) (rw count-is at h.within)
 
-    sections-part : Partly d a (sections_text (take count t) s p first) e r (section_text x s p k ++ sections_text rest s p (k + length x.entries))
+    sections-part : Partly d (sections_text (take count t) s p first) e r (section_text x s p k ++ sections_text rest s p (k + length x.entries))
     sections-part = rw (ap (λ (u : List Section). sections_text u s p k) split ∙ section-next x rest s p k) at h.part
 
     pub section-pairs : place_size * (k + length (get_or t c no_section).entries) ≤ length p
     unfolding x
     section-pairs = omega (arith, h.pairs, count-is)
 
-    pub section-ready : Ready s p k (length (get_or t c no_section).entries) e r (section_text (get_or t c no_section) s p k)
+    pub section-ready : Ready s p k (length (get_or t c no_section).entries) (mid_of r (length e - r) e) (section_text (get_or t c no_section) s p k)
     unfolding x
     section-ready =
-        record { pairs = section-pairs; within = both.0; room = partly-room (section_text x s p k) (sections_text rest s p (k + length x.entries)) sections-part }
+        record {
+          pairs = section-pairs;
+          within = both.0;
+          room = partly-room (section_text x s p k) (sections_text rest s p (k + length x.entries)) sections-part;
+        }
 
-    pub sections-next : {e₁ : List ℕ} {r₁ : ℕ} → Wrote e r (section_text (get_or t c no_section) s p k) e₁ r₁
-        → Sections t count s p first d a (c + 1) (k + length (get_or t c no_section).entries) e₁ r₁
-    unfolding x rest
-    sections-next w =
-        let q = partly-next (section_text x s p k) (sections_text rest s p (k + length x.entries)) sections-part w in
-        record { inside = omega arith; most = h.most; pairs = omega (arith, h.pairs, count-is); within = both.1; kept = partly-length q; part = q }
+    module _ {y : List ℕ} {i : ℕ} (w : Wrote (mid_of r (length e - r) e) 0 (section_text (get_or t c no_section) s p k) y i) where
+      pub sections-fit : r + i ≤ length d
+      unfolding x rest
+      sections-fit = partly-fits (section_text x s p k) (sections_text rest s p (k + length x.entries)) sections-part w
 
-  pub sections-end : count ≤ c → Wrote d a (sections_text (take count t) s p first) e r
+      pub sections-next : Sections t count s p first d (c + 1) (k + length (get_or t c no_section).entries) (put_mid r (length e - r) e y) (r + i)
+      unfolding x rest
+      sections-next =
+          let q = partly-next (section_text x s p k) (sections_text rest s p (k + length x.entries)) sections-part w in
+          record { inside = omega arith; most = h.most; pairs = omega (arith, h.pairs, count-is); within = both.1; part = q }
+
+  pub sections-end : count ≤ c → Wrote d 0 (sections_text (take count t) s p first) e r
   sections-end l =
       let q : length (take count t) ≤ c = omega (arith, length-take-le count t h.most) in
       partly-all (rw (ap (λ (u : List Section). sections_text u s p k) (drop_of_length-le (take count t) q) ∙ no-sections s p k) at h.part)

@@ -65,8 +65,8 @@ section_text x s p k = written_line (heading x.heading) ++ entries_text x.entrie
 unfoldable pub sections_text : List Section → List ℕ → List ℕ → ℕ → List ℕ
 sections_text t s p k = write_text t (values_at s p k (length (entries_of t)))
 
--- n pairs from pair k on are there and lie within the text, and the output has room for the bytes from place a on
-pub record Ready (s p : List ℕ) (k n : ℕ) (out : List ℕ) (a : ℕ) (bytes : List ℕ) : Type 0 where
+-- n pairs from pair k on are there and lie within the text, and the output has room for the bytes
+pub record Ready (s p : List ℕ) (k n : ℕ) (out bytes : List ℕ) : Type 0 where
   pub pairs : place_size * (k + n) ≤ length p
   pub within : Within s (pairs_at p k n)
-  pub room : a + length bytes ≤ length out
+  pub room : length bytes ≤ length out

@@ -13,6 +13,7 @@ ghost use Rattle.writing.specs.Writing.{axles_right, is_outside, is_right, quote
 ghost use Rattle.writing.specs.Steps.{entry_count, first_kinds, RowsThere, Judges, WrongLine, pair_lengths, Ready, entries_text, section_text, sections_text};
 
 use kinds::numbers::KIND_COUNT;
+use places::PlacedText;
 use refusals::{Refusal, RefusalKind};
 use tables::{AC2, ACC, DRIFT, GAS, OPACITY, SUSPENSION, row_kinds};
 
@@ -44,13 +45,13 @@ fn is_right(file: u32, axles: u32) -> bool
 }
 
 // Number 17: whether start plus length of pair k is above the text's length.
-fn is_outside(text: &[u8], places: &[u32], k: usize) -> bool
-    requires { place_size * (k + 1) ≤ length places.now }
-    ensures { result ≡ ltb (length text.now)
-        (start_of places.now k + length_of places.now k) }
+fn is_outside(values: PlacedText<'_>, k: usize) -> bool
+    requires { place_size * (k + 1) ≤ length values.places.now }
+    ensures { result ≡ ltb (length values.entry.text.now)
+        (start_of values.entry.places.now k + length_of values.entry.places.now k) }
 {
-    let start = places::start_of(places, k) as usize;
-    text.len() < start + places::length_of(places, k) as usize
+    let start = places::start_of(values.places, k) as usize;
+    values.text.len() < start + values.length(k) as usize
 }
 
 // The line of the first entry that a test finds wrong, by the number of its kind and by its pair, in the first `count`
@@ -67,6 +68,7 @@ fn wrong_line<F: Fn(u8, usize) -> bool>(
     requires judged { Judges (F.pre is_wrong) (F.post is_wrong) wrong places.now first (entry_count (first_kinds file count)) }
     ensures { WrongLine wrong file count places.now first result }
 {
+    // Entries alone have pairs, so `pair` does not go up with each row.
     let mut pair = first;
     for row in 0..count {
         let kind = row_kinds::row_kind(file, row);
@@ -116,46 +118,41 @@ fn section_count(file: u32, axles: u32) -> usize
 }
 
 // 17, then 9, then the length, where 1 and 16 do not refuse.
-fn quote_right(
-    text: &[u8],
-    places: &[u32],
-    file: u32,
-    axles: u32,
-) -> Result<WriteAcceptance, Refusal>
-    requires { (least_places ≤ length places.now) × (is_right file axles ≡ true) }
-    ensures { answer_is result ≡ answer_of file (quote_right file axles text.now places.now) }
+fn quote_right(values: PlacedText<'_>, file: u32, axles: u32) -> Result<WriteAcceptance, Refusal>
+    requires { (least_places ≤ length values.places.now) × (is_right file axles ≡ true) }
+    ensures { answer_is result ≡ answer_of file (quote_right file axles values.entry.text.now values.entry.places.now) }
 {
     let sections = section_count(file, axles);
     let count = tables::rows_before(file, sections);
     let first = tables::first_pair(file);
-    let outside = |_, pair| is_outside(text, places, pair);
-    if let Some(line) = wrong_line(places, file, count, first, outside) {
+    let outside = |_, pair| is_outside(values, pair);
+    if let Some(line) = wrong_line(values.places, file, count, first, outside) {
         return Err(Refusal {
             kind: RefusalKind::PairOutside,
             file,
             line: line as u32,
         });
     }
-    let not_kept = |kind, pair| !kinds::kind_kept(kind, places::value_of(text, places, pair));
-    if let Some(line) = wrong_line(places, file, count, first, not_kept) {
+    let not_kept = |kind, pair| !kinds::kind_kept(kind, values.value(pair));
+    if let Some(line) = wrong_line(values.places, file, count, first, not_kept) {
         return Err(Refusal {
             kind: RefusalKind::WrongKind,
             file,
             line: line as u32,
         });
     }
-    let length = table_length(file, axles) + pair_lengths(places, first, count - sections);
+    let length = table_length(file, axles) + pair_lengths(values.places, first, count - sections);
     Ok(WriteAcceptance {
         length: length as u32,
     })
 }
 
 // All checks but the output's, in the order 1, 16, 17, 9, and the length of the file.
-pub fn quote(text: &[u8], places: &[u32], file: u32, axles: u32) -> Result<WriteAcceptance, Refusal>
-    ensures { answer_is result ≡ answer_of file (quote_file file axles text.now places.now) }
+pub fn quote(values: PlacedText<'_>, file: u32, axles: u32) -> Result<WriteAcceptance, Refusal>
+    ensures { answer_is result ≡ answer_of file (quote_file file axles values.entry.text.now values.entry.places.now) }
 {
     let least = tables::least_places();
-    if places.len() < least {
+    if values.places.len() < least {
         return Err(Refusal {
             kind: RefusalKind::PlacesTooShort,
             file: 0,
@@ -169,75 +166,69 @@ pub fn quote(text: &[u8], places: &[u32], file: u32, axles: u32) -> Result<Write
             line: 0,
         });
     }
-    quote_right(text, places, file, axles)
+    quote_right(values, file, axles)
 }
 
-// The lines of a section's entries, their pairs from `first` on, into `output` from `at` on; the place after them.
+// The lines of a section's entries, their pairs from `first` on, at the beginning of `output`; their length.
 fn write_entries(
+    values: PlacedText<'_>,
     file: u32,
     section: usize,
-    text: &[u8],
-    places: &[u32],
     first: usize,
     output: &mut [u8],
-    at: usize,
 ) -> usize
-    requires { Ready text.now places.now first (length (entries_in (table_of file) section)) output.old at
-        (entries_text (entries_in (table_of file) section) text.now places.now first) }
-    ensures { Wrote output.old at
-        (entries_text (entries_in (table_of file) section) text.now places.now first)
+    requires { Ready values.text.now values.places.now first (length (entries_in (table_of file) section)) output.old
+        (entries_text (entries_in (table_of file) section) values.text.now values.places.now first) }
+    ensures { Wrote output.old 0
+        (entries_text (entries_in (table_of file) section) values.entry.text.now values.entry.places.now first)
         output.new result }
 {
     let count = tables::entry_count(file, section);
-    let mut end = at;
+    let mut end = 0;
     for entry in 0..count {
-        let value = places::value_of(text, places, first + entry);
-        end = tables::write_entry(file, section, entry, value, output, end);
+        let value = values.value(first + entry);
+        end += tables::write_entry(file, section, entry, value, &mut output[end..]);
     }
     end
 }
 
-// A section's lines, its heading and then its entries, from a text and its pairs from `first` on.
+// A section's lines, its heading and then its entries, at the beginning of `output`; their length.
 pub fn write_section(
+    values: PlacedText<'_>,
     file: u32,
     section: usize,
-    text: &[u8],
-    places: &[u32],
     first: usize,
     output: &mut [u8],
-    at: usize,
 ) -> usize
-    requires { Ready text.now places.now first (length (entries_in (table_of file) section)) output.old at
-        (section_text (get_or (table_of file) section no_section) text.now places.now first) }
-    ensures { Wrote output.old at
-        (section_text (get_or (table_of file) section no_section) text.now places.now first)
+    requires { Ready values.text.now values.places.now first (length (entries_in (table_of file) section)) output.old
+        (section_text (get_or (table_of file) section no_section) values.text.now values.places.now first) }
+    ensures { Wrote output.old 0
+        (section_text (get_or (table_of file) section no_section) values.entry.text.now values.entry.places.now first)
         output.new result }
 {
-    let end = tables::write_heading(file, section, output, at);
-    write_entries(file, section, text, places, first, output, end)
+    let end = tables::write_heading(file, section, output);
+    end + write_entries(values, file, section, first, &mut output[end..])
 }
 
-// The lines of a file's first sections, from a text and its pairs from `first` on.
+// The lines of a file's first sections, their pairs from `first` on, at the beginning of `output`; their length.
 pub fn write_sections(
+    values: PlacedText<'_>,
     file: u32,
     count: usize,
-    text: &[u8],
-    places: &[u32],
     first: usize,
     output: &mut [u8],
-    at: usize,
 ) -> usize
     requires { (count ≤ length (table_of file))
-        × Ready text.now places.now first (entries_before (table_of file) count) output.old at
-        (sections_text (take count (table_of file)) text.now places.now first) }
-    ensures { Wrote output.old at
-        (sections_text (take count (table_of file)) text.now places.now first)
+        × Ready values.text.now values.places.now first (entries_before (table_of file) count) output.old
+        (sections_text (take count (table_of file)) values.text.now values.places.now first) }
+    ensures { Wrote output.old 0
+        (sections_text (take count (table_of file)) values.entry.text.now values.entry.places.now first)
         output.new result }
 {
     let mut pair = first;
-    let mut end = at;
+    let mut end = 0;
     for section in 0..count {
-        end = write_section(file, section, text, places, pair, output, end);
+        end += write_section(values, file, section, pair, &mut output[end..]);
         pair += tables::entry_count(file, section);
     }
     end
@@ -245,16 +236,15 @@ pub fn write_sections(
 
 // One file into `output`, in table order, an empty value for length 0.
 pub fn write_file(
-    text: &[u8],
-    places: &[u32],
+    values: PlacedText<'_>,
     file: u32,
     axles: u32,
     output: &mut [u8],
 ) -> Result<WriteAcceptance, Refusal>
-    ensures { Writes text.now places.now file axles
+    ensures { Writes values.entry.text.now values.entry.places.now file axles
         output.old output.new result }
 {
-    let acceptance = quote(text, places, file, axles)?;
+    let acceptance = quote(values, file, axles)?;
     if output.len() < acceptance.length as usize {
         return Err(Refusal {
             kind: RefusalKind::OutputTooShort,
@@ -263,14 +253,6 @@ pub fn write_file(
         });
     }
     let count = section_count(file, axles);
-    write_sections(
-        file,
-        count,
-        text,
-        places,
-        tables::first_pair(file),
-        output,
-        0,
-    );
+    write_sections(values, file, count, tables::first_pair(file), output);
     Ok(acceptance)
 }

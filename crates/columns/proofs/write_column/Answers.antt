@@ -1,6 +1,5 @@
 -- `columns::write_column` meets its contract: the first `i` numbers are the first `i` entries'. Assumes nothing.
 use borrow.Author.Rules.{rules}
-use mathlib.Core.Path.{◌≡◌}
 use native.Mathlib.Omega.{arith}
 use Rattle.due.specs.Due.{due_in}
 use Rattle.columns.specs.Column.{numbers_from}
@@ -15,8 +14,3 @@ pub loop-i-preserved : goal.loop-i-preserved
 loop-i-preserved c =
     let x = c.args in
     rw (c.loop-i.invariant, c.due_number.ensures) (numbers_more (λ j. due_in x.file j x.conditions) c.loop-i.i x.column.now _ c.due_of.ensures (omega arith))
-
-pub returns : goal.returns
-returns c =
-    let e : c.loop-i.i ≡ c.args.count = omega arith in
-    rw e at c.loop-i.invariant

@@ -9,8 +9,8 @@ use Rattle.tables.proofs.Values.{number-held, gas-held, opacity-held}
 use Rattle.due.proofs.Values.{gas-links, opacity-links}
 use Rattle.due.proofs.links_of.Goals as goal
 
-pub value_of-requires : goal.value_of-requires
-value_of-requires c = gas-held _ _ (number-held gas _ _ _ _ c.in-5.is c.requires) 19 (lit< tt)
+pub value-requires : goal.value-requires
+value-requires c = gas-held _ _ (number-held gas _ _ _ _ c.in-5.is c.requires) 19 (lit< tt)
 
 pub links_at-requires : goal.links_at-requires
 links_at-requires c =
@@ -26,16 +26,16 @@ pub returns-in-5 : goal.returns-in-5
 unfolding links_numbered
 returns-in-5 c =
     let x = c.args in
-    rw (of_number_lem no_links (λ (f : File). links_of f (values_of f 0 x.text.now x.places.now)) gas _ c.in-5.is, gas-links x.text.now x.places.now, ← c.value_of.ensures, ← c.version_of-speedtest.ensures) c.links_at.ensures
+    rw (of_number_lem no_links (λ (f : File). links_of f (values_of f 0 x.own.text.now x.own.places.now)) gas _ c.in-5.is, gas-links x.own.text.now x.own.places.now, ← c.value.ensures, ← c.version_of-speedtest.ensures) c.links_at.ensures
 
 pub returns-in-7 : goal.returns-in-7
 unfolding links_numbered
 returns-in-7 c =
     let x = c.args in
-    rw (of_number_lem no_links (λ (f : File). links_of f (values_of f 0 x.text.now x.places.now)) opacity _ c.in-7.is, opacity-links x.text.now x.places.now) c.links_at-in-7.ensures
+    rw (of_number_lem no_links (λ (f : File). links_of f (values_of f 0 x.own.text.now x.own.places.now)) opacity _ c.in-7.is, opacity-links x.own.text.now x.own.places.now) c.links_at-in-7.ensures
 
 pub returns-in_default : goal.returns-in_default
 unfolding links_numbered
 returns-in_default c =
     let x = c.args in
-    sym (of_others no_links (λ (f : File). links_of f (values_of f 0 x.text.now x.places.now)) _ (λ e. refl) (λ e. refl) (λ e. refl) (λ e. refl) (λ e. absurd (c.in_default.in_default-own.rest.0.1 e)) (λ e. absurd (c.in_default.in_default-own.rest.1 e)))
+    sym (of_others no_links (λ (f : File). links_of f (values_of f 0 x.own.text.now x.own.places.now)) _ (λ e. refl) (λ e. refl) (λ e. refl) (λ e. refl) (λ e. absurd (c.in_default.in_default-own.rest.0.1 e)) (λ e. absurd (c.in_default.in_default-own.rest.1 e)))

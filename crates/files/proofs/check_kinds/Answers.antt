@@ -13,9 +13,6 @@ use Rattle.files.proofs.Rows.{wrong_row}
 use Rattle.files.proofs.Slots.{line-at}
 use Rattle.files.proofs.check_kinds.Goals as goal
 
-pub row_kept-requires : goal.row_kept-requires
-row_kept-requires c = (c.requires.within c.loop-r.r, c.requires.printable c.loop-r.r)
-
 pub returns-then-not-row_kept : goal.returns-then-not-row_kept
 returns-then-not-row_kept c =
     let x = c.args in

@@ -14,16 +14,16 @@ use Rattle.files.proofs.is_by_hand.Goals as goal
 pub returns-then-file-ne-GAS : goal.returns-then-file-ne-GAS
 returns-then-file-ne-GAS c =
     let x = c.args in
-    let g : File → Bool = (λ f. is_by_hand f (values_of f x.axles x.text.now x.places.now)) in
+    let g : File → Bool = (λ f. is_by_hand f (values_of f x.axles x.own.text.now x.own.places.now)) in
     sym (of_others false g x.file (λ e. without-speed _ _ speeds.0) (λ e. without-speed _ _ speeds.1) (λ e. without-speed _ _ speeds.2) (λ e. without-speed _ _ speeds.3) (λ e. absurd (c.if-file-ne-GAS.true e)) (λ e. without-speed _ _ speeds.5))
 
-pub value_of-requires : goal.value_of-requires
-value_of-requires c =
+pub value-requires : goal.value-requires
+value-requires c =
     let x = c.args in
     gas-held _ _ (number-held gas x.file 0 _ _ (omega (arith, c.if-file-ne-GAS.false)) (fixed_held x.file x.axles _ _ c.requires)) 51 (lit< tt)
 
 pub returns : goal.returns
 returns c =
     let x = c.args in
-    let g : File → Bool = (λ f. is_by_hand f (values_of f x.axles x.text.now x.places.now)) in
-    rw (of_number_lem false g gas x.file (omega (arith, c.if-file-ne-GAS.false)), speed-at x.axles x.text.now x.places.now, ← c.value_of.ensures) c.is_by_hand.ensures
+    let g : File → Bool = (λ f. is_by_hand f (values_of f x.axles x.own.text.now x.own.places.now)) in
+    rw (of_number_lem false g gas x.file (omega (arith, c.if-file-ne-GAS.false)), speed-at x.axles x.own.text.now x.own.places.now, ← c.value.ensures) c.is_by_hand.ensures

@@ -1,8 +1,6 @@
 -- `files::read_alone` meets its contract: 1, 16, or what the cleared places are filled with. Assumes nothing.
 use native.Mathlib.Omega.{arith}
 use mathlib.Core.Path.{sym, ◌∙◌}
-use Rattle.places.proofs.Laws.{cleared-length}
-use Rattle.tables.specs.File.{least_places}
 use Rattle.files.proofs.Alone.{alone-short, alone-none, alone-given}
 use Rattle.files.proofs.read_alone.Goals as goal
 
@@ -15,12 +13,6 @@ pub returns-then-not-is_file : goal.returns-then-not-is_file
 returns-then-not-is_file c =
     let x = c.args in
     rw (c.refused-then-not-is_file.ensures, c.clear.ensures, c.least_places-least.ensures) (alone-none x.file x.text.now x.places.now (omega (arith, c.least_places-least.ensures, c.if-places-least.false)) (sym c.is_file.ensures ∙ c.if-not-is_file.true))
-
-pub read_cleared-requires : goal.read_cleared-requires
-read_cleared-requires c =
-    let x = c.args in
-    let e = c.least_places-least.ensures in
-    (rw (c.clear.ensures, e) (omega (arith, cleared-length least_places x.places.now (omega (arith, e, c.if-places-least.false)), e, c.if-places-least.false)), sym c.is_file.ensures ∙ c.if-not-is_file.false)
 
 pub returns : goal.returns
 returns c =

@@ -12,9 +12,9 @@ use Rattle.judge.proofs.figures_of.Goals as goal
 
 pub returns : goal.returns
 returns c =
-    let vs : File → List (List ℕ) = (λ f. values_of f c.args.axles c.args.text.now c.args.places.now) in
+    let vs : File → List (List ℕ) = (λ f. values_of f c.args.axles c.args.own.text.now c.args.own.places.now) in
     rw (
-      c.is_marked-mark.ensures ∙ by-file c.args.file c.requires.0 false (λ f. is_marked f (vs f)),
-      c.is_by_hand-byhand.ensures ∙ by-file c.args.file c.requires.0 false (λ f. is_by_hand f (vs f)),
+      c.is_marked.ensures ∙ by-file c.args.file c.requires.0 false (λ f. is_marked f (vs f)),
+      c.is_by_hand.ensures ∙ by-file c.args.file c.requires.0 false (λ f. is_by_hand f (vs f)),
     )
     refl

@@ -25,6 +25,3 @@ loop-i-preserved c =
           ∙ words_same x.a.now x.b.now (λ k. omega (arith, c.type_inv.a k)) (λ k. omega (arith, c.type_inv.b k)) 8 c.loop-i.i (omega arith) (omega arith)
           (sym c.word.ensures ∙ c.if-word.false ∙ c.word-in-loop-i.ensures),
     )
-
-pub returns : goal.returns
-returns c = c.equal_rest.ensures ∙ sym c.loop-i.invariant.2

@@ -1,13 +1,9 @@
 -- `lines::marks_of` meets its contract: what it does with the number, it does with each byte. Assumes nothing.
-use Prim.Native.Nat.{ℕ, ◌*◌}
+use Prim.Native.Nat.{ℕ}
 use native.Mathlib.Omega.{arith}
 use lib.ListN.{get_or}
-use lib.Bits.{bit_xor, and_le_r}
 use Rattle.lines.proofs.Lanes.{Holds, lacks-mask, other-mask}
 use Rattle.lines.proofs.marks_of.Goals as goal
-
-pub overflow_add-other : goal.overflow_add-other
-overflow_add-other c = omega (arith, and_le_r (bit_xor c.word.result (c.from.result * 0x0101010101010101)) 0x7f7f7f7f7f7f7f7f)
 
 pub returns : goal.returns
 returns c =

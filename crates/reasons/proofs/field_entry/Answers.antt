@@ -1,5 +1,4 @@
 -- `reasons::field_entry` meets its contract: the array is the entries' places, computed from their names. Assumes nothing.
-use native.Mathlib.Omega.{arith}
 use mathlib.Core.Path.{refl}
 use Rattle.lines.specs.Bytes.{same_bytes}
 use Rattle.kinds.specs.Value.{word_index}
@@ -8,14 +7,7 @@ use Rattle.tables.specs.Entries.{new_booking, protocol, measurement, analysis, a
 use Rattle.tables.specs.File.{entries, sections, fixed_sections, axle_sections}
 use Rattle.tables.specs.Value.{place_of}
 use Rattle.reasons.specs.Asked.{field_entry}
-use Rattle.reasons.proofs.Tests.{of-seven}
 use Rattle.reasons.proofs.field_entry.Goals as goal
-
-pub overflow_sub-result : goal.overflow_sub-result
-overflow_sub-result c = (of-seven _ c.requires).0
-
-pub bounds-field : goal.bounds-field
-bounds-field c = omega (arith, (of-seven c.args.field c.requires).0, (of-seven c.args.field c.requires).1)
 
 pub returns : goal.returns
 unfolding field_entry place_of word_index same_bytes entries entries_of sections fixed_sections axle_sections new_booking protocol measurement analysis analyser counter speed_test all_key_dates all_key_bodies fuel_analysis

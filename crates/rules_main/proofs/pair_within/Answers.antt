@@ -3,4 +3,4 @@ use Rattle.rules_main.proofs.Held.{one-within}
 use Rattle.rules_main.proofs.pair_within.Goals as goal
 
 pub returns : goal.returns
-returns c = one-within _ _ _ _ _ c.start_of-start.ensures c.length_of-size.ensures c.if-text-start.false
+returns c = one-within _ _ _ _ _ c.start_of-start.ensures c.length-size.ensures c.if-own-start.false

@@ -6,5 +6,5 @@ use Rattle.rules_main.proofs.show_read.Goals as goal
 pub show_fields-requires : goal.show_fields-requires
 show_fields-requires g c = (read-sound _ _ (sym c.in-Some.ensures)).ordered
 
-pub show_equal-requires : goal.show_equal-requires
-show_equal-requires g c = ((read-sound _ _ (sym c.in-Some.ensures)).ordered, c.requires)
+pub same_fields-requires : goal.same_fields-requires
+same_fields-requires g c = ((read-sound _ _ (sym c.in-Some.ensures)).ordered, c.requires)
