@@ -5,7 +5,7 @@ ghost use Rattle.std.specs.Prelude.{◌≡◌, ◌+◌, ◌*◌, ◌<◌, ◌≤
 ghost use Rattle.places.specs.Places.{place_size, start_of, length_of, set_pair, value_of, cleared};
 
 // That a pair lies within the places, or that these are as many as a set needs, stays a clause here and above: they are the caller's,
-// of any length. A type of places long enough would hold a `&mut`, of which each contract must then say what it hands back (tried).
+// of any length. A type of places long enough would hold a `&mut`, of which each contract must then say what it hands back.
 // That a file's pairs lie within its text (`Held`, with so many axles) stays one too: what takes them asks it for all axles or for
 // none, and a struct for each would be built, with its proof, where it is used.
 
