@@ -20,6 +20,8 @@ use Rattle.tables.proofs.Rows.{rows_few, kinds-count, rows-le}
 use Rattle.orders.specs.AnyOrder.{zip}
 use Rattle.reading.specs.Reading.{of_entries, Slots, Scan, stopped, scanned, empty_slots, read, read_text}
 use Rattle.reading.specs.Scanning.{Ready, Scanned}
+use Rattle.tables.proofs.Sections.{rows_all}
+use Rattle.reading.proofs.Lookup.{rows-less}
 use Rattle.reading.proofs.Sections.{kinds-take}
 use Rattle.reading.proofs.Judging.{scan-refused, scan-judged}
 use Rattle.files.specs.Files.{read_by, read_numbered}
@@ -43,6 +45,13 @@ module _ (n : ℕ) (ks : List ℕ) (k : KindsOf n ks) where
         within = λ (r : ℕ). rw (start-at xs r, length-at xs r) at (w.within r);
         printable = λ (r : ℕ). rw (start-at xs r, length-at xs r) at (w.printable r);
       }
+
+-- a row of the table has a slot
+pub row-there : (t : List Section) (s : List ℕ) (xs : List Slot) (r : ℕ) → Ready t s (slots_of xs) → r < row_count t → r < length xs
+row-there t s xs r w l = omega (arith, w.lines_are, lines-length xs)
+
+pub heading-there : (t : List Section) (s : List ℕ) (xs : List Slot) (r c : ℕ) → Ready t s (slots_of xs) → r ≡ rows_before t c → c < length t → r < length xs
+heading-there t s xs r c w e l = row-there t s xs r w (omega (arith, e, rows-less t c (length t) l (omega arith), rows_all t {c = length t} (omega arith)))
 
 -- the first numbers, as many as the table has rows
 module _ (n m : ℕ) (ks : List ℕ) (e : m ≡ row_count (table_of n)) (k : map row_kind (take (row_count (table_of n)) ks) ≡ row_kinds (table_of n)) where

@@ -7,8 +7,7 @@ ghost use Rattle.refusals.specs.Refusals.{refusal_with};
 ghost use Rattle.places.specs.Places.{value_at};
 ghost use Rattle.tables.specs.File.{table_of, is_file, of_number, least_sections, least_places};
 ghost use Rattle.tables.specs.Value.{values_of, NumberHeld};
-ghost use Rattle.tables.specs.Row.{names as names_of, row_count, most_rows, row_kind};
-ghost use Rattle.tables.specs.Groups.{group_of, Lent};
+ghost use Rattle.tables.specs.Row.{row_count, most_rows, row_kind};
 ghost use Rattle.reading.specs.Tables.{most_bytes};
 ghost use Rattle.reading.specs.Reading.{sections_found, check_gap, check_absent, check_kinds, kept_row, owner_row};
 ghost use Rattle.reading.specs.Scanning.{Took, Ready};
@@ -21,7 +20,7 @@ use lines::{Cursor, LineRead};
 use places::PlacedText;
 use refusals::{Refusal, RefusalKind};
 use tables::row_kinds::HEADING;
-use tables::{MOST_ROWS, groups, pairs, row_kinds};
+use tables::{MOST_ROWS, pairs, row_kinds};
 
 // As many bytes as a file has at most (01, Lines).
 const MOST_BYTES: usize = 16384;
@@ -71,10 +70,10 @@ const EMPTY: Slot = Slot {
 
 // A row that has no line yet takes this one, with its value's place.
 fn take_row(slots: &mut [Slot], row: usize, line: usize, start: usize, size: usize) -> bool
-    requires { (line ≤ most_bytes) × (start + size ≤ most_bytes) }
+    requires { (row < length slots.old) × (line ≤ most_bytes) × (start + size ≤ most_bytes) }
     ensures { Took (slots_of slots.old) (slots_of slots.new) row line start size result }
 {
-    if slots.len() <= row || slots[row].line != 0 {
+    if slots[row].line != 0 {
         return false;
     }
     slots[row] = Slot {
@@ -85,6 +84,8 @@ fn take_row(slots: &mut [Slot], row: usize, line: usize, start: usize, size: usi
     true
 }
 
+// Not inlined: the loop below ends at many places, and takes fewer instructions so.
+#[inline(never)]
 fn failed(kind: RefusalKind, line: usize) -> Result<(), Fault>
     requires { line ≤ most_bytes }
     ensures { result ≡ failure kind line }
@@ -100,7 +101,6 @@ fn scan_lines(file: u32, text: &[u8], slots: &mut [Slot]) -> Result<(), Fault>
     requires { Ready (table_of file) text.now (slots_of slots.old) }
     ensures { ScansFile file text.now (slots_of slots.old) (slots_of slots.new) result }
 {
-    let group = groups::group_of(file);
     // Before the first heading: the number that `find_section` answers for no section too, so an Option would be no plainer.
     let none = tables::section_count(file);
     let mut c = Cursor::new();
@@ -117,8 +117,11 @@ fn scan_lines(file: u32, text: &[u8], slots: &mut [Slot]) -> Result<(), Fault>
             }
             LineRead::Heading { start, end, next } => {
                 let section = tables::find_section(file, &text[start..end]);
-                let found = tables::section_place(file, section);
                 let line = next.line;
+                if none <= section {
+                    return failed(RefusalKind::HeadingNotExpected, line);
+                }
+                let found = tables::section_place(file, section);
                 if !take_row(slots, found.before, line, 0, 0) {
                     return failed(RefusalKind::HeadingNotExpected, line);
                 }
@@ -136,7 +139,9 @@ fn scan_lines(file: u32, text: &[u8], slots: &mut [Slot]) -> Result<(), Fault>
                 if none <= cur {
                     return failed(RefusalKind::LineForm, line);
                 }
-                let row = tables::find_row(file, cur, place, group, &text[start..equals]);
+                let Some(row) = tables::find_row(place, &text[start..equals]) else {
+                    return failed(RefusalKind::EntryNotExpected, line);
+                };
                 let from = equals + 1;
                 if !take_row(slots, row, line, from, end - from) {
                     return failed(RefusalKind::EntryNotExpected, line);

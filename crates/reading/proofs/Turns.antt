@@ -17,7 +17,9 @@ use Rattle.lines.proofs.Texts.{value-printable}
 use Rattle.lines.proofs.Layouts.{layout-end, layout-bad, layout-heading, layout-entry}
 use Rattle.places.specs.Places.{value_at}
 use Rattle.tables.specs.Section.{Section}
-use Rattle.tables.specs.Row.{rows_before, section_of}
+use Rattle.tables.specs.Row.{entries_in, entry_in, row_count, row_at, rows_before, section_of}
+use Rattle.tables.proofs.Sections.{rows_all}
+use Rattle.reading.proofs.Reduce.{not_free}
 use Rattle.reading.specs.Reading.{heading_row_of, entry_row_of, Slots, fill, is_free, stopped, scanned, scan}
 use Rattle.reading.specs.Scanning.{Took, Ready, Scanned, Turn}
 
@@ -69,6 +71,13 @@ module _ (t : List Section) (s : List ℕ) (first a : Slots) (c : Cursor) (cur :
   unfolding scan
   turn-bad n p = record { is = k.same ∙ ap (scan t s cur a) (layout-bad s c n p) ∙ ap (λ (m : ℕ). stopped 4 m) (sym (bad-number s c n p)); still = k.ready }
 
+  -- a heading that is none of the table's
+  pub turn-heading-unknown : (b e : ℕ) (n : Cursor) → line_at s c ≡ Heading b e n → length t ≤ section_of t (part s b e) → Scanned t s first a (stopped 5 n.line)
+  unfolding scan
+  turn-heading-unknown b e n p l =
+      let f : is_free a.line_numbers (heading_row_of t (part s b e)) ≡ false = not_free a.line_numbers (heading_row_of t (part s b e)) (omega (arith, rows_all t l, k.ready.lines_are)) in
+      record { is = k.same ∙ ap (scan t s cur a) (layout-heading s c b e n p) ∙ rw (f, (heading-moves s c b e n p).number); still = k.ready }
+
   module _ (b e : ℕ) (n : Cursor) (p : line_at s c ≡ Heading b e n) (section row : ℕ) (w : section ≡ section_of t (part s b e)) (u : row ≡ rows_before t section) (new : Slots) where
     row_is : row ≡ heading_row_of t (part s b e)
     row_is = u ∙ ap (λ (x : ℕ). rows_before t x) w
@@ -102,6 +111,14 @@ module _ (t : List Section) (s : List ℕ) (first a : Slots) (c : Cursor) (cur :
     turn-entry-first l =
         let f : ltb cur (length t) ≡ false = le-ltb cur (length t) l in
         record { is = k.same ∙ ap (scan t s cur a) (layout-entry s c b q e n p) ∙ rw (f, entry-line); still = k.ready }
+
+    -- a name that is none of the section's
+    pub turn-entry-unknown : cur < length t → length (entries_in t cur) ≤ entry_in t cur (part s b q) → Scanned t s first a (stopped 6 n.line)
+    unfolding scan row_at
+    turn-entry-unknown l i =
+        let u : ltb cur (length t) ≡ true = lt-ltb cur (length t) l in
+        let f : is_free a.line_numbers (entry_row_of t cur (part s b q)) ≡ false = rw (le-ltb _ _ i) (not_free a.line_numbers (row_count t) (omega (arith, k.ready.lines_are))) in
+        record { is = k.same ∙ ap (scan t s cur a) (layout-entry s c b q e n p) ∙ rw (u, f, entry-line); still = k.ready }
 
     module _ (l : cur < length t) (row : ℕ) (w : row ≡ entry_row_of t cur (part s b q)) (new : Slots) where
       pub turn-entry-refused : Took a new row n.line (q + 1) (e - (q + 1)) false → Scanned t s first new (stopped 6 n.line)

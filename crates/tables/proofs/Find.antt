@@ -93,9 +93,9 @@ run-below b s n e =
     absurd (false≢true (sym e ∙ all-without b (take n s) other)))
 
 -- a block of eight, one of which has it
-pub passes-block : (tags : List ℕ) (t a e r : ℕ) → a ≤ r → r + 8 ≤ e → e ≤ length tags → NoneFrom tags t a r → without t (take 8 (drop r tags)) ≡ false → {m : ℕ} → m ≡ other_run t (drop r tags)
-    → PassesTo tags t a e (r + m)
-passes-block tags t a e r h b l n w {m} q =
+pub passes-block : (tags : List ℕ) (t a r : ℕ) → a ≤ r → r + 8 ≤ length tags → NoneFrom tags t a r → without t (take 8 (drop r tags)) ≡ false → {m : ℕ} → m ≡ other_run t (drop r tags)
+    → PassesTo tags t a (r + m)
+passes-block tags t a r h b n w {m} q =
     let small = run-below t (drop r tags) 8 w in
     record {
       on = omega arith;

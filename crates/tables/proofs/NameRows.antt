@@ -1,12 +1,12 @@
 -- Names by their rows, and where a section's entries stand in their group: one law for every group. Assumes nothing.
 use Prim.Native.Nat.{ℕ, zero, suc, ◌+◌, ◌≤◌, ◌<◌}
 use native.Mathlib.Omega.{arith}
-use mathlib.Core.Path.{◌≡◌, refl, ap, sym, ◌∙◌}
+use mathlib.Core.Path.{◌≡◌, refl, ap, ap₂, sym, ◌∙◌}
 use mathlib.Core.List.{List, []}
 use lib.Dec.{ltb, eqb}
-use lib.ListN.{length, get_or, take, drop}
+use lib.ListN.{length, get_or, take, drop, length-map}
 use lib.Seq.{get_or-take, get_or-drop}
-use borrow.Author.Tests.{ltb-true, ltb-false, eqb-true, eqb-false}
+use borrow.Author.Tests.{lt-ltb, ltb-true, ltb-false, eqb-true, eqb-false}
 use Rattle.kinds.proofs.Laws.{by-test}
 use Rattle.tables.specs.Section.{Entry, Section}
 use Rattle.tables.specs.Entries.{
@@ -48,37 +48,69 @@ use Rattle.tables.specs.File.{
   axles_from,
   axle_entries,
 }
-use Rattle.tables.specs.Row.{names, name_in, entries_in, entry_in, index_of}
-use Rattle.tables.specs.Groups.{testers, gas_entries, group, group_of, StandsAt}
-use Rattle.std.proofs.lemmas.List.{drop-take, drop-map, take-map}
+use Rattle.tables.specs.Row.{names, name_in, entries_in, index_of, entry_in, row_count, row_at}
+use Rattle.tables.specs.Groups.{testers, gas_entries, group, group_of, StandsAt, lent_by, IsPlaceOf}
+use Rattle.tables.specs.LookUps.{looked_up}
+use Rattle.tables.specs.declared.SectionPlace.{SectionPlace}
+use Rattle.std.specs.Prelude.{Option, Some, None}
+use Rattle.std.proofs.lemmas.List.{drop-map, take-map}
 use Rattle.tables.proofs.Files.{of-file, of_others}
+use Rattle.tables.proofs.Rows.{row_in}
+use Rattle.tables.proofs.Listed.{lacks, finds}
 use Rattle.tables.proofs.Sections.{at-file, entries_none, drift-entries, suspension-entries}
 
 -- ---- a section in its group
 
 module _ {n c s : ℕ} (h : StandsAt n c s) where
   -- the names of a section
-  pub section-names : drop s (take (s + length (entries_in (table_of n) c)) (names (group_of n))) ≡ names (entries_in (table_of n) c)
+  section-names : take (length (entries_in (table_of n) c)) (drop s (names (group_of n))) ≡ names (entries_in (table_of n) c)
   section-names =
       let m = length (entries_in (table_of n) c) in
-      drop-take s m (names (group_of n)) ∙ ap (take m) (drop-map (λ x. x.name) s (group_of n)) ∙ take-map (λ x. x.name) m (drop s (group_of n)) ∙ ap names h.are
+      ap (take m) (drop-map (λ x. x.name) s (group_of n)) ∙ take-map (λ x. x.name) m (drop s (group_of n)) ∙ ap names h.are
 
-  -- what is looked for among them, in the names ns that are lent
-  pub found-there : {m r : ℕ} (p : List ℕ) {ns : List (List ℕ)} → m ≡ length (entries_in (table_of n) c) → ns ≡ names (group_of n) → r ≡ s + index_of p (drop s (take (s + m) ns))
-      → r ≡ s + entry_in (table_of n) c p
-  found-there {m} {r} p {ns} k g e =
-      e
-      ∙ ap (λ (i : ℕ). s + index_of p (drop s (take (s + i) ns))) k
-      ∙ ap (λ (xs : List (List ℕ)). s + index_of p (drop s (take (s + length (entries_in (table_of n) c)) xs))) g
-      ∙ ap (λ (xs : List (List ℕ)). s + index_of p xs) section-names
+  -- they are the part that is lent of the group's names, which are ns
+  pub part-names : {k : ℕ} {ns ps : List (List ℕ)} → ps ≡ take k (drop s ns) → k ≡ length (entries_in (table_of n) c) → ns ≡ names (group_of n) → ps ≡ names (entries_in (table_of n) c)
+  part-names q e g = q ∙ ap₂ (λ (k : ℕ) (ns : List (List ℕ)). take k (drop s ns)) e g ∙ section-names
+
+  pub part-within : {k : ℕ} {ns : List (List ℕ)} → k ≡ length (entries_in (table_of n) c) → ns ≡ names (group_of n) → s + k ≤ length ns
+  part-within e g = omega (arith, e, ap length g, length-map (group_of n) (λ x. x.name), h.within)
 
   pub listed_at : (i : ℕ) → i < length (entries_in (table_of n) c) → name_in (group_of n) (s + i) ≡ name_in (entries_in (table_of n) c) i
   unfolding name_in
   listed_at i l =
       let m = length (entries_in (table_of n) c) in
-      sym (get_or-take (s + m) (names (group_of n)) (s + i) [] (omega (arith, l)))
-      ∙ sym (get_or-drop s (take (s + m) (names (group_of n))) i [])
+      sym (get_or-drop s (names (group_of n)) i [])
+      ∙ sym (get_or-take m (drop s (names (group_of n))) i [] l)
       ∙ ap (λ (ns : List (List ℕ)). get_or ns i []) section-names
+
+-- ---- what is found in a section's place
+
+-- r is the row of the entry of a name in section c of the file of number n
+pub record Found (n c : ℕ) (s : List ℕ) (r : ℕ) : Type 0 where
+  pub row-is : r ≡ row_at (table_of n) c (entry_in (table_of n) c s)
+  pub there : r < row_count (table_of n)
+
+module _ {n c : ℕ} {p : SectionPlace} (h : IsPlaceOf n c p) where
+  many : length (lent_by p.group) ≡ length (entries_in (table_of n) c)
+  many = ap length h.lent ∙ length-map (entries_in (table_of n) c) (λ x. x.name)
+
+  index-is : (s : List ℕ) → index_of s (lent_by p.group) ≡ entry_in (table_of n) c s
+  index-is s = ap (index_of s) h.lent
+
+  -- the answer r of a look-up of the name s
+  module _ (s : List ℕ) {r : Option ℕ} (w : r ≡ looked_up s (lent_by p.group) (p.before + 1)) where
+    pub place-lacks : r ≡ None → length (entries_in (table_of n) c) ≤ entry_in (table_of n) c s
+    place-lacks e = omega (arith, many, index-is s, lacks s (lent_by p.group) (p.before + 1) (sym w ∙ e))
+
+    pub place-finds : {x : ℕ} → r ≡ Some x → Found n c s x
+    unfolding row_at
+    place-finds {x} e =
+        let v = finds s (lent_by p.group) (p.before + 1) x (sym w ∙ e) in
+        let l : entry_in (table_of n) c s < length (entries_in (table_of n) c) = omega (arith, many, index-is s, v.0) in
+        record {
+          row-is = rw (lt-ltb _ _ l) (omega (arith, v.1, index-is s, h.before-is));
+          there = omega (arith, v.1, index-is s, h.before-is, row_in (table_of n) c (entry_in (table_of n) c s) l);
+        }
 
 -- ---- where sections stand
 

@@ -6,7 +6,7 @@ use Rattle.tables.specs.declared.SectionPlace.{SectionPlace}
 use Rattle.tables.specs.declared.lookup.Group.{Group}
 use Rattle.tables.specs.Entries.{new_booking, old_booking, sixteen, drift_axle, suspension_axle, analysis, fuel_analysis, opacity_analysis}
 use Rattle.tables.specs.File.{File, ac2, acc, drift, suspension, gas, opacity, of_number, table_of}
-use Rattle.tables.specs.Row.{entries_in, rows_before}
+use Rattle.tables.specs.Row.{names, entries_in, rows_before}
 
 -- drift and suspension: what both have, then the axles of each
 unfoldable pub testers : List Entry
@@ -49,6 +49,5 @@ pub record StandsAt (n c s : ℕ) : Type 0 where
 
 -- p is the place of section c of the file of number n
 pub record IsPlaceOf (n c : ℕ) (p : SectionPlace) : Type 0 where
-  pub stands : StandsAt n c p.start
-  pub size_is : p.size ≡ length (entries_in (table_of n) c)
+  pub lent : Lent (names (entries_in (table_of n) c)) p.group
   pub before-is : p.before ≡ rows_before (table_of n) c

@@ -6,3 +6,4 @@ pub mod Value
 pub mod Test
 pub mod Tags
 pub mod Groups
+pub mod LookUps

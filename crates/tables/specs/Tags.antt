@@ -5,9 +5,9 @@ use Rattle.std.specs.Prelude.{ℕ, ◌+◌, ◌*◌, ◌%◌, ◌-◌, ◌≤◌
 unfoldable pub tag_of : List ℕ → ℕ
 tag_of s = (length s % 64 * 4 + get_or s 0 0 + get_or s (length s - 1) 0 % 32 * 8) % 256
 
--- of the rows from a to e, r is the first with the tag t; e where none has it
-pub record PassesTo (tags : List ℕ) (t a e r : ℕ) : Type 0 where
+-- of the rows from a on, r is the first with the tag t; the number of all rows where none has it
+pub record PassesTo (tags : List ℕ) (t a r : ℕ) : Type 0 where
   pub on : a ≤ r
-  pub within : r ≤ e
+  pub within : r ≤ length tags
   pub passed : (k : ℕ) → a ≤ k → k < r → get_or tags k 0 ≡ t → ⊥
-  pub found : r < e → get_or tags r 0 ≡ t
+  pub found : r < length tags → get_or tags r 0 ≡ t

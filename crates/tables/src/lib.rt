@@ -12,8 +12,9 @@ ghost use Rattle.std.specs.Prelude.{◌≡◌, ◌+◌, ◌≤◌, length, get_o
 ghost use Rattle.lines.specs.Line.{heading as heading_line, entry as entry_line, written_line, written_length};
 ghost use Rattle.lines.specs.Writing.{Wrote};
 ghost use Rattle.tables.specs.File.{table_of, of_number, is_file, least_sections, fixed_sections, room as room_of, first_pair, least_places};
-ghost use Rattle.tables.specs.Row.{entries_in, names, name_at, heading_at, section_of, entry_in, rows_before, entries_before, row_count, row_at};
-ghost use Rattle.tables.specs.Groups.{group_of, section_digit, likely_section, Lent, StandsAt, IsPlaceOf};
+ghost use Rattle.tables.specs.Row.{entries_in, name_at, heading_at, section_of, rows_before, entries_before, row_count, most_rows};
+ghost use Rattle.tables.specs.LookUps.{looked_up};
+ghost use Rattle.tables.specs.Groups.{section_digit, likely_section, lent_by, StandsAt, IsPlaceOf};
 
 use lookup::Group;
 
@@ -36,12 +37,10 @@ pub const OPACITY: u32 = 7;
 // As many rows as any table has: the size of an array with a number for each row.
 pub const MOST_ROWS: usize = 64;
 
-// Where a section stands: the row of its first entry in its group, how many entries it has, and the rows of its table
-// before it.
-#[derive(Debug, Clone, Copy, PartialEq, Eq)]
-pub struct SectionPlace {
-    pub start: usize,
-    pub size: usize,
+// A section for all look-ups under its heading: its names, and how many rows of its table stand before it.
+#[derive(Clone, Copy)]
+pub struct SectionPlace<'a> {
+    pub group: Group<'a>,
     pub before: usize,
 }
 
@@ -224,8 +223,8 @@ fn likely_section(part: &[u8]) -> usize
     }
 }
 
-// The section of a heading; the number of sections where it is none of the file's. No section has that number, so the test
-// that a caller makes for bounds tells this too: no Option, which would be a second test. Only the likely one is compared.
+// The section of a heading; the number of sections where it is none of the file's: no section has that number, which stands for 'no
+// heading yet' in a scan too. Only the likely one is compared.
 pub fn find_section(file: u32, part: &[u8]) -> usize
     ensures { result ≡ section_of (table_of file) part.now }
 {
@@ -238,37 +237,24 @@ pub fn find_section(file: u32, part: &[u8]) -> usize
     }
 }
 
-// The place of a section, for all look-ups under its heading. Of a section that there is not, it is left open where
-// in the group it stands.
-pub fn section_place(file: u32, section: usize) -> SectionPlace
+// The place of a section. One that there is not has no names.
+pub fn section_place(file: u32, section: usize) -> SectionPlace<'static>
     ensures { IsPlaceOf file section result }
 {
+    let start = section_start(file, section);
     SectionPlace {
-        start: section_start(file, section),
-        size: entry_count(file, section),
+        group: groups::group_of(file).part(start, entry_count(file, section)),
         before: rows_before(file, section),
     }
 }
 
-// The row of the entry of a name in a section of that place; the number of rows where it is none of the section's: no Option,
-// for the same reason. The file's group is lent.
-pub fn find_row(
-    file: u32,
-    section: usize,
-    place: SectionPlace,
-    group: Group<'_>,
-    part: &[u8],
-) -> usize
-    requires { IsPlaceOf file section place × Lent (names (group_of file)) group }
-    ensures { result ≡ row_at (table_of file) section (entry_in (table_of file) section part.now) }
+// The row of the entry of a name in the section of that place; None where it is none of the section's.
+pub fn find_row(place: SectionPlace<'_>, part: &[u8]) -> Option<usize>
+    requires { place.before ≤ most_rows }
+    ensures { result ≡ looked_up part.now (lent_by place.entry.group) (place.entry.before + 1) }
 {
-    let end = place.start + place.size;
-    let row = group.find(place.start, end, part);
-    if row < end {
-        place.before + 1 + (row - place.start)
-    } else {
-        row_count(file)
-    }
+    let row = place.group.find(part)?;
+    Some(place.before + 1 + row)
 }
 
 // The heading of a section, brackets included; what has no section has the empty heading.

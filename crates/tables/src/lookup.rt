@@ -1,6 +1,6 @@
 // A group of names, and the look-up of a name among them by its tag.
 ghost use Rattle.std.specs.Prelude.{◌≡◌, ◌+◌, ◌≤◌, map, length, take, drop};
-ghost use Rattle.tables.specs.Row.{index_of};
+ghost use Rattle.tables.specs.LookUps.{looked_up};
 ghost use Rattle.tables.specs.Tags.{tag_of, PassesTo};
 
 // The names of a group, and their tags: these lie apart, since eight of them are tested at one load.
@@ -11,22 +11,33 @@ pub struct Group<'a> {
     pub ghost tagged: { tags.now ≡ map tag_of (map (λ n. n.now) names.now) },
 }
 
-impl Group<'_> {
-    // The row of a name among those from `start` to `end`, looked for in that order; `end` where it is none of them. A name
-    // is compared only where its tag is the part's. No `for`: a row is not followed by the next, but by the next of that tag.
-    pub(crate) fn find(self, start: usize, end: usize, part: &[u8]) -> usize
-        requires { (start ≤ end) × (end ≤ length self.names.now) }
-        ensures { result ≡ start + index_of part.now (drop start (take end (map (λ n. n.now) self.entry.names.now))) }
+impl<'a> Group<'a> {
+    // So many of its names, from `start` on.
+    pub(crate) fn part(self, start: usize, size: usize) -> Group<'a>
+        requires { start + size ≤ length self.names.now }
+        ensures { map (λ n. n.now) result.names.now ≡ take size (drop start (map (λ n. n.now) self.entry.names.now)) }
+    {
+        let end = start + size;
+        Group {
+            names: &self.names[start..end],
+            tags: &self.tags[start..end],
+        }
+    }
+
+    // The row of a name among the group's, looked for in their order. A name is compared byte by byte only where its tag is the
+    // part's. No `for`: a row is not followed by the next, but by the next of that tag.
+    pub(crate) fn find(self, part: &[u8]) -> Option<usize>
+        ensures { result ≡ looked_up part.now (map (λ n. n.now) self.entry.names.now) 0 }
     {
         let tag = tag_of(part);
-        let mut row = pass_over(self.tags, start, end, tag);
-        while row < end {
+        let mut row = pass_over(self.tags, 0, tag);
+        while row < self.names.len() {
             if lines::same_name(part, self.names[row]) {
-                return row;
+                return Some(row);
             }
-            row = pass_over(self.tags, row + 1, end, tag);
+            row = pass_over(self.tags, row + 1, tag);
         }
-        row
+        None
     }
 }
 
@@ -41,31 +52,31 @@ fn tag_of(part: &[u8]) -> u8
     ((size % 64 * 4 + usize::from(part[0]) + usize::from(part[size - 1]) % 32 * 8) % 256) as u8
 }
 
-// The first row from `from` on with that tag, one by one; `end` where none before it has it.
-fn next_row(tags: &[u8], from: usize, end: usize, tag: u8) -> usize
-    requires { (from ≤ end) × (end ≤ length tags.now) }
-    ensures { PassesTo tags.now tag from end result }
+// The first row from `from` on with that tag, one by one; past the last where none has it.
+fn next_row(tags: &[u8], from: usize, tag: u8) -> usize
+    requires { from ≤ length tags.now }
+    ensures { PassesTo tags.now tag from result }
 {
-    for row in from..end {
+    for row in from..tags.len() {
         if tags[row] == tag {
             return row;
         }
     }
-    end
+    tags.len()
 }
 
 // Likewise, passing over eight rows at a time while none of the eight has that tag; fewer than eight one by one. No `for`,
 // which would come to these few as well and have to tell them apart.
-fn pass_over(tags: &[u8], from: usize, end: usize, tag: u8) -> usize
-    requires { (from ≤ end) × (end ≤ length tags.now) }
-    ensures { PassesTo tags.now tag from end result }
+fn pass_over(tags: &[u8], from: usize, tag: u8) -> usize
+    requires { from ≤ length tags.now }
+    ensures { PassesTo tags.now tag from result }
 {
     let mut row = from;
-    while 8 <= end - row {
+    while 8 <= tags.len() - row {
         if !lines::lacks(tags, row, tag) {
             return row + lines::first_of(tags, row, tag);
         }
         row += 8;
     }
-    next_row(tags, row, end, tag)
+    next_row(tags, row, tag)
 }

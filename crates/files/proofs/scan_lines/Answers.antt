@@ -2,7 +2,11 @@
 use native.Mathlib.Omega.{arith}
 use mathlib.Core.Path.{ap, sym, ◌∙◌}
 use mathlib.Core.Bool.{not}
-use Rattle.reading.proofs.Turns.{turn-first, turn_end, turn-bad, turn-heading-refused, turn-heading, turn-entry-first, turn-entry-refused, turn-entry, took-no, took-yes}
+use Rattle.reading.proofs.Turns.{turn-first, turn_end, turn-bad, turn-heading-unknown, turn-heading-refused, turn-heading, turn-entry-first, turn-entry-unknown, turn-entry-refused, turn-entry, took-no, took-yes}
+use Rattle.tables.specs.File.{table_of}
+use Rattle.tables.proofs.Rows.{rows-le, rows_few}
+use Rattle.tables.proofs.NameRows.{place-lacks, place-finds}
+use Rattle.files.proofs.Steps.{row-there, heading-there}
 use Rattle.files.proofs.Numbers.{bad-most, heading-in, entry-in}
 use Rattle.files.proofs.scan_lines.Goals as goal
 
@@ -33,10 +37,23 @@ slice_bounds-find_section-end c =
     let h = heading-in c.read_line.ensures c.in-Heading.is in
     omega arith
 
+pub failed-requires-then-none-section : goal.failed-requires-then-none-section
+failed-requires-then-none-section c =
+    let h = heading-in c.read_line.ensures c.in-Heading.is in
+    omega (arith, c.loop-line.invariant.0.ready.short)
+
+pub returns-then-none-section : goal.returns-then-none-section
+returns-then-none-section c =
+    let h = heading-in c.read_line.ensures c.in-Heading.is in
+    rw c.failed-then-none-section.ensures (turn-heading-unknown _ _ _ _ _ _ c.loop-line.invariant.0 _ _ _ h.is (omega (arith, c.section_count-none.ensures, c.find_section-section.ensures, c.if-none-section.true)))
+
 pub take_row-requires : goal.take_row-requires
 take_row-requires c =
-    let h = heading-in c.read_line.ensures c.in-Heading.is in
-    (omega (arith, c.loop-line.invariant.0.ready.short), omega arith)
+    let h = heading-in c.read_line.ensures c.in-Heading.is in (
+      heading-there _ _ _ _ _ c.loop-line.invariant.0.ready c.section_place-found.ensures.before-is (omega (arith, c.section_count-none.ensures, c.if-none-section.false)),
+      omega (arith, c.loop-line.invariant.0.ready.short),
+      omega arith,
+    )
 
 pub failed-requires-then-not-take_row : goal.failed-requires-then-not-take_row
 failed-requires-then-not-take_row c =
@@ -83,6 +100,19 @@ slice_bounds-find_row-end c =
     let h = entry-in c.read_line.ensures c.in-Entry.is in
     omega arith
 
+pub find_row-requires : goal.find_row-requires
+find_row-requires c = omega (arith, c.loop-line.invariant.1.before-is, rows-le (table_of c.args.file) c.loop-line.cur, rows_few c.args.file)
+
+pub failed-requires-in_default : goal.failed-requires-in_default
+failed-requires-in_default c =
+    let h = entry-in c.read_line.ensures c.in-Entry.is in
+    omega (arith, c.loop-line.invariant.0.ready.short)
+
+pub returns-in_default : goal.returns-in_default
+returns-in_default c =
+    let h = entry-in c.read_line.ensures c.in-Entry.is in
+    rw c.failed-in_default.ensures (turn-entry-unknown _ _ _ _ _ _ c.loop-line.invariant.0 _ _ _ _ h.is (omega (arith, c.section_count-none.ensures, c.if-none-cur.false)) (place-lacks c.loop-line.invariant.1 _ c.find_row.ensures c.in_default.is))
+
 pub overflow_add-from : goal.overflow_add-from
 overflow_add-from c =
     let h = entry-in c.read_line.ensures c.in-Entry.is in
@@ -96,7 +126,8 @@ overflow_sub-end c =
 pub take_row-requires-in-Entry : goal.take_row-requires-in-Entry
 take_row-requires-in-Entry c =
     let h = entry-in c.read_line.ensures c.in-Entry.is in
-    (omega (arith, c.loop-line.invariant.0.ready.short), omega (arith, c.loop-line.invariant.0.ready.short))
+    let f = place-finds c.loop-line.invariant.1 _ c.find_row.ensures c.in-Some.is in
+    (row-there _ _ _ _ c.loop-line.invariant.0.ready f.there, omega (arith, c.loop-line.invariant.0.ready.short), omega (arith, c.loop-line.invariant.0.ready.short))
 
 pub failed-requires-then-not-take_row-2 : goal.failed-requires-then-not-take_row-2
 failed-requires-then-not-take_row-2 c =
@@ -106,7 +137,8 @@ failed-requires-then-not-take_row-2 c =
 pub returns-then-not-take_row-2 : goal.returns-then-not-take_row-2
 returns-then-not-take_row-2 c =
     let h = entry-in c.read_line.ensures c.in-Entry.is in
-    rw c.failed-then-not-take_row-2.ensures (turn-entry-refused _ _ _ _ _ _ c.loop-line.invariant.0 _ _ _ _ h.is (omega (arith, c.section_count-none.ensures, c.if-none-cur.false)) _ c.find_row-row.ensures _ (took-no c.take_row-in-Entry.ensures (ap not c.if-not-take_row-2.true)))
+    let f = place-finds c.loop-line.invariant.1 _ c.find_row.ensures c.in-Some.is in
+    rw c.failed-then-not-take_row-2.ensures (turn-entry-refused _ _ _ _ _ _ c.loop-line.invariant.0 _ _ _ _ h.is (omega (arith, c.section_count-none.ensures, c.if-none-cur.false)) _ f.row-is _ (took-no c.take_row-in-Entry.ensures (ap not c.if-not-take_row-2.true)))
 
 pub loop-line-smaller : goal.loop-line-smaller
 loop-line-smaller c =
@@ -116,4 +148,5 @@ loop-line-smaller c =
 pub loop-line-preserved : goal.loop-line-preserved
 loop-line-preserved c =
     let h = entry-in c.read_line.ensures c.in-Entry.is in
-    (turn-entry _ _ _ _ _ _ c.loop-line.invariant.0 _ _ _ _ h.is (omega (arith, c.section_count-none.ensures, c.if-none-cur.false)) _ c.find_row-row.ensures _ (took-yes c.take_row-in-Entry.ensures (ap not c.if-not-take_row-2.false)), c.loop-line.invariant.1)
+    let f = place-finds c.loop-line.invariant.1 _ c.find_row.ensures c.in-Some.is in
+    (turn-entry _ _ _ _ _ _ c.loop-line.invariant.0 _ _ _ _ h.is (omega (arith, c.section_count-none.ensures, c.if-none-cur.false)) _ f.row-is _ (took-yes c.take_row-in-Entry.ensures (ap not c.if-not-take_row-2.false)), c.loop-line.invariant.1)

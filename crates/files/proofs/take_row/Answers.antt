@@ -1,4 +1,4 @@
--- `files::take_row` meets its contract: the row is past the end, taken, or free. Assumes nothing.
+-- `files::take_row` meets its contract: the row is taken, or free. Assumes nothing.
 use native.Mathlib.Omega.{arith}
 use mathlib.Core.Path.{◌∙◌}
 use Rattle.files.specs.Steps.{slots_of}
