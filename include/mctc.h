@@ -54,10 +54,27 @@
  *     8        judge: mark of opacity             0
  *     9        judge, read: 1 where the idle      0
  *              speed was entered by hand, else 0
+ *     10       judge: names compared              0
  *     others   0                                  0
  *
  * The idle speed is NumGiriMotoreMin of gas, entered by hand where its value begins with `#`. Number 9 says nothing of
  * the speeds in opacity.
+ *
+ * Names compared says how much looking up it took to read the set's files, and nothing of their values. For each line
+ * with an entry the names of its section are tried in the order of the file's table until its own is found. Every name
+ * that is tried counts 1, each time that it is tried, also one that its length or a byte already tells apart. So a
+ * section of n entries adds 1 + 2 + .. + n, in whatever order its lines stand:
+ *
+ *     file   adds where it is read
+ *     1      78
+ *     2      21
+ *     3      136, then 1 for each axle
+ *     4      136, then 6 for each axle
+ *     5      1,109
+ *     6      0
+ *     7      1,540
+ *
+ * A file that is not read adds 0: one that is not given, and ACC with category L.
  *
  * The calls that say what the judge goes by:
  *
@@ -142,8 +159,8 @@ extern "C" {
  *
  * Accepted: answer 3 and 4 are the axle counts of drift and suspension, 0 for a file that is not given; 5, 6, 7 and 8
  * are the marks of drift, suspension, gas and opacity, 1 where the file is given with CodErrore filled, else 0; 9 is 1
- * where gas is given and its idle speed was entered by hand, 0 where it was measured or gas is not given. Which sets
- * pass does not hang on 9. The places have the pairs of all files that were read. */
+ * where gas is given and its idle speed was entered by hand, 0 where it was measured or gas is not given; 10 is the names
+ * compared. Which sets pass does not hang on 9 or 10. The places have the pairs of all files that were read. */
 uint32_t mctc_judge(const uint8_t *stem, size_t stem_length,
                     const uint8_t *ac2, size_t ac2_length,
                     const uint8_t *acc, size_t acc_length,

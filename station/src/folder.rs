@@ -8,7 +8,7 @@ use crate::json::Object;
 use crate::judge::{not_judged_json, Judged, Wish};
 use crate::output::{Output, Status, Trouble};
 use crate::progress::Progress;
-use crate::shown::{self, counted};
+use crate::shown::{self, counted, names_compared};
 
 pub fn run(path: &Path, wish: Wish, out: &mut Output) -> Result<Status, Trouble> {
     let Wish { json, all } = wish;
@@ -85,12 +85,13 @@ fn one_object(stem: &[u8], judged: &Result<Judged, Trouble>, before: usize) -> S
     format!("{comma}{object}")
 }
 
-/// How many sets ended in which way.
+/// How many sets ended in which way, and the names compared in those that were accepted.
 #[derive(Default)]
 struct Counts {
     accepted: u64,
     refused: u64,
     not_judged: u64,
+    names_compared: u64,
     worst: Status,
 }
 
@@ -102,13 +103,20 @@ impl Counts {
             Status::Refused => &mut self.refused,
             Status::Trouble => &mut self.not_judged,
         } += 1;
+        let compared = judged.as_ref().map_or(0, Judged::names_compared);
+        self.names_compared += u64::from(compared);
         self.worst = self.worst.max(status);
     }
 
     fn line(&self) -> String {
         let sets = (self.accepted + self.refused + self.not_judged) as usize;
+        let look_ups = if self.accepted > 0 {
+            format!("; {} in accepted sets", names_compared(self.names_compared))
+        } else {
+            String::new()
+        };
         format!(
-            "{}: {} accepted, {} refused, {} not judged\n",
+            "{}: {} accepted, {} refused, {} not judged{look_ups}\n",
             counted(sets, "set"),
             self.accepted,
             self.refused,
@@ -121,6 +129,7 @@ impl Counts {
             .number("accepted", self.accepted)
             .number("refused", self.refused)
             .number("not_judged", self.not_judged)
+            .number("names_compared", self.names_compared)
             .members()
     }
 }

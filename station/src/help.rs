@@ -89,8 +89,8 @@ the cause where it is known, what is expected there, and what to do.
 With STEM: the verdict on that set. With --json one object: stem, accepted,
 number, file, line (0 for none), name, meaning, text, remark, to_do, cause,
 expected, mend, drift_axles, suspension_axles, drift_mark, suspension_mark,
-gas_mark, opacity_mark, idle_by_hand, empty, notes; or stem and error where a
-file cannot be read.
+gas_mark, opacity_mark, idle_by_hand, names_compared, empty, notes; or stem and
+error where a file cannot be read.
 
 Of an accepted set it says which files are marked, that is, have CodErrore
 filled; and apart from that, whether gas's idle speed was measured or entered by
@@ -102,6 +102,14 @@ An accepted set may have notes: values that are near a word that counts, as
 `benzina` is near `BENZINA`, and by which something would be due; and drift and
 suspension with different counts of axles. Any set may have notes of files in
 the folder that have its stem, but no ending of a set: they are not read.
+
+The line look-up of an accepted set says how much looking up of names it took to
+read it: for each line with an entry, the names of its section that were tried
+until its own was found, added up over all files. It says nothing of whether the
+truck is in order: it hangs on which files were read and how many axles they
+have, whatever the order of their lines and whatever stands behind `=`. Gas
+always adds 1109 and opacity 1540, however long their values. In the object it
+is names_compared, 0 where the set is refused.
 
 mend is what to_do asks for, where that can be done without knowing more, or
 null. It was tried: with it, the judge accepts, refuses at a later place, or
@@ -123,8 +131,10 @@ cause, expected, mend.
 
 Without STEM: a line for each set, which tells marked files and an idle speed
 entered by hand, with --all also one for each further finding, then how many
-were accepted, refused and not judged. With --json one object: folder, sets (an
-array of the objects above), accepted, refused, not_judged; or folder and error.
+were accepted, refused and not judged, and, where one was accepted, how many
+names were compared in all accepted sets together. With --json one object:
+folder, sets (an array of the objects above), accepted, refused, not_judged,
+names_compared (that sum, 0 where none was accepted); or folder and error.
 
 Exit status: 0 all accepted; 1 one is refused; 2 bad usage, no set in the
 folder, no file of that stem, or a file cannot be read.

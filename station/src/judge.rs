@@ -16,7 +16,7 @@ use crate::json::Object;
 use crate::not_as_due::doubts;
 use crate::output::{Output, Status, Trouble};
 use crate::page::labelled;
-use crate::shown::{counted, IDLE_BY_HAND};
+use crate::shown::{counted, names_compared, IDLE_BY_HAND};
 
 /// What is asked for besides the verdict.
 #[derive(Clone, Copy, Debug, PartialEq, Eq)]
@@ -104,13 +104,21 @@ impl Judged {
         }
     }
 
+    /// Of an accepted set; 0 where it is refused.
+    pub fn names_compared(&self) -> u32 {
+        let acceptance = self.verdict.as_ref();
+        acceptance.map_or(0, |acceptance| acceptance.names_compared)
+    }
+
     fn page(&self) -> String {
         let stem = self.set.stem_shown();
         match &self.verdict {
             Ok(acceptance) => {
                 let files = self.accepted_files(acceptance);
+                let look_up = detail("look-up", &names_compared(acceptance.names_compared.into()));
                 let notes = self.noted.iter().map(|note| labelled("note", note));
-                format!("{stem}: accepted\n{files}{}", notes.collect::<String>())
+                let notes: String = notes.collect();
+                format!("{stem}: accepted\n{files}{look_up}{notes}")
             }
             Err(explained) => {
                 let (number, page) = (explained.refusal.number, explained.page());
@@ -203,7 +211,7 @@ impl Judged {
                     format!("{}{}", on_disk.name, self.about(file.number, acceptance))
                 }
             };
-            lines += &format!("  {:14}  {what}\n", file.title);
+            lines += &detail(file.title, &what);
         }
         lines
     }
@@ -248,6 +256,7 @@ impl Judged {
             .truth("gas_mark", acceptance.gas_mark)
             .truth("opacity_mark", acceptance.opacity_mark)
             .truth("idle_by_hand", acceptance.idle_by_hand)
+            .number("names_compared", acceptance.names_compared)
             .strings("empty", self.set.empty_files())
             .strings("notes", self.noted.iter().map(String::as_str));
         let object = match &self.further {
@@ -296,6 +305,11 @@ fn other_axles(set: &SetOnDisk, acceptance: &Acceptance) -> Option<String> {
 
 pub fn counts_as_not_given(name: &str) -> String {
     format!("{name} is empty and counts as not given")
+}
+
+/// A line of an acceptance: a file or the look-up, and what is said of it.
+fn detail(title: &str, what: &str) -> String {
+    format!("  {title:14}  {what}\n")
 }
 
 /// Whether a result file is marked; None of the other files.

@@ -158,6 +158,11 @@ pub fn listed(parts: &[String], last_word: &str) -> String {
     }
 }
 
+/// 02, 4/14: how much looking up it took to read one accepted set, or several.
+pub fn names_compared(count: u64) -> String {
+    format!("{count} names compared")
+}
+
 /// `1 axle`, `2 axles`.
 pub fn counted(count: usize, what: &str) -> String {
     let ending = if count == 1 { "" } else { "s" };

@@ -70,7 +70,8 @@ impl fmt::Display for Refusal {
 
 impl std::error::Error for Refusal {}
 
-/// What the acceptance of a set carries. The default is that of a set whose result files are all not given.
+/// What the acceptance of a set carries. The default is that of a set whose result files are all not given, but for
+/// `names_compared`, which is never 0 in an accepted set.
 #[derive(Clone, Copy, Debug, Default, PartialEq, Eq)]
 pub struct Acceptance {
     /// 0 where drift is not given.
@@ -85,6 +86,10 @@ pub struct Acceptance {
     /// Gas is given, and its idle speed NumGiriMotoreMin was entered by hand: `#` stands before the number. False where
     /// it was measured.
     pub idle_by_hand: bool,
+    /// How much looking up it took to read the set: for each line with an entry, how many names of its section were
+    /// tried, in table order, until its own was found. A section of n entries adds 1 + 2 + .. + n in any order of its
+    /// lines, so that this hangs only on which files were read and how many axles they have.
+    pub names_compared: u32,
 }
 
 /// What the acceptance of a file read alone carries.
@@ -404,7 +409,8 @@ fn group_at(groups: &mut Vec<Vec<Reason>>, number: usize) -> &mut Vec<Reason> {
 /// Judges a whole set; the places have the pairs of all files that were read.
 pub fn judge(set: &Set, places: &mut Places) -> Result<Acceptance, Refusal> {
     answered(|answer| lent::judge(set, &mut places.0, answer)).map(|values| {
-        let [drift_axles, suspension_axles, drift, suspension, gas, opacity, ..] = values;
+        let [drift_axles, suspension_axles, drift, suspension, gas, opacity, _, names_compared, ..] =
+            values;
         Acceptance {
             drift_axles,
             suspension_axles,
@@ -413,6 +419,7 @@ pub fn judge(set: &Set, places: &mut Places) -> Result<Acceptance, Refusal> {
             gas_mark: gas == 1,
             opacity_mark: opacity == 1,
             idle_by_hand: idle_by_hand(&values),
+            names_compared,
         }
     })
 }

@@ -1,13 +1,16 @@
 //! The calls of the binding on the repository's samples.
 
 use std::fs;
-use std::path::Path;
+use std::path::{Path, PathBuf};
 
 use mctc::{Acceptance, Due, FileAcceptance, Places, Refusal, Set};
 
+fn samples() -> PathBuf {
+    Path::new(env!("CARGO_MANIFEST_DIR")).join("../../samples")
+}
+
 fn sample(name: &str) -> Vec<u8> {
-    let samples = Path::new(env!("CARGO_MANIFEST_DIR")).join("../../samples");
-    fs::read(samples.join(name)).expect("a sample")
+    fs::read(samples().join(name)).expect("a sample")
 }
 
 fn refusal(number: u32, file: u32, line: u32) -> Refusal {
@@ -33,6 +36,7 @@ fn a_set_is_judged() {
         gas_mark: false,
         opacity_mark: false,
         idle_by_hand: false,
+        names_compared: 78 + 139,
     };
     assert_eq!(mctc::judge(&set, &mut places), Ok(acceptance));
     let third = places.value(3, 18).expect("the third axle");
@@ -97,7 +101,10 @@ fn diesel(opacity: &[u8], places: &mut Places) -> Result<Acceptance, Refusal> {
 fn a_diesel_is_judged_with_its_opacity() {
     let opacity = sample("accepted-diesel/AE305518.OPA");
     let mut places = Places::default();
-    let unmarked = Acceptance::default();
+    let unmarked = Acceptance {
+        names_compared: 78 + 1540,
+        ..Acceptance::default()
+    };
     assert_eq!(diesel(&opacity, &mut places), Ok(unmarked));
     let plate = places.value(7, 14).expect("Targa");
     assert_eq!(&opacity[plate], b"EZ518RM");
@@ -179,6 +186,7 @@ fn a_set_says_whether_its_idle_speed_was_entered_by_hand() {
     let measured = Acceptance {
         drift_axles: 2,
         suspension_axles: 2,
+        names_compared: 1494,
         ..Acceptance::default()
     };
     let by_hand = Acceptance {
@@ -205,6 +213,48 @@ fn a_file_says_whether_its_idle_speed_was_entered_by_hand() {
     for (file, end) in [(1, "AC2"), (2, "ACC"), (3, "DER"), (4, "SOS")] {
         let text = sample(&format!("accepted-car/AA123456.{end}"));
         assert!(!by_hand(file, &text), "{end} has no idle speed");
+    }
+}
+
+/// Of a sample's set, whose files stand under this stem, with endings in capitals.
+fn names_compared(stem: &str) -> u32 {
+    let [ac2, acc, drift, suspension, gas, identification, opacity] =
+        ["AC2", "ACC", "DER", "SOS", "GAS", "ID", "OPA"]
+            .map(|ending| fs::read(samples().join(format!("{stem}.{ending}"))).unwrap_or_default());
+    let (_, name) = stem.split_once('/').expect("a folder");
+    let set = Set {
+        stem: name.as_bytes(),
+        ac2: &ac2,
+        acc: &acc,
+        drift: &drift,
+        suspension: &suspension,
+        gas: &gas,
+        identification: &identification,
+        opacity: &opacity,
+    };
+    let acceptance = mctc::judge(&set, &mut Places::default());
+    acceptance.expect("it is accepted").names_compared
+}
+
+/// The lines of the car and of the diesel's opacity stand in an order of their own.
+#[test]
+fn a_set_says_how_many_names_were_compared() {
+    let section = |entries: u32| (1..=entries).sum::<u32>();
+    let (new_booking, old_booking) = (section(12), section(6));
+    let drift = section(16) + 2 * section(1);
+    let suspension = section(16) + 2 * section(3);
+    let gas = section(46) + section(7);
+    let opacity = section(55);
+    let with_axles = new_booking + old_booking + drift + suspension;
+    let right = [
+        ("accepted-car/AA123456", with_axles + gas),
+        ("accepted-unknown-day/AF410986", with_axles + gas),
+        ("accepted-diesel/AE305518", with_axles + opacity),
+        // Its old booking is not read.
+        ("accepted-moped/AD900123", new_booking + gas),
+    ];
+    for (stem, right) in right {
+        assert_eq!(names_compared(stem), right, "{stem}");
     }
 }
 

@@ -14,6 +14,7 @@ use Rattle.tables.specs.File.{File, file_number, fixed_sections, least_places, l
 use Rattle.tables.specs.Value.{values_of, Held, NumberHeld}
 use Rattle.files.specs.Files.{read_numbered, axles_of, is_by_hand, by_hand_in}
 use Rattle.files.specs.Steps.{ReadsText}
+use Rattle.files.specs.declared.TextRead.{TextRead}
 use Rattle.files.specs.Alone.{refused_as, read_given, read_alone, alone_answer, alone_places, ReadsCleared, ReadsAlone}
 use Rattle.files.specs.declared.FileAcceptance.{FileAcceptance}
 use Rattle.tables.specs.File.{sections, axle_sections, axles_from}
@@ -39,7 +40,10 @@ module _ (n : ℕ) (s p : List ℕ) where
         let g = filled ∙ v.0 in
         record { answer = rw (g, v.1); places = rw g v.2 }
 
-    module _ (enough : least_places ≤ length p) (is : is_file n ≡ true) (c : ℕ) (v : ReadsText n s (Ok c) p q ls) (a : ℕ) (k : a ≡ c - of_number 0 (λ f. length (fixed_sections f)) n) where
+    module _ (enough : least_places ≤ length p) (is : is_file n ≡ true) (y : TextRead) (v : ReadsText n s (Ok y) p q ls) (a : ℕ) (k : a ≡ y.sections - of_number 0 (λ f. length (fixed_sections f)) n) where
+      abbrev c : ℕ
+      c = y.sections
+
       abbrev file : File
       file = (is-file n is).0
 
@@ -50,13 +54,13 @@ module _ (n : ℕ) (s p : List ℕ) where
       axles-are = k ∙ ap (λ (m : ℕ). c - m) (of_number_lem 0 (λ f. length (fixed_sections f)) file n number)
 
       pub read_held : NumberHeld n a s q
-      read_held = held_number file n a s q number (subst (λ (m : ℕ). Held file m s q) (sym axles-are) (text-held file n number s p q ls c v enough))
+      read_held = held_number file n a s q number (subst (λ (m : ℕ). Held file m s q) (sym axles-are) (text-held file n number s p q ls y v enough))
 
       by_hand : by_hand_in n (λ f. values_of f a s q) ≡ by_hand_in n (λ f. map (value_at s) v.0)
       by_hand =
           of_number_lem false (λ f. is_by_hand f (values_of f a s q)) file n number
           ∙ ap (λ (m : ℕ). is_by_hand file (values_of file m s q)) axles-are
-          ∙ ap (is_by_hand file) (text-values file n number s p q ls c v enough)
+          ∙ ap (is_by_hand file) (text-values file n number s p q ls y v enough)
           ∙ sym (of_number_lem false (λ f. is_by_hand f (map (value_at s) v.0)) file n number)
 
       pub cleared-read : (h : Bool) → h ≡ by_hand_in n (λ f. values_of f a s q) → ReadsCleared n s p q (Ok (record { axles = a; byhand = h }))
@@ -92,8 +96,9 @@ few-sections (suc (suc (suc (suc (suc (suc (suc zero))))))) = omega arith
 few-sections (suc (suc (suc (suc (suc (suc (suc (suc n)))))))) = omega arith
 
 -- the count of a text that was read
-pub count-in : (n : ℕ) (s p q ls : List ℕ) (c : ℕ) → ReadsText n s (Ok c) p q ls → (of_number 0 (λ f. length (fixed_sections f)) n ≤ c) × (c ≤ 10)
-count-in n s p q ls c v =
+pub count-in : (n : ℕ) (s p q ls : List ℕ) (y : TextRead) → ReadsText n s (Ok y) p q ls → (of_number 0 (λ f. length (fixed_sections f)) n ≤ y.sections) × (y.sections ≤ 10)
+count-in n s p q ls y v =
+    let c = y.sections in
     let i = (sound (table_of n) (of_number 0 least_sections n) s (number-distinct n) c v.0 _ (by-inv (table_of n) (of_number 0 least_sections n) s c v.0 _ v.1).1).is in
     (omega (arith, fixed-least n, i.enough), omega (arith, few-sections n, i.most))
 

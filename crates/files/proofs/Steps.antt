@@ -8,7 +8,7 @@ use lib.ListN.{length, take, drop, length-append, length-drop, length-map, lengt
 use borrow.Author.Tests.{le-leb, lt-leb}
 use Rattle.std.specs.Prelude.{Result, Ok, Err}
 use Rattle.reading.specs.Tables.{most_bytes}
-use Rattle.refusals.specs.Refusals.{number_of, refusal_with}
+use Rattle.refusals.specs.Refusals.{refusal_with}
 use Rattle.refusals.specs.declared.RefusalKind.TheVariants.{FileTooLong}
 use Rattle.kinds.specs.Kind.{Kind}
 use Rattle.places.specs.Places.{place_size}
@@ -18,16 +18,17 @@ use Rattle.tables.specs.Row.{row_count, rows_before, row_kinds, row_kind, most_r
 use Rattle.tables.proofs.Numbers.{room_in}
 use Rattle.tables.proofs.Rows.{rows_few, kinds-count, rows-le}
 use Rattle.orders.specs.AnyOrder.{zip}
-use Rattle.reading.specs.Reading.{of_entries, Slots, Scan, stopped, scanned, empty_slots, read, read_text}
+use Rattle.reading.specs.Reading.{of_entries, Slots, Scan, empty_slots, read, read_text}
 use Rattle.reading.specs.Scanning.{Ready, Scanned}
 use Rattle.tables.proofs.Sections.{rows_all}
 use Rattle.reading.proofs.Lookup.{rows-less}
 use Rattle.reading.proofs.Sections.{kinds-take}
 use Rattle.reading.proofs.Judging.{scan-refused, scan-judged}
 use Rattle.files.specs.Files.{read_by, read_numbered}
-use Rattle.files.specs.Steps.{KindsOf, slots_of, ValuesReady, JudgesSlots, RowsReady, WriteReady, WritesRows, WritesRead, ReadsSlots, ReadsText}
+use Rattle.files.specs.Steps.{KindsOf, slots_of, ValuesReady, ScansFile, JudgesSlots, slots_read, RowsReady, WriteReady, WritesRows, WritesRead, ReadsSlots, ReadsText}
 use Rattle.files.specs.declared.Fault.{Fault}
 use Rattle.files.specs.declared.Slot.{Slot}
+use Rattle.files.specs.declared.TextRead.{TextRead}
 use Rattle.files.proofs.Entries.{entries-pairs, entries-lines}
 use Rattle.files.proofs.Slots.{lines-length, start-at, length-at}
 
@@ -149,11 +150,18 @@ module _ (n : ℕ) (s : List ℕ) (b a : Slots) (e : b ≡ empty_slots (row_coun
   from_empty : (x : Scan) → Scanned (table_of n) s b a x → Scanned (table_of n) s (empty_slots (row_count (table_of n))) a x
   from_empty x w = subst (λ (y : Slots). Scanned (table_of n) s y a x) e w
 
-  pub slots-refused : (x : Fault) → Scanned (table_of n) s b a (stopped (number_of x.kind) x.line) → ReadsSlots n s a (Err x)
-  slots-refused x w = record { ready = w.still; is = scan-refused (table_of n) (of_number 0 least_sections n) s a _ _ (from_empty _ w) }
+  pub slots-refused : (x : Fault) → ScansFile n s b a (Err x) → ReadsSlots n s a (Err x)
+  slots-refused x w = record { ready = w.0.still; is = scan-refused (table_of n) (of_number 0 least_sections n) s a _ _ (from_empty _ w.0); compared = tt }
 
-  pub slots-judged : (r : Result ℕ Fault) → Scanned (table_of n) s b a (scanned a) → JudgesSlots (table_of n) (of_number 0 least_sections n) s a r → ReadsSlots n s a r
-  slots-judged r w j = record { ready = w.still; is = scan-judged (table_of n) (of_number 0 least_sections n) s a (from_empty _ w) ∙ j.is }
+  module _ (k : ℕ) (w : ScansFile n s b a (Ok k)) where
+    judged : (r : Result ℕ Fault) → JudgesSlots (table_of n) (of_number 0 least_sections n) s a r → read_text (table_of n) (of_number 0 least_sections n) s ≡ slots_read (table_of n) r a
+    judged r j = scan-judged (table_of n) (of_number 0 least_sections n) s a (from_empty _ w.0) ∙ j.is
+
+    pub slots-failed : (x : Fault) → JudgesSlots (table_of n) (of_number 0 least_sections n) s a (Err x) → ReadsSlots n s a (Err x)
+    slots-failed x j = record { ready = w.0.still; is = judged _ j; compared = tt }
+
+    pub slots-judged : (c : ℕ) → JudgesSlots (table_of n) (of_number 0 least_sections n) s a (Ok c) → ReadsSlots n s a (Ok (record { sections = c; compared = k }))
+    slots-judged c j = record { ready = w.0.still; is = judged _ j; compared = w.1 }
 
 -- ---- 3 to 9
 
@@ -178,9 +186,10 @@ module _ (n : ℕ) (s : List ℕ) where
           lines_fit = omega (arith, lines_fit n c);
         }
 
-    pub text-read : (c : ℕ) (p q ls : List ℕ) → ReadsSlots n s (slots_of xs) (Ok c) → WritesRead n c (slots_of xs) p q ls → ReadsText n s (Ok c) p q ls
-    text-read c p q ls w v =
+    pub text-read : (y : TextRead) (p q ls : List ℕ) → ReadsSlots n s (slots_of xs) (Ok y) → WritesRead n y.sections (slots_of xs) p q ls → ReadsText n s (Ok y) p q ls
+    text-read y p q ls w v =
+        let c = y.sections in
         let ks = row_kinds (take c (table_of n)) in
         let ps = of_entries ks (zip (slots_of xs).starts (slots_of xs).lengths) in
         let m : length ps ≡ length (of_entries ks (slots_of xs).line_numbers) = rw (entries-pairs ks xs, entries-lines ks xs) (simp length-map) in
-        (ps, by-text ∙ w.is ∙ ap (λ (l : List ℕ). read c ps l) (sym v.lines ∙ ap (λ (i : ℕ). take i ls) (sym m)), v.pairs)
+        (ps, by-text ∙ w.is ∙ ap (λ (l : List ℕ). read c ps l) (sym v.lines ∙ ap (λ (i : ℕ). take i ls) (sym m)), v.pairs, w.compared)

@@ -16,6 +16,7 @@ use Rattle.tables.proofs.Axles.{entries-most}
 use Rattle.reading.specs.Reading.{read}
 use Rattle.files.specs.Files.{read_by, read_file, read_numbered, axles_of, AxleCount}
 use Rattle.files.specs.Steps.{ReadsText}
+use Rattle.files.specs.declared.TextRead.{TextRead}
 use Rattle.std.specs.Prelude.{Ok}
 use Rattle.files.proofs.Theorem.{FileRead, read-sound}
 
@@ -43,7 +44,10 @@ pub read-numbered : (f : File) (n : ℕ) (s : List ℕ) → n ≡ file_number f 
 read-numbered f n s e = sym (ap₂ (λ (t : List Section) (m : ℕ). read_by t m s) (ap table_of e ∙ table-of f) (of_number_lem 0 least_sections f n e))
 
 -- its text s was read: places p before, q after
-module _ (f : File) (n : ℕ) (e : n ≡ file_number f) (s p q ls : List ℕ) (c : ℕ) (w : ReadsText n s (Ok c) p q ls) where
+module _ (f : File) (n : ℕ) (e : n ≡ file_number f) (s p q ls : List ℕ) (y : TextRead) (w : ReadsText n s (Ok y) p q ls) where
+  abbrev c : ℕ
+  c = y.sections
+
   pub text-read : read_file f s ≡ read c w.0 (take (length w.0) ls)
   text-read = read-numbered f n s e ∙ w.1
 

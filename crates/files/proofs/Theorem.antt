@@ -16,9 +16,11 @@ use Rattle.tables.specs.File.{File, opacity, has_axles, most_axles, least_axles,
 use Rattle.tables.proofs.Axles.{sections-fixed, sections-length, sections-prefix}
 use Rattle.reading.specs.Fitting.{FitsText, EachKept, StartOf}
 use Rattle.reading.specs.Reading.{refused, read, read_text}
+use Rattle.reading.specs.LookUps.{names_compared, entry_lines, sums_of}
 use Rattle.reading.specs.Theorem.{IsText}
 use Rattle.reading.proofs.Tables.{tables-distinct, tables-clean, tables-short, bounds, opacity-within}
 use Rattle.reading.proofs.Theorem.{sound, complete, unique}
+use Rattle.reading.proofs.LookUps.{names-counted, lines-counted}
 use Rattle.reading.proofs.Written.{kept-length}
 use Rattle.reading.proofs.Formed.{short-text, text-bound, all-within}
 use Rattle.files.specs.Files.{read_by, read_file, axles_of, AxleCount, IsFile}
@@ -88,11 +90,15 @@ pub record FileRead (f : File) (s : List ℕ) (c : ℕ) (pairs : List Pair) : Ty
   pub within : Within s pairs
   pub starts : (i : ℕ) → i < length pairs → StartOf (sections f (axles_of f c)) s i (get_or pairs i (0, 0)).0
   pub many : length pairs ≡ length (entries f (axles_of f c))
+  -- 02, 4/14
+  pub compared : names_compared (all_sections f) s ≡ sums_of (sections f (axles_of f c))
+  pub lines : entry_lines (all_sections f) s ≡ length (entries f (axles_of f c))
 
 pub read-sound : (f : File) (s : List ℕ) (c : ℕ) (ps : List Pair) (ls : List ℕ) → read_file f s ≡ read c ps ls → FileRead f s c ps
 unfolding entries
 read-sound f s c ps ls e =
-    let r = sound (all_sections f) (least_sections f) s (tables-distinct f) c ps ls (by-inv (all_sections f) (least_sections f) s c ps ls e).1 in
+    let i = (by-inv (all_sections f) (least_sections f) s c ps ls e).1 in
+    let r = sound (all_sections f) (least_sections f) s (tables-distinct f) c ps ls i in
     let k = counted-file f c r.is.enough r.is.most in
     let z = k.sections-are in
     let kept = subst (λ (t : List Section). EachKept (entries_of t) (map (value_at s) ps)) z r.is.kept in
@@ -102,6 +108,8 @@ read-sound f s c ps ls e =
       within = r.within;
       starts = λ (i : ℕ) (l : i < length ps). subst (λ (t : List Section). StartOf t s i (get_or ps i (0, 0)).0) z (r.starts i l);
       many = sym (length-map ps (value_at s)) ∙ kept-length (entries_of (sections f (axles_of f c))) (map (value_at s) ps) kept;
+      compared = names-counted (all_sections f) (least_sections f) s c ps ls i ∙ ap sums_of z;
+      lines = lines-counted (all_sections f) (least_sections f) s c ps ls i ∙ ap (λ (t : List Section). length (entries_of t)) z;
     }
 
 -- what is to be read

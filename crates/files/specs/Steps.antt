@@ -12,11 +12,13 @@ use Rattle.tables.specs.Row.{row_count, row_kinds, row_kind, entries_before}
 use Rattle.orders.specs.AnyOrder.{zip}
 use Rattle.reading.specs.Tables.{most_bytes}
 use Rattle.reading.specs.Scanning.{Ready, Scanned}
+use Rattle.reading.specs.LookUps.{names_compared}
 use Rattle.tables.specs.File.{first_pair, least_sections, of_number, table_of}
 use Rattle.reading.specs.Reading.{Slots, slots, Scan, stopped, scanned, Check, passes, fails, Reading, refused, read, read_slots, judge_slots, sections_found, of_entries, read_text, empty_slots}
 use Rattle.files.specs.Files.{read_numbered}
 use Rattle.files.specs.declared.Fault.{Fault}
 use Rattle.files.specs.declared.Slot.{Slot}
+use Rattle.files.specs.declared.TextRead.{TextRead}
 
 -- what the code's slots hold: each row's line, start and length
 abbrev pub slots_of : List Slot → Slots
@@ -33,21 +35,26 @@ place_of x = (x.start, x.length)
 abbrev pub KindsOf : ℕ → List ℕ → Type 0
 KindsOf n ks = map row_kind ks ≡ row_kinds (table_of n)
 
--- a check of a text, or a part of its reading: passed, or the fault
+-- 02, 4/14: where a text s was scanned, k is the number of names compared
+abbrev pub IsCompared : List Section → List ℕ → Result ℕ Fault → Type 0
+IsCompared t s (Ok k) = k ≡ names_compared t s
+IsCompared t s (Err x) = Unit {0}
+
+-- a check of a text: passed, or the fault
 abbrev pub Outcome : Type 0
 Outcome = Result Unit Fault
 
-abbrev pub failure : RefusalKind → ℕ → Outcome
+abbrev pub failure : RefusalKind → ℕ → Result ℕ Fault
 failure k l = Err (record { kind = k; line = l })
 
--- what the outcome of a scan says, with the slots that it leaves
-abbrev pub scan_is : Outcome → Slots → Scan
-scan_is (Ok x) a = scanned a
+-- what the answer of a scan says, with the slots that it leaves
+abbrev pub scan_is : Result ℕ Fault → Slots → Scan
+scan_is (Ok k) a = scanned a
 scan_is (Err x) a = stopped (number_of x.kind) x.line
 
--- the text s of file n was scanned, from the slots a to the slots b
-abbrev pub ScansFile : ℕ → List ℕ → Slots → Slots → Outcome → Type 0
-ScansFile n s a b r = Scanned (table_of n) s a b (scan_is r b)
+-- the text s of file n was scanned, from the slots a to the slots b; where it passed, the answer is the number of names compared
+abbrev pub ScansFile : ℕ → List ℕ → Slots → Slots → Result ℕ Fault → Type 0
+ScansFile n s a b r = Scanned (table_of n) s a b (scan_is r b) × IsCompared (table_of n) s r
 
 -- what reading a text s of file n into empty slots a asks: the numbers of its rows' kinds, and a text that is not too long
 abbrev pub SlotsEmpty : ℕ → List ℕ → List ℕ → Slots → Type 0
@@ -57,6 +64,15 @@ SlotsEmpty n ks s a = KindsOf n ks × (length s ≤ most_bytes) × (a ≡ empty_
 abbrev pub check_is : Outcome → Check
 check_is (Ok x) = passes
 check_is (Err x) = fails (number_of x.kind) x.line
+
+-- of a text that was read its number of sections, and the number of names compared
+abbrev pub sections_in : Result TextRead Fault → Result ℕ Fault
+sections_in (Ok y) = Ok y.sections
+sections_in (Err x) = Err x
+
+abbrev pub names_in : Result TextRead Fault → Result ℕ Fault
+names_in (Ok y) = Ok y.compared
+names_in (Err x) = Err x
 
 -- what the answer says, with the slots that the text filled
 abbrev pub slots_read : List Section → Result ℕ Fault → Slots → Reading
@@ -75,10 +91,11 @@ pub record JudgesSlots (t : List Section) (least : ℕ) (s : List ℕ) (a : Slot
 
 -- The text s of the file of number n was read: places p before, q after, and in ls the lines of its entries.
 -- By cases of the answer, which has no room for the pairs: they are in the places.
-abbrev pub ReadsText : ℕ → List ℕ → Result ℕ Refusal → List ℕ → List ℕ → List ℕ → Type 0
+abbrev pub ReadsText : ℕ → List ℕ → Result TextRead Refusal → List ℕ → List ℕ → List ℕ → Type 0
 ReadsText n s (Err x) p q ls = (read_numbered n s ≡ refused (number_of x.kind) x.line) × (x.file ≡ n) × (q ≡ p)
-ReadsText n s (Ok c) p q ls =
-    (pairs : List Pair) × (read_numbered n s ≡ read c pairs (take (length pairs) ls)) × (q ≡ set_pairs (of_number 0 first_pair n) pairs p)
+ReadsText n s (Ok y) p q ls =
+    (pairs : List Pair) × (read_numbered n s ≡ read y.sections pairs (take (length pairs) ls)) × (q ≡ set_pairs (of_number 0 first_pair n) pairs p)
+    × (y.compared ≡ names_compared (table_of n) s)
 
 -- each of the first rows has a kind number and a slot, and their entries have their place among the pairs and the lines
 pub record RowsReady (ks : List ℕ) (first : ℕ) (xs : List Slot) (rows : ℕ) (p ls : List ℕ) : Type 0 where
@@ -103,6 +120,7 @@ abbrev pub WritesRead : ℕ → ℕ → Slots → List ℕ → List ℕ → List
 WritesRead n c a p q ls = WritesRows (row_kinds (take c (table_of n))) (of_number 0 first_pair n) a p q ls
 
 -- 4 to 9: the text is read from the slots that it leaves
-pub record ReadsSlots (n : ℕ) (s : List ℕ) (a : Slots) (r : Result ℕ Fault) : Type 0 where
+pub record ReadsSlots (n : ℕ) (s : List ℕ) (a : Slots) (r : Result TextRead Fault) : Type 0 where
   pub ready : Ready (table_of n) s a
-  pub is : read_text (table_of n) (of_number 0 least_sections n) s ≡ slots_read (table_of n) r a
+  pub is : read_text (table_of n) (of_number 0 least_sections n) s ≡ slots_read (table_of n) (sections_in r) a
+  pub compared : IsCompared (table_of n) s (names_in r)

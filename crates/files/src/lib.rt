@@ -32,6 +32,13 @@ pub struct FileAcceptance {
     pub byhand: bool,
 }
 
+// What a text that was read says: its number of sections, and the number of entry names compared (02, 4/14).
+#[derive(Debug, Clone, Copy, PartialEq, Eq)]
+pub struct TextRead {
+    pub sections: usize,
+    pub compared: usize,
+}
+
 // Why a text is refused: the kind, and the line.
 #[derive(Debug, PartialEq, Eq, Clone, Copy)]
 pub struct Fault {
@@ -84,9 +91,9 @@ fn take_row(slots: &mut [Slot], row: usize, line: usize, start: usize, size: usi
     true
 }
 
-// Not inlined: the loop below ends at many places, and takes fewer instructions so.
+// Not inlined: the loop below ends at many places, and takes fewer instructions so (docs/BENCH.md).
 #[inline(never)]
-fn failed(kind: RefusalKind, line: usize) -> Result<(), Fault>
+fn failed(kind: RefusalKind, line: usize) -> Result<usize, Fault>
     requires { line ≤ most_bytes }
     ensures { result ≡ failure kind line }
 {
@@ -96,8 +103,8 @@ fn failed(kind: RefusalKind, line: usize) -> Result<(), Fault>
     })
 }
 
-// All lines of the text, into the rows of the file's table: the first with 4, 5 or 6.
-fn scan_lines(file: u32, text: &[u8], slots: &mut [Slot]) -> Result<(), Fault>
+// All lines of the text, into the rows of the file's table: the first with 4, 5 or 6, or the number of entry names compared.
+fn scan_lines(file: u32, text: &[u8], slots: &mut [Slot]) -> Result<usize, Fault>
     requires { Ready (table_of file) text.now (slots_of slots.old) }
     ensures { ScansFile file text.now (slots_of slots.old) (slots_of slots.new) result }
 {
@@ -106,11 +113,12 @@ fn scan_lines(file: u32, text: &[u8], slots: &mut [Slot]) -> Result<(), Fault>
     let mut c = Cursor::new();
     let mut cur = none;
     let mut place = tables::section_place(file, none);
+    let mut compared = 0;
     // No condition ends it: each kind of line goes on or returns from its own arm.
     loop {
         match c.read_line(text) {
             LineRead::End => {
-                return Ok(());
+                return Ok(compared);
             }
             LineRead::Bad { line } => {
                 return failed(RefusalKind::LineForm, line);
@@ -139,13 +147,14 @@ fn scan_lines(file: u32, text: &[u8], slots: &mut [Slot]) -> Result<(), Fault>
                 if none <= cur {
                     return failed(RefusalKind::LineForm, line);
                 }
-                let Some(row) = tables::find_row(place, &text[start..equals]) else {
+                let Some(found) = tables::find_row(place, &text[start..equals]) else {
                     return failed(RefusalKind::EntryNotExpected, line);
                 };
                 let from = equals + 1;
-                if !take_row(slots, row, line, from, end - from) {
+                if !take_row(slots, found.row, line, from, end - from) {
                     return failed(RefusalKind::EntryNotExpected, line);
                 }
+                compared += found.compared;
                 c = next;
             }
         }
@@ -300,12 +309,13 @@ fn write_read(
 }
 
 // 4 to 9, into slots that are empty.
-fn read_slots(file: u32, kinds: &[u8], text: &[u8], slots: &mut [Slot]) -> Result<usize, Fault>
+fn read_slots(file: u32, kinds: &[u8], text: &[u8], slots: &mut [Slot]) -> Result<TextRead, Fault>
     requires { SlotsEmpty file kinds.now text.now (slots_of slots.old) }
     ensures { ReadsSlots file text.now (slots_of slots.new) result }
 {
-    scan_lines(file, text, slots)?;
-    judge_slots(file, kinds, text, slots)
+    let compared = scan_lines(file, text, slots)?;
+    let sections = judge_slots(file, kinds, text, slots)?;
+    Ok(TextRead { sections, compared })
 }
 
 // 4 to 9, into slots that are empty; the pairs and lines of what was read.
@@ -316,15 +326,15 @@ fn read_into(
     slots: &mut [Slot],
     places: &mut [u32],
     lines: &mut [u32],
-) -> Result<usize, Refusal>
+) -> Result<TextRead, Refusal>
     requires { (least_places ≤ length places.old) × (most_rows ≤ length lines.old)
         × SlotsEmpty file kinds.now text.now (slots_of slots.old) }
     ensures { ReadsText file text.now result
         places.old places.new lines.new }
 {
-    let count = read_slots(file, kinds, text, slots).map_err(|x| x.in_file(file))?;
-    write_read(file, kinds, count, slots, places, lines);
-    Ok(count)
+    let read = read_slots(file, kinds, text, slots).map_err(|x| x.in_file(file))?;
+    write_read(file, kinds, read.sections, slots, places, lines);
+    Ok(read)
 }
 
 // 3 to 9 of one file: its pairs into the places, the lines of its entries, in entry order, into `lines`. Refused, the
@@ -335,7 +345,7 @@ pub fn read_text(
     text: &[u8],
     places: &mut [u32],
     lines: &mut [u32],
-) -> Result<usize, Refusal>
+) -> Result<TextRead, Refusal>
     requires { (least_places ≤ length places.old) × (most_rows ≤ length lines.old) }
     ensures { ReadsText file text.now result
         places.old places.new lines.new }
@@ -380,8 +390,8 @@ fn read_cleared(file: u32, text: &[u8], places: &mut [u32]) -> Result<FileAccept
         return refused(RefusalKind::SliceNotAsDue, file, 0);
     }
     let mut lines = [0u32; MOST_ROWS];
-    let count = read_text(file, text, places, &mut lines)?;
-    let axles = count - tables::fixed_section_count(file);
+    let read = read_text(file, text, places, &mut lines)?;
+    let axles = read.sections - tables::fixed_section_count(file);
     let byhand = is_by_hand(file, axles, PlacedText { text, places });
     Ok(FileAcceptance {
         axles: axles as u32,

@@ -1,5 +1,5 @@
 -- The slices one after another: what is known after each, and one law that carries it over the next. Assumes nothing.
-use Prim.Native.Nat.{ℕ, ◌+◌, ◌*◌, ◌≤◌}
+use Prim.Native.Nat.{ℕ, ◌+◌, ◌*◌, ◌^◌, ◌≤◌, ◌<◌}
 use native.Mathlib.Omega.{arith}
 use mathlib.Core.Path.{◌≡◌, refl, ap, sym, subst, ◌∙◌}
 use mathlib.Core.Bool.{Bool, true, false, cond, not}
@@ -7,7 +7,7 @@ use mathlib.Core.List.{List, [], ◌∷◌, map}
 use lib.ListN.{length, drop}
 use borrow.Author.Tests.{lt-ltb}
 use Rattle.kinds.proofs.Laws.{by-test}
-use Rattle.refusals.specs.Answer.{Answer, acceptance, refusal_of, require, followed, given_by}
+use Rattle.refusals.specs.Answer.{Answer, refusal, acceptance, refusal_of, require, followed, given_by}
 use Rattle.refusals.specs.declared.Refusal.{Refusal}
 use Rattle.places.specs.Places.{place_size, set_pairs, pairs_at, value_at, Within}
 use Rattle.places.proofs.Laws.{set-length, drop-pairs}
@@ -23,13 +23,14 @@ use Rattle.rules.specs.Slices.{slice_right, is_read, identification_right}
 use Rattle.rules.specs.declared.Stated.{Stated}
 use Rattle.tables.proofs.Values.{gas-count}
 use Rattle.serial.specs.Reading.{read_identification}
-use Rattle.sets.specs.Records.{Slices, is_given}
+use Rattle.sets.specs.Records.{Slices, is_given, each_file}
 use Rattle.sets.specs.Judge.{FileRead, SetRead, not_read, judge_booking, judge_fields, judge_file, judge_identification, file_given, identification_step, set_read, Slice, file_slice, identification_slice, later_slices, each_accepted, judge_slices, set_files, acceptance_with}
 use Rattle.std.specs.Prelude.{Result, Ok, Err}
 use Rattle.sets.specs.declared.Acceptance.{Acceptance}
 use Rattle.sets.proofs.File.{FilePassed, Passed, file-sound, booking-file}
-use Rattle.sets.proofs.Set.{each-sound}
-use Rattle.judge.specs.Steps.{IsNumber, figures_of, FileReady, JudgesFile, JudgesBooking, identification_judged, JudgesIdentification, IdentificationReady, later_files, JudgesSlices, JudgesLater}
+use Rattle.sets.proofs.Set.{each-sound, of-each}
+use Rattle.sets.proofs.LookUps as L
+use Rattle.judge.specs.Steps.{IsNumber, figures_of, FileReady, JudgesFile, JudgesBooking, identification_judged, JudgesIdentification, IdentificationReady, later_files, JudgesSlices, BookingFigures, TotalFits, JudgesLater}
 use Rattle.sets.specs.declared.Figures.{Figures}
 use Rattle.judge.specs.declared.Booked.{Booked}
 use Rattle.judge.proofs.Text.{booking-kept, new-pairs}
@@ -45,6 +46,18 @@ passed-few f stated a t g e =
     by-test (is_read f (booking_in a) (is_given t))
     (λ q. read-few f a t g (h.read q))
     (λ q. subst (λ (x : FileRead). length x.pairs ≤ room f) (sym (h.unread q)) (omega arith))
+
+-- ---- how many names were compared
+
+given-few : (stated : Stated) (S : Slices) (a : List (List ℕ)) (f : File) → (file_given stated S a f).compared < 2 ^ 16
+given-few stated S a f = on (judge_file f stated a (S.file f)) refl
+  where
+    on : (r : Answer FileRead) → judge_file f stated a (S.file f) ≡ r → (given_by not_read r).compared < 2 ^ 16
+    on (refusal k i l) e = omega arith
+    on (acceptance g) e = L.passed-few f stated a (S.file f) g (file-sound f stated a (S.file f) g e)
+
+total-few : (y : File → Figures) → ((f : File) → (y f).compared < 2 ^ 16) → TotalFits y
+total-few y e = omega (arith, e ac2, e acc, e drift, e suspension, e gas, e opacity)
 
 -- ---- the slices after AC2, whose pairs are in the places p
 
@@ -181,19 +194,19 @@ module _ (stated : Stated) (S : Slices) (p : List ℕ) where
     acc-stopped = file_stopped acc (omega arith) later p p (at_first says.0)
 
     module _ (o : Figures) (p1 : List ℕ) (jo : JudgesNext acc (Ok o) p p1) where
-      g1 : Going later (filled acc p) p1
-      g1 = (file_went acc (omega arith) later p p (at_first says.0) o p1 jo).0
+      g1 : Going later (filled acc p) p1 × FiguresAs acc o
+      g1 = file_went acc (omega arith) later p p (at_first says.0) o p1 jo
 
       pub drift-ready : FileReady 3 b text p1
       unfolding of_number
-      drift-ready = file_ready 3 b refl (omega arith) says.1 g1
+      drift-ready = file_ready 3 b refl (omega arith) says.1 g1.0
 
       pub drift-stopped : (e : Refusal) (v : List ℕ) → JudgesNext drift (Err e) p1 v → JudgesSlices later_files whole (Err e) p v
-      drift-stopped = file_stopped drift (omega arith) _ _ p1 g1
+      drift-stopped = file_stopped drift (omega arith) _ _ p1 g1.0
 
       module _ (d : Figures) (p2 : List ℕ) (jd : JudgesNext drift (Ok d) p1 p2) where
         g2 : Going (file_slice suspension ∷ file_slice gas ∷ identification_slice ∷ left) (filled drift (filled acc p)) p2 × FiguresAs drift d
-        g2 = file_went drift (omega arith) _ _ p1 g1 d p2 jd
+        g2 = file_went drift (omega arith) _ _ p1 g1.0 d p2 jd
 
         pub suspension-ready : FileReady 4 b text p2
         unfolding of_number
@@ -237,10 +250,20 @@ module _ (stated : Stated) (S : Slices) (p : List ℕ) where
               pub opacity-stopped : (e : Refusal) (v : List ℕ) → JudgesNext opacity (Err e) p4 v → JudgesSlices later_files whole (Err e) p v
               opacity-stopped = file_stopped opacity (omega arith) _ _ p4 g5
 
-              pub all-accepted : (y : Figures) (q : List ℕ) → JudgesNext opacity (Ok y) p4 q → JudgesSlices later_files whole (Ok (acceptance_with d u g y)) p q
-              all-accepted y q jy =
-                  let k = file_went opacity (omega arith) [] _ p4 g5 y q jy in
-                  (x, k.0.rest, rw (g2.1, g3.1, g4.1, k.1) refl, k.0.places)
+              module _ (n : Figures) (jn : FiguresAs ac2 n) (y : Figures) (q : List ℕ) (jy : JudgesNext opacity (Ok y) p4 q) where
+                abbrev figures : File → Figures
+                figures = each_file n o d u g y
+
+                as_given : (f : File) → figures f ≡ figures_of f (file_given stated S a f)
+                as_given = of-each (λ f. figures f ≡ figures_of f (file_given stated S a f)) jn g1.1 g2.1 g3.1 g4.1 (file_went opacity (omega arith) [] _ p4 g5 y q jy).1
+
+                pub total_fits : TotalFits figures
+                total_fits = total-few figures (λ f. omega (arith, ap (λ (y : Figures). y.compared) (as_given f), given-few stated S a f))
+
+                pub all-accepted : JudgesSlices later_files whole (Ok (acceptance_with figures)) p q
+                all-accepted =
+                    let k = file_went opacity (omega arith) [] _ p4 g5 y q jy in
+                    (x, k.0.rest, λ i. acceptance_with (λ f. as_given f i), k.0.places)
 
 -- ---- AC2, and all slices
 
@@ -271,10 +294,19 @@ module _ (stated : Stated) (S : Slices) (p q : List ℕ) (l : least_places ≤ l
     values : new_values (S.file ac2) q ≡ b.values
     values = ap (map (value_at (S.file ac2))) own ∙ sym w.values
 
-    pub booked-ready : Says (S.file ac2) q y.booking
+    -- AC2 passes as a file beside its own values
+    beside : file_given stated S (new_values (S.file ac2) q) ac2 ≡ b
+    beside =
+        ap (λ (v : List (List ℕ)). given_by not_read (judge_file ac2 stated v (S.file ac2))) values
+        ∙ ap (given_by not_read) (booking-file stated (S.file ac2) b h.1)
+
+    pub booked-ready : Says (S.file ac2) q y.booking × BookingFigures stated S q y.figures
     booked-ready = (
-      (omega (arith, ap length h.4, set-length (first_pair ac2) b.pairs p, l), subst (Within (S.file ac2)) (sym own) w.within),
-      h.3 ∙ ap booking_in (sym values),
+      (
+        (omega (arith, ap length h.4, set-length (first_pair ac2) b.pairs p, l), subst (Within (S.file ac2)) (sym own) w.within),
+        h.3 ∙ ap booking_in (sym values),
+      ),
+      h.2 ∙ ap (figures_of ac2) (sym beside),
     )
 
     whole_is : judge_slices stated S ≡ each_accepted stated S (new_values (S.file ac2) q) later_slices (set_read stated S (new_values (S.file ac2) q))
@@ -288,7 +320,5 @@ module _ (stated : Stated) (S : Slices) (p q : List ℕ) (l : least_places ≤ l
     slices-judged (Ok y) v k =
         let a : List (List ℕ) = new_values (S.file ac2) q in
         let e : k.0.file ac2 ≡ b
-        = sym (ap (λ (x : SetRead). x.file ac2) (each-sound stated S a later_slices (set_read stated S a) k.0 k.1).0)
-        ∙ ap (λ (v : List (List ℕ)). given_by not_read (judge_file ac2 stated v (S.file ac2))) values
-        ∙ ap (given_by not_read) (booking-file stated (S.file ac2) b h.1) in
+        = sym (ap (λ (x : SetRead). x.file ac2) (each-sound stated S a later_slices (set_read stated S a) k.0 k.1).0) ∙ beside in
         (k.0, whole_is ∙ k.1, k.2, k.3 ∙ ap (set_files later_files k.0) (h.4 ∙ ap (λ (g : FileRead). set_pairs (first_pair ac2) g.pairs p) (sym e)))

@@ -10,13 +10,16 @@ use Rattle.refusals.specs.declared.Refusal.{Refusal}
 use Rattle.places.specs.Places.{Pair, set_pairs, pairs_at, value_at, Within}
 use Rattle.places.proofs.Laws.{pairs-before, drop-pairs}
 use Rattle.tables.specs.File.{File, ac2, acc, drift, suspension, gas, opacity, file_number, has_axles, fixed_sections, all_sections, least_sections, entries, first_pair, least_places}
+use Rattle.tables.specs.Section.{Section}
 use Rattle.tables.specs.Row.{most_rows}
 use Rattle.tables.proofs.Numbers.{first-pairs}
 use Rattle.reading.specs.Reading.{read}
 use Rattle.reading.proofs.Tables.{tables-distinct}
 use Rattle.reading.proofs.Theorem.{sound}
 use Rattle.files.specs.Files.{read_file, axles_of}
+use Rattle.reading.specs.LookUps.{names_compared}
 use Rattle.files.specs.Steps.{ReadsText}
+use Rattle.files.specs.declared.TextRead.{TextRead}
 use Rattle.files.proofs.Alone.{count-in}
 use Rattle.files.proofs.Theorem as T
 use Rattle.files.proofs.Texts.{few-axles, pairs-fit, read-numbered, text-read, text-is, text-set, text-pairs, text-held}
@@ -30,7 +33,8 @@ use Rattle.sets.specs.Judge.{file_read, file_checks, first_failed, checked_file,
 use Rattle.judge.specs.Steps.{file_numbered, IsNumber, figures_of, FileReady, ValuesReady, values_step, JudgesValues, JudgesFile, text_judged, JudgesBooking}
 use Rattle.sets.specs.declared.Figures.{Figures}
 use Rattle.std.specs.Prelude.{Result, Ok, Err}
-use Rattle.judge.proofs.Numbers.{by-file, new-number}
+use Rattle.judge.proofs.Numbers.{by-file, table, new-number}
+use Rattle.sets.proofs.LookUps.{numbers-few}
 
 -- ---- AC2's pairs
 
@@ -52,7 +56,7 @@ new-pairs n p = ap (λ (k : ℕ). pairs_at p (first_pair ac2) k) (new-count n �
 
 -- ---- what was read
 
-module _ (file : ℕ) (number : IsNumber file) (t p q ls : List ℕ) (r : Result ℕ Refusal) (w : ReadsText file t r p q ls) where
+module _ (file : ℕ) (number : IsNumber file) (t p q ls : List ℕ) (r : Result TextRead Refusal) (w : ReadsText file t r p q ls) where
   abbrev f : File
   f = file_numbered file
 
@@ -64,40 +68,48 @@ module _ (file : ℕ) (number : IsNumber file) (t p q ls : List ℕ) (r : Result
     ap (drop least_places) v.2,
   )
 
-  module _ (enough : least_places ≤ length p) (c : ℕ) (e : r ≡ Ok c) where
-    abbrev v : ReadsText file t (Ok c) p q ls
-    v = subst (λ (y : Result ℕ Refusal). ReadsText file t y p q ls) e w
+  module _ (enough : least_places ≤ length p) (y : TextRead) (e : r ≡ Ok y) where
+    abbrev c : ℕ
+    c = y.sections
+
+    abbrev v : ReadsText file t (Ok y) p q ls
+    v = subst (λ (y : Result TextRead Refusal). ReadsText file t y p q ls) e w
 
     abbrev ps : List Pair
     ps = v.0
 
     was_read : read_file f t ≡ read c ps (take (length ps) ls)
-    was_read = text-read f file (sym number) t p q ls c v
+    was_read = text-read f file (sym number) t p q ls y v
 
     x : T.FileRead f t c ps
-    x = text-is f file (sym number) t p q ls c v
+    x = text-is f file (sym number) t p q ls y v
 
     set : q ≡ set_pairs (first_pair f) ps p
-    set = text-set f file (sym number) t p q ls c v
+    set = text-set f file (sym number) t p q ls y v
 
     own : pairs_of f (axles_of f c) q ≡ ps
-    own = text-pairs f file (sym number) t p q ls c v enough
+    own = text-pairs f file (sym number) t p q ls y v enough
 
     abbrev held : Held f (axles_of f c) t q
-    held = text-held f file (sym number) t p q ls c v enough
+    held = text-held f file (sym number) t p q ls y v enough
+
+    names : y.compared ≡ names_compared (all_sections f) t
+    names = v.3 ∙ ap (λ (s : List Section). names_compared s t) (table file number)
 
     -- s for AC2's text
-    pub text-ready : (b : Booking) (s : List ℕ) → Says s q b → most_rows ≤ length ls → ValuesReady file c b s t q ls
+    pub text-ready : (b : Booking) (s : List ℕ) → Says s q b → most_rows ≤ length ls → ValuesReady file c y.compared b s t q ls
     text-ready b s h l =
         let i = (sound (all_sections f) (least_sections f) t (tables-distinct f) c ps _ (T.by-inv (all_sections f) (least_sections f) t c ps _ was_read).1).is in
         record {
           number = number;
-          least = omega (arith, (count-in file t p q ls c v).0, by-file file number 0 (λ f. length (fixed_sections f)));
+          least = omega (arith, (count-in file t p q ls y v).0, by-file file number 0 (λ f. length (fixed_sections f)));
           most = i.most;
           sections-are = x.counted.sections-are;
           few = few-axles (has_axles f) (axles_of f c) x.counted.count;
           says = h;
           own = held;
+          compared = names;
+          compared-fits = omega (arith, names, x.compared, numbers-few f (axles_of f c) (few-axles (has_axles f) (axles_of f c) x.counted.count));
           lines = l;
         }
 
@@ -124,7 +136,7 @@ module _ (file : ℕ) (number : IsNumber file) (t p q ls : List ℕ) (r : Result
       same : pairs_of ac2 0 q ≡ pairs_of ac2 0 p
       same = ap (pairs_of ac2 0) set ∙ booking-kept f (omega (arith, number, d.later)) ps p
 
-      pub later-ready : most_rows ≤ length ls → ValuesReady file c b s t q ls
+      pub later-ready : most_rows ≤ length ls → ValuesReady file c y.compared b s t q ls
       later-ready l = text-ready b s ((held.0, subst (Within s) (sym same) d.says.0.1), d.says.1 ∙ ap (λ (y : List Pair). booking_in (map (value_at s) y)) (sym same)) l
 
       pub later-judged : (y : Result Figures Refusal) → JudgesValues f c s t q ls y → JudgesFile f (text_judged file s t p) y p q
@@ -133,44 +145,44 @@ module _ (file : ℕ) (number : IsNumber file) (t p q ls : List ℕ) (r : Result
 
 -- ---- AC2
 
-module _ (t p q ls : List ℕ) (r : Result ℕ Refusal) (w : ReadsText 1 t r p q ls) where
+module _ (t p q ls : List ℕ) (r : Result TextRead Refusal) (w : ReadsText 1 t r p q ls) where
   pub booking-faulty : (x : Refusal) → ReadsText 1 t (Err x) p q ls → JudgesBooking (judge_text ac2 (λ own. own) t) (Err x) p q
   booking-faulty x v =
       subst (λ (f : File). JudgesFile f (judge_text f (λ own. own) t) (Err x) p q) new-number
       (text-faulty 1 (ap file_number new-number) t p q ls r w (λ own. own) x v)
 
-  module _ (enough : least_places ≤ length p) (c : ℕ) (e : r ≡ Ok c) where
+  module _ (enough : least_places ≤ length p) (z : TextRead) (e : r ≡ Ok z) where
     number : IsNumber 1
     number = ap file_number new-number
 
     abbrev pairs : List Pair
-    pairs = ps 1 number t p q ls r w enough c e
+    pairs = ps 1 number t p q ls r w enough z e
 
     now-own : pairs_of ac2 0 q ≡ pairs
-    now-own = sym (new-pairs (axles_of ac2 c) q) ∙ subst (λ (f : File). pairs_of f (axles_of f c) q ≡ pairs) new-number (own 1 number t p q ls r w enough c e)
+    now-own = sym (new-pairs (axles_of ac2 z.sections) q) ∙ subst (λ (f : File). pairs_of f (axles_of f z.sections) q ≡ pairs) new-number (own 1 number t p q ls r w enough z e)
 
     pub booking-held : Held ac2 0 t q
-    booking-held = ((held 1 number t p q ls r w enough c e).0, subst (Within t) (sym now-own) (x 1 number t p q ls r w enough c e).within)
+    booking-held = ((held 1 number t p q ls r w enough z e).0, subst (Within t) (sym now-own) (x 1 number t p q ls r w enough z e).within)
 
-    pub values-ready : (b : Booking) → b ≡ booking_in (new_values t q) → most_rows ≤ length ls → ValuesReady 1 c b t t q ls
-    values-ready b eb l = text-ready 1 number t p q ls r w enough c e b t (booking-held, eb) l
+    pub values-ready : (b : Booking) → b ≡ booking_in (new_values t q) → most_rows ≤ length ls → ValuesReady 1 z.sections z.compared b t t q ls
+    values-ready b eb l = text-ready 1 number t p q ls r w enough z e b t (booking-held, eb) l
 
     booking-values : map (value_at t) pairs ≡ new_values t q
     booking-values = ap (map (value_at t)) (sym now-own)
 
-    pub booking-stopped : (y : Refusal) → JudgesValues (file_numbered 1) c t t q ls (Err y) → JudgesBooking (judge_text ac2 (λ own. own) t) (Err y) p q
+    pub booking-stopped : (y : Refusal) → JudgesValues (file_numbered 1) z.sections t t q ls (Err y) → JudgesBooking (judge_text ac2 (λ own. own) t) (Err y) p q
     booking-stopped y j =
-        subst (λ (f : File). JudgesFile f (judge_text f (λ own. own) t) (Err y) p q) new-number (stopped 1 number t p q ls r w enough c e (λ own. own) t booking-values y j)
+        subst (λ (f : File). JudgesFile f (judge_text f (λ own. own) t) (Err y) p q) new-number (stopped 1 number t p q ls r w enough z e (λ own. own) t booking-values y j)
 
-    pub booking-went : (b : Booking) → b ≡ booking_in (new_values t q) → (y : Figures) → JudgesValues (file_numbered 1) c t t q ls (Ok y)
+    pub booking-went : (b : Booking) → b ≡ booking_in (new_values t q) → (y : Figures) → JudgesValues (file_numbered 1) z.sections t t q ls (Ok y)
         → JudgesBooking (judge_text ac2 (λ own. own) t) (Ok (record { booking = b; figures = y })) p q
     booking-went b eb y j =
-        let h : (judge_text ac2 (λ own. own) t ≡ acceptance (file_read ac2 t c pairs)) × (y ≡ figures_of ac2 (file_read ac2 t c pairs))
-        = subst (λ (f : File). (judge_text f (λ own. own) t ≡ acceptance (file_read f t c pairs)) × (y ≡ figures_of f (file_read f t c pairs))) new-number
-        (went 1 number t p q ls r w enough c e (λ own. own) t booking-values y j) in (
-          file_read ac2 t c pairs,
+        let h : (judge_text ac2 (λ own. own) t ≡ acceptance (file_read ac2 t z.sections pairs)) × (y ≡ figures_of ac2 (file_read ac2 t z.sections pairs))
+        = subst (λ (f : File). (judge_text f (λ own. own) t ≡ acceptance (file_read f t z.sections pairs)) × (y ≡ figures_of f (file_read f t z.sections pairs))) new-number
+        (went 1 number t p q ls r w enough z e (λ own. own) t booking-values y j) in (
+          file_read ac2 t z.sections pairs,
           h.0,
           h.1,
           eb ∙ ap booking_in (sym booking-values),
-          set 1 number t p q ls r w enough c e ∙ ap (λ (f : File). set_pairs (first_pair f) pairs p) new-number,
+          set 1 number t p q ls r w enough z e ∙ ap (λ (f : File). set_pairs (first_pair f) pairs p) new-number,
         )

@@ -1,5 +1,5 @@
 -- The values of a file that was read: what each call of `judge_values` asks, and a law for each way out. Assumes nothing.
-use Prim.Native.Nat.{ℕ, ◌+◌, ◌-◌, ◌*◌, ◌≤◌}
+use Prim.Native.Nat.{ℕ, ◌+◌, ◌-◌, ◌*◌, ◌^◌, ◌≤◌, ◌<◌}
 use native.Mathlib.Omega.{arith}
 use mathlib.Core.Path.{◌≡◌, refl, ap, ap₂, sym, ◌∙◌}
 use mathlib.Core.Bool.{true, false}
@@ -36,7 +36,7 @@ use Rattle.sets.specs.declared.Figures as K
 use Rattle.std.specs.Prelude.{Option, Some, None, Ok, Err}
 use Rattle.judge.proofs.Numbers.{by-file, table, few-entries}
 
-module _ {file c : ℕ} {b : Booking} {s t p ls : List ℕ} (w : ValuesReady file c b s t p ls) where
+module _ {file c names : ℕ} {b : Booking} {s t p ls : List ℕ} (w : ValuesReady file c names b s t p ls) where
   abbrev f : File
   f = file_numbered file
 
@@ -70,8 +70,8 @@ module _ {file c : ℕ} {b : Booking} {s t p ls : List ℕ} (w : ValuesReady fil
   number-held {m} e =
       (w.own.0, rw (by-file file w.number 0 first_pair, by-file file w.number 0 (λ f. length (entries f m)), e) w.own.1)
 
-  pub figures-ready : {k : ℕ} → k ≡ of_number 0 (λ f. length (fixed_sections f)) file → IsNumber file × (c - k ≤ most_axles) × NumberHeld file (c - k) t p
-  figures-ready e = let q = axles-are e in (w.number, omega (arith, q, w.few), number-held q)
+  pub figures-ready : {k : ℕ} → k ≡ of_number 0 (λ f. length (fixed_sections f)) file → IsNumber file × (c - k ≤ most_axles) × (names < 2 ^ 32) × NumberHeld file (c - k) t p
+  figures-ready e = let q = axles-are e in (w.number, omega (arith, q, w.few), w.compared-fits, number-held q)
 
   pub broken-ready : {k : ℕ} → k ≡ of_number 0 (λ f. length (fixed_sections f)) file → (c - k ≤ most_axles) × Says s p b × NumberHeld file (c - k) t p
   broken-ready e = let q = axles-are e in (omega (arith, q, w.few), w.says, number-held q)
@@ -136,5 +136,5 @@ module _ {file c : ℕ} {b : Booking} {s t p ls : List ℕ} (w : ValuesReady fil
           values-broken {x} q el =
               judged (Err x) q ∙ ap₂ (λ (y z : ℕ). refusal (number_of x.kind) y z) w.number (sym (el ∙ ap (λ (y : ℕ). get_or (take y ls) x.entry 0) count-is))
 
-          pub values-pass : r ≡ Ok tt → {y : K.Figures} → y ≡ figures_from f (c - m) (values_of f (c - m) t p) → JudgesValues f c s t p ls (Ok y)
-          values-pass q ey = (judged (Ok tt) q, ey ∙ ap (λ (k : ℕ). figures_from f k (values_of f k t p)) (axles-are em))
+          pub values-pass : r ≡ Ok tt → {y : K.Figures} → y ≡ figures_from f (c - m) (values_of f (c - m) t p) names → JudgesValues f c s t p ls (Ok y)
+          values-pass q ey = (judged (Ok tt) q, ey ∙ ap₂ (λ (k i : ℕ). figures_from f k (values_of f k t p) i) (axles-are em) w.compared)

@@ -1,5 +1,5 @@
 -- What the steps of judging a set promise. Each is said by cases of the code's answer: the pairs, which it has no room for, are in the places.
-use Rattle.std.specs.Prelude.{ℕ, ◌≤◌, ◌<◌, ◌≡◌, false, List, [], ◌∷◌, length, take, drop, Result, Ok, Err}
+use Rattle.std.specs.Prelude.{ℕ, ◌≤◌, ◌<◌, ◌^◌, ◌≡◌, false, List, [], ◌∷◌, length, take, drop, Result, Ok, Err}
 use Rattle.refusals.specs.Answer.{Answer, acceptance, refusal_of}
 use Rattle.refusals.specs.Refusals.{refusal_with}
 use Rattle.refusals.specs.declared.Refusal.{Refusal}
@@ -7,6 +7,7 @@ use Rattle.refusals.specs.declared.RefusalKind.{RefusalKind}
 use Rattle.places.specs.Places.{set_pairs}
 use Rattle.tables.specs.File.{File, ac2, acc, drift, suspension, gas, opacity, file_number, most_axles, sections, all_sections, fixed_sections, entries, first_pair, least_places, of_number, identification_number}
 use Rattle.tables.specs.Row.{most_rows}
+use Rattle.reading.specs.LookUps.{names_compared}
 use Rattle.files.specs.Files.{axles_of}
 use Rattle.due.specs.Booking.{booking_in}
 use Rattle.due.specs.declared.Booking.{Booking}
@@ -14,8 +15,8 @@ use Rattle.tables.specs.Value.{pairs_of, values_of, Held}
 use Rattle.due.specs.Values.{new_values}
 use Rattle.rules.specs.Rules.{Says}
 use Rattle.rules.specs.declared.Stated.{Stated}
-use Rattle.sets.specs.Records.{Slices, is_given}
-use Rattle.sets.specs.Judge.{figures_from, acceptance_of, FileRead, SetRead, file_read, checked_file, first_failed, file_checks, judge_text, judge_file, judge_identification, set_read, later_slices, each_accepted, set_files}
+use Rattle.sets.specs.Records.{Slices, is_given, total}
+use Rattle.sets.specs.Judge.{figures_from, acceptance_in, FileRead, SetRead, file_read, checked_file, first_failed, file_checks, judge_text, judge_file, judge_identification, file_given, set_read, later_slices, each_accepted, set_files}
 use Rattle.sets.specs.declared.Acceptance.{Acceptance}
 use Rattle.sets.specs.declared.Figures.{Figures}
 use Rattle.judge.specs.declared.Booked.{Booked}
@@ -30,10 +31,10 @@ IsNumber n = file_number (file_numbered n) ≡ n
 -- ---- what acceptance takes from a file
 
 abbrev pub figures_of : File → FileRead → Figures
-figures_of f g = figures_from f g.axles g.values
+figures_of f g = figures_from f g.axles g.values g.compared
 
 abbrev pub no_figures : Figures
-no_figures = record { axles = 0; mark = false; byhand = false }
+no_figures = record { axles = 0; mark = false; byhand = false; compared = 0 }
 
 -- ---- one file
 
@@ -44,8 +45,9 @@ pub record FileReady (file : ℕ) (b : Booking) (s p : List ℕ) : Type 0 where
   pub later : 2 ≤ file
   pub says : Says s p b
 
--- what judging the values of a file of c sections asks: its text t, its pairs within it, and ls has room for the line of each entry
-pub record ValuesReady (file c : ℕ) (b : Booking) (s t p ls : List ℕ) : Type 0 where
+-- what judging the values of a file of c sections asks: its text t, its pairs within it, k the number of entry names compared, and
+-- ls has room for the line of each entry
+pub record ValuesReady (file c k : ℕ) (b : Booking) (s t p ls : List ℕ) : Type 0 where
   pub number : IsNumber file
   pub least : length (fixed_sections (file_numbered file)) ≤ c
   pub most : c ≤ length (all_sections (file_numbered file))
@@ -53,6 +55,8 @@ pub record ValuesReady (file c : ℕ) (b : Booking) (s t p ls : List ℕ) : Type
   pub few : axles_of (file_numbered file) c ≤ most_axles
   pub says : Says s p b
   pub own : Held (file_numbered file) (axles_of (file_numbered file) c) t p
+  pub compared : k ≡ names_compared (all_sections (file_numbered file)) t
+  pub compared-fits : k < 2 ^ 32
   pub lines : most_rows ≤ length ls
 
 -- what stands at the pairs of a file of c sections
@@ -111,13 +115,18 @@ identification_refused k = Err (refusal_with k identification_number 0)
 abbrev pub later_files : List File
 later_files = acc ∷ drift ∷ suspension ∷ gas ∷ opacity ∷ []
 
-abbrev pub acceptance_in : SetRead → Acceptance
-acceptance_in x = acceptance_of (λ f. (x.file f).axles) (λ f. (x.file f).values)
-
 -- slices were judged, by the definition with a, among them the files fs; places p before, q after
 abbrev pub JudgesSlices : List File → Answer SetRead → Result Acceptance Refusal → List ℕ → List ℕ → Type 0
 JudgesSlices fs a (Err x) p q = (a ≡ refusal_of x) × (drop least_places q ≡ drop least_places p)
 JudgesSlices fs a (Ok y) p q = (x : SetRead) × (a ≡ acceptance x) × (y ≡ acceptance_in x) × (q ≡ set_files fs x p)
+
+-- these are AC2's figures, where it was accepted and its pairs are in p
+abbrev pub BookingFigures : Stated → Slices → List ℕ → Figures → Type 0
+BookingFigures stated s p y = y ≡ figures_of ac2 (file_given stated s (new_values (s.file ac2) p) ac2)
+
+-- the names that were compared, together, are a number of 32 bits
+abbrev pub TotalFits : (File → Figures) → Type 0
+TotalFits y = total (λ f. (y f).compared) < 2 ^ 32
 
 -- the slices after AC2, whose pairs are in p
 abbrev pub JudgesLater : Stated → Slices → List ℕ → List ℕ → Result Acceptance Refusal → Type 0

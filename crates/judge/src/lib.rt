@@ -1,17 +1,18 @@
 // The judge of a whole set (01, Judging): the answer, and the pairs of its values in the places.
 #![tactic(auto)]
 
-ghost use Rattle.std.specs.Prelude.{◌≡◌, ◌≤◌, length, get_or};
+ghost use Rattle.std.specs.Prelude.{◌≡◌, ◌≤◌, ◌<◌, ◌^◌, length, get_or};
 ghost use Rattle.tables.specs.File.{ac2 as booking_file, files, most_axles, least_places};
 ghost use Rattle.tables.specs.Row.{most_rows};
 ghost use Rattle.tables.specs.Value.{values_of, NumberHeld};
 ghost use Rattle.rules.specs.Rules.{Says};
-ghost use Rattle.sets.specs.Records.{caller_of};
+ghost use Rattle.sets.specs.Records.{caller_of, each_file};
 ghost use Rattle.sets.specs.Judge.{figures_from, acceptance_with, judge_text, judge_booking, judge_slices};
-ghost use Rattle.judge.specs.Steps.{file_numbered, IsNumber, FileReady, ValuesReady, JudgesValues, JudgesFile, text_judged, file_judged, JudgesBooking, identification_judged, JudgesIdentification, IdentificationReady, identification_refused, JudgesSlices, JudgesLater};
+ghost use Rattle.judge.specs.Steps.{file_numbered, IsNumber, FileReady, ValuesReady, JudgesValues, JudgesFile, text_judged, file_judged, JudgesBooking, identification_judged, JudgesIdentification, IdentificationReady, identification_refused, JudgesSlices, BookingFigures, TotalFits, JudgesLater};
 ghost use Rattle.judge.specs.Judged.{slices_in, SetJudged};
 
 use due::Booking;
+use files::TextRead;
 use places::PlacedText;
 use refusals::{Refusal, RefusalKind};
 use rules::{NewBooking, Stated};
@@ -35,6 +36,7 @@ const NO_FIGURES: Figures = Figures {
     axles: 0,
     mark: false,
     byhand: false,
+    compared: 0,
 };
 
 // AC2 that passed: what its values say, for all slices after it, and its figures.
@@ -51,33 +53,34 @@ fn line_of(lines: &[u32], entry: usize) -> u32
     lines.get(entry).copied().unwrap_or(0)
 }
 
-// The figures of a file whose pairs are in the places.
-fn figures_of(file: u32, axles: usize, own: PlacedText<'_>) -> Figures
-    requires { IsNumber file × (axles ≤ most_axles) × NumberHeld file axles own.text.now own.places.now }
+// The figures of a file whose pairs are in the places; `compared` counts the entry names compared to read it.
+fn figures_of(file: u32, axles: usize, compared: usize, own: PlacedText<'_>) -> Figures
+    requires { IsNumber file × (axles ≤ most_axles) × (compared < 2 ^ 32) × NumberHeld file axles own.text.now own.places.now }
     ensures { result ≡ figures_from (file_numbered file) axles
-        (values_of (file_numbered file) axles own.entry.text.now own.entry.places.now) }
+        (values_of (file_numbered file) axles own.entry.text.now own.entry.places.now) compared }
 {
     Figures {
         axles: axles as u32,
         mark: rules::is_marked(file, axles, own),
         byhand: files::is_by_hand(file, axles, own),
+        compared: compared as u32,
     }
 }
 
 // All of 10, then 12 or 13, of a file whose pairs are in the places, with the lines of its entries.
 fn judge_values(
     file: u32,
-    sections: usize,
+    read: TextRead,
     new: &NewBooking<'_>,
     own: PlacedText<'_>,
     lines: &[u32],
 ) -> Result<Figures, Refusal>
-    requires { ValuesReady file sections new.now.says new.now.text.now own.text.now own.places.now lines.now }
-    ensures { JudgesValues (file_numbered file) sections new.now.text.now own.entry.text.now
+    requires { ValuesReady file read.sections read.compared new.now.says new.now.text.now own.text.now own.places.now lines.now }
+    ensures { JudgesValues (file_numbered file) read.sections new.now.text.now own.entry.text.now
         own.entry.places.now lines.now result }
 {
     let conditions = due::conditions_of(file, new.says, own);
-    let count = tables::entries_before(file, sections);
+    let count = tables::entries_before(file, read.sections);
     let first = tables::first_pair(file);
     let found = due::first_not_as_due(file, first, count, conditions, own.places);
     if let Some(entry) = found {
@@ -87,14 +90,14 @@ fn judge_values(
             line: line_of(&lines[..count], entry),
         });
     }
-    let axles = sections - tables::fixed_section_count(file);
+    let axles = read.sections - tables::fixed_section_count(file);
     match rules::first_broken(file, axles, new, own) {
         Err(x) => Err(Refusal {
             kind: x.kind,
             file,
             line: line_of(&lines[..count], x.entry),
         }),
-        Ok(()) => Ok(figures_of(file, axles, own)),
+        Ok(()) => Ok(figures_of(file, axles, read.compared, own)),
     }
 }
 
@@ -108,14 +111,14 @@ fn judge_booking_text(
     ensures { JudgesBooking (judge_text booking_file (λ own. own) text.now) result
         places.old places.new }
 {
-    let sections = files::read_text(AC2, text, places, lines)?;
+    let read = files::read_text(AC2, text, places, lines)?;
     let own = PlacedText { text, places };
     let booking = due::booking_of(own);
     let new = NewBooking {
         text,
         says: booking,
     };
-    let figures = judge_values(AC2, sections, &new, own, lines)?;
+    let figures = judge_values(AC2, read, &new, own, lines)?;
     Ok(Booked { booking, figures })
 }
 
@@ -148,8 +151,8 @@ fn judge_text(
         (text_judged file new.now.text.now text.now places.old) result
         places.old places.new }
 {
-    let sections = files::read_text(file, text, places, lines)?;
-    judge_values(file, sections, new, PlacedText { text, places }, lines)
+    let read = files::read_text(file, text, places, lines)?;
+    judge_values(file, read, new, PlacedText { text, places }, lines)
 }
 
 // A file after AC2: 11, then, where it is read, the rest.
@@ -212,15 +215,20 @@ fn judge_identification(gas: PlacedText<'_>, identification: &[u8]) -> Result<()
     Ok(())
 }
 
-// The acceptance, from the figures of the result files.
+// The acceptance, from the figures of all files.
 fn acceptance_with(
+    new: Figures,
+    old: Figures,
     drift: Figures,
     suspension: Figures,
     gas: Figures,
     opacity: Figures,
 ) -> Acceptance
-    ensures { result ≡ acceptance_with drift suspension gas opacity }
+    requires { TotalFits (each_file new old drift suspension gas opacity) }
+    ensures { result ≡ acceptance_with (each_file new old drift suspension gas opacity) }
 {
+    let bookings = new.compared + old.compared;
+    let results = drift.compared + suspension.compared + gas.compared + opacity.compared;
     Acceptance {
         driftaxles: drift.axles,
         suspensionaxles: suspension.axles,
@@ -229,24 +237,26 @@ fn acceptance_with(
         gasmark: gas.mark,
         gasbyhand: gas.byhand,
         opacitymark: opacity.mark,
+        compared: bookings + results,
     }
 }
 
-// The slices after AC2, whose pairs are in the places; b is what it says. The first refusal is the set's.
+// The slices after AC2, whose pairs are in the places. The first refusal is the set's.
 fn judge_later(
     stated: Stated,
-    b: Booking,
+    booked: Booked,
     slices: &SetSlices<'_>,
     places: &mut [u32],
 ) -> Result<Acceptance, Refusal>
-    requires { Says slices.now.ac2.now places.old b }
+    requires { Says slices.now.ac2.now places.old booked.booking
+        × BookingFigures stated (slices_in slices.now) places.old booked.figures }
     ensures { JudgesLater stated (slices_in slices.now) places.old places.new result }
 {
     let new = NewBooking {
         text: slices.ac2,
-        says: b,
+        says: booked.booking,
     };
-    judge_file(ACC, stated, &new, slices.acc, places)?;
+    let o = judge_file(ACC, stated, &new, slices.acc, places)?;
     let d = judge_file(DRIFT, stated, &new, slices.drift, places)?;
     let u = judge_file(SUSPENSION, stated, &new, slices.suspension, places)?;
     let g = judge_file(GAS, stated, &new, slices.gas, places)?;
@@ -256,7 +266,7 @@ fn judge_later(
     };
     judge_identification(gas, slices.identification)?;
     let y = judge_file(OPACITY, stated, &new, slices.opacity, places)?;
-    Ok(acceptance_with(d, u, g, y))
+    Ok(acceptance_with(booked.figures, o, d, u, g, y))
 }
 
 // All slices: AC2, then the others by what it says.
@@ -270,7 +280,7 @@ fn judge_slices(
         places.old places.new }
 {
     let booked = judge_booking(slices.ac2, places)?;
-    judge_later(stated, booked.booking, slices, places)
+    judge_later(stated, booked, slices, places)
 }
 
 // A whole set, for the stem of its files: 1, 2, then slices 1 to 7. The places hold its pairs where it is accepted;

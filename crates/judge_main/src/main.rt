@@ -68,7 +68,7 @@ fn print_answer(out: &mut impl Write, answer: Result<Acceptance, Refusal>) -> io
     match answer {
         Ok(a) => write!(
             out,
-            "A {} {} {} {} {} {} {}",
+            "A {} {} {} {} {} {} {} {}",
             a.driftaxles,
             a.suspensionaxles,
             u8::from(a.driftmark),
@@ -76,6 +76,7 @@ fn print_answer(out: &mut impl Write, answer: Result<Acceptance, Refusal>) -> io
             u8::from(a.gasmark),
             u8::from(a.opacitymark),
             u8::from(a.gasbyhand),
+            a.compared,
         ),
         Err(x) => write!(out, "R {} {} {}", u32::from(x.kind), x.file, x.line),
     }

@@ -148,7 +148,7 @@ fn run_rest<C: ByteClass>(text: &[u8], at: usize) -> usize
 
 // Where the bytes of a class from `at` on end.
 // Eight bytes by an index: a `for` over `as_chunks` was tried, and takes 2 % more instructions to read lines, which is most of what
-// a set takes: the shortest car's set would no longer be judged in a quarter of what inih takes (docs/BENCH.md).
+// a set takes (docs/BENCH.md).
 #[tactic(auto, using(crate::proofs::Words::blocks))]
 fn run_end<C: ByteClass>(text: &[u8], at: usize) -> usize
     requires { at ≤ length text.now }

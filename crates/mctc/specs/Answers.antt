@@ -71,7 +71,7 @@ abbrev pub due_numbers : Answer ColumnAcceptance → List ℕ
 due_numbers = numbers_of due_carried
 
 -- a judged set (01, Judging): "two axle counts .. and a mark per result file", in number 8 opacity's (02, 2/14); in number 9 whether
--- gas's idle speed was entered by hand (02, 1/14)
+-- gas's idle speed was entered by hand (02, 1/14), in number 10 the number of entry names compared (02, 4/14)
 abbrev pub set_carried : Acceptance → List ℕ
 set_carried a =
     a.driftaxles ∷
@@ -81,6 +81,7 @@ set_carried a =
     mark_number a.gasmark ∷
     mark_number a.opacitymark ∷
     mark_number a.gasbyhand ∷
+    a.compared ∷
     []
 
 abbrev pub set_numbers : Answer Acceptance → List ℕ

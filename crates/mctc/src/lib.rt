@@ -99,6 +99,7 @@ impl Carries for Acceptance {
                 gas,
                 opacity,
                 byhand,
+                self.compared,
             ],
         )
     }

@@ -11,4 +11,6 @@ pub mod Tables
 pub mod Turns
 pub mod Judging
 pub mod Sections
+pub mod Weights
+pub mod LookUps
 pub mod Samples

@@ -74,15 +74,15 @@ least-inv least c e = by-test (leb least c) (leb-true least c) (λ h. let w : fa
 found-zero : (x : ℕ) → ltb 0 x ≡ false → x ≡ 0
 found-zero x e = let l = ltb-false 0 x e in omega arith
 
-module _ (t : List Section) (least : ℕ) (s : List ℕ) (apart : distinct_rows t ≡ true) where
+module _ (t : List Section) (least : ℕ) (s : List ℕ) where
   -- the slots, when all checks pass for the first c sections
-  record Passed (a : Slots) (c : ℕ) : Type 0 where
+  pub record Passed (a : Slots) (c : ℕ) : Type 0 where
     enough : least ≤ c
-    rest : (i : ℕ) → rows_before t c ≤ i → i < length a.line_numbers → get_or a.line_numbers i 0 ≡ 0
-    firsts : (i : ℕ) → i < rows_before t c → ¬ (get_or a.line_numbers i 0 ≡ 0)
+    pub rest : (i : ℕ) → rows_before t c ≤ i → i < length a.line_numbers → get_or a.line_numbers i 0 ≡ 0
+    pub firsts : (i : ℕ) → i < rows_before t c → ¬ (get_or a.line_numbers i 0 ≡ 0)
     kinds : (i : ℕ) → i < rows_before t c → kept_row (get_or (row_kinds t) i none) (value_at s (get_or a.starts i 0, get_or a.lengths i 0)) ≡ true
 
-  judged : (a : Slots) (c d : ℕ) (ps : List Pair) (ls : List ℕ) → judge_slots t least s a c ≡ read d ps ls → Passed a c × (read_slots t a c ≡ read d ps ls)
+  pub judged : (a : Slots) (c d : ℕ) (ps : List Pair) (ls : List ℕ) → judge_slots t least s a c ≡ read d ps ls → Passed a c × (read_slots t a c ≡ read d ps ls)
   judged a c d ps ls e =
       let l = a.line_numbers in
       let n = rows_before t c in
@@ -99,8 +99,9 @@ module _ (t : List Section) (least : ℕ) (s : List ℕ) (apart : distinct_rows 
         k.1,
       )
 
+module _ (t : List Section) (least : ℕ) (s : List ℕ) (apart : distinct_rows t ≡ true) where
   sound-slots : (a : Slots) (ls : List Line) (c : ℕ) → c ≤ length t → scan_text t s ≡ scanned a → lines_in s (layout s) ≡ some ls
-      → run (table_rows t) none (replicate (length (table_rows t)) none) ls ≡ some (view s a) → Passed a c → ReadRight t least c (of_entries (row_kinds (take c t)) (pairs_in a)) (of_entries (row_kinds (take c t)) a.line_numbers) s
+      → run (table_rows t) none (replicate (length (table_rows t)) none) ls ≡ some (view s a) → Passed t least s a c → ReadRight t least c (of_entries (row_kinds (take c t)) (pairs_in a)) (of_entries (row_kinds (take c t)) a.line_numbers) s
   sound-slots a ls c most sc li ru pa =
       let u = take c t in
       let js = table_rows (drop c t) in
@@ -160,7 +161,7 @@ module _ (t : List Section) (least : ℕ) (s : List ℕ) (apart : distinct_rows 
   sound-scan (scanned a) c ps ls p e =
       let d = sections_found t a.line_numbers in
       let r = scan-found (lines_in s (layout s)) (λ (l : List Line). run (table_rows t) none (replicate (length (table_rows t)) none) l) (scan_text t s) a p (whole-scan t s (table-distinct t apart) (layout s)) in
-      let j = judged a d c ps ls e in
+      let j = judged t least s a d c ps ls e in
       let j1 = j.1 in
       let q : d ≡ c = cc in
       let qp : of_entries (row_kinds (take d t)) (pairs_in a) ≡ ps = cc in

@@ -6,10 +6,11 @@ use mathlib.Core.List.{List, [], ◌∷◌}
 use native.Mathlib.Omega.{arith}
 use lib.Dec.{ltb}
 use lib.ListN.{length, get_or, set, length-set}
+use native.Mathlib.Nat.{zero-add}
 use borrow.Author.Tests.{lt-ltb, le-ltb, not-true, not-false}
 use Rattle.lines.specs.Bytes.{part, all_printable}
 use Rattle.lines.specs.Reading.{line_at, lines_before, start}
-use Rattle.lines.specs.Layout.{layout}
+use Rattle.lines.specs.Layout.{layout, layout_at}
 use Rattle.lines.specs.declared.Cursor.{Cursor}
 use Rattle.lines.specs.declared.LineRead.TheVariants.{End, Bad, Heading, Entry}
 use Rattle.lines.proofs.Lines.{heading-moves, entry-moves, bad-number, entry-inside}
@@ -17,11 +18,13 @@ use Rattle.lines.proofs.Texts.{value-printable}
 use Rattle.lines.proofs.Layouts.{layout-end, layout-bad, layout-heading, layout-entry}
 use Rattle.places.specs.Places.{value_at}
 use Rattle.tables.specs.Section.{Section}
-use Rattle.tables.specs.Row.{entries_in, entry_in, row_count, row_at, rows_before, section_of}
+use Rattle.tables.specs.Row.{entries_in, entry_in, row_count, row_at, most_rows, rows_before, section_of}
+use Rattle.tables.proofs.Rows.{row_in}
 use Rattle.tables.proofs.Sections.{rows_all}
 use Rattle.reading.proofs.Reduce.{not_free}
 use Rattle.reading.specs.Reading.{heading_row_of, entry_row_of, Slots, fill, is_free, stopped, scanned, scan}
-use Rattle.reading.specs.Scanning.{Took, Ready, Scanned, Turn}
+use Rattle.reading.specs.LookUps.{added_up, compared_under, names_compared}
+use Rattle.reading.specs.Scanning.{Took, Ready, Scanned, Turn, Counted}
 
 -- ---- one row more
 
@@ -139,3 +142,31 @@ module _ (t : List Section) (s : List ℕ) (first a : Slots) (c : Cursor) (cur :
             inside = (entry-moves s c b q e n p).within;
             same = k.same ∙ ap (scan t s cur a) (layout-entry s c b q e n p) ∙ rw (u, f, j.now-is, w, entry-line);
           }
+
+-- ---- the names that have been compared (02, 4/14)
+
+pub counted-first : (t : List Section) (s : List ℕ) → Counted t s 0 start (length t)
+unfolding layout
+counted-first t s = record { so_far = zero-add (added_up (compared_under t) t s (length t) (layout_at s start)); few = omega arith }
+
+module _ (t : List Section) (s : List ℕ) (k : ℕ) (c : Cursor) (cur : ℕ) (h : Counted t s k c cur) where
+  pub counted-end : line_at s c ≡ End → k ≡ names_compared t s
+  unfolding added_up
+  counted-end p = omega (arith, h.so_far, ap (added_up (compared_under t) t s cur) (layout-end s c p))
+
+  pub counted-heading : (b e : ℕ) (n : Cursor) → line_at s c ≡ Heading b e n → (section : ℕ) → section ≡ section_of t (part s b e) → Counted t s k n section
+  unfolding added_up
+  counted-heading b e n p section w =
+      record {
+        so_far = rw w (ap (λ (x : ℕ). k + x) (sym (ap (added_up (compared_under t) t s cur) (layout-heading s c b e n p))) ∙ h.so_far);
+        few = omega (arith, h.few, (heading-moves s c b e n p).on);
+      }
+
+  pub counted-entry : row_count t ≤ most_rows → (b q e : ℕ) (n : Cursor) → line_at s c ≡ Entry b q e n → entry_in t cur (part s b q) < length (entries_in t cur)
+      → (x : ℕ) → x ≡ compared_under t cur (part s b q) → Counted t s (k + x) n cur
+  unfolding added_up
+  counted-entry l b q e n p i x w =
+      record {
+        so_far = omega (arith, h.so_far, w, ap (added_up (compared_under t) t s cur) (layout-entry s c b q e n p));
+        few = omega (arith, h.few, w, l, i, row_in t cur (entry_in t cur (part s b q)) i, (entry-moves s c b q e n p).on);
+      }

@@ -4,3 +4,4 @@ pub mod Reading
 pub mod Theorem
 pub mod Writing
 pub mod Scanning
+pub mod LookUps

@@ -1,12 +1,13 @@
 -- What the steps of a scan promise, over lists by row: for the contracts of the code.
-use Rattle.std.specs.Prelude.{ℕ, ◌+◌, ◌≤◌, ◌≡◌, Bool, true, cond, List, length, get_or}
+use Rattle.std.specs.Prelude.{ℕ, ◌+◌, ◌*◌, ◌≤◌, ◌≡◌, Bool, true, cond, List, length, get_or}
 use Rattle.lines.specs.Bytes.{all_printable}
 use Rattle.lines.specs.Layout.{layout, layout_at}
 use Rattle.lines.specs.declared.Cursor.{Cursor}
 use Rattle.places.specs.Places.{value_at}
 use Rattle.tables.specs.Section.{Section}
-use Rattle.tables.specs.Row.{row_count}
+use Rattle.tables.specs.Row.{row_count, most_rows}
 use Rattle.reading.specs.Tables.{most_bytes}
+use Rattle.reading.specs.LookUps.{added_up, compared_under, names_compared}
 use Rattle.reading.specs.Reading.{Slots, fill, is_free, Scan, scan}
 
 -- row r took line n with the value at start b, length k (f true), or nothing changed since it is not free (f false)
@@ -33,3 +34,9 @@ pub record Turn (t : List Section) (s : List ℕ) (first a : Slots) (c : Cursor)
   pub ready : Ready t s a
   pub inside : c.at ≤ length s
   pub same : scan t s (length t) first (layout s) ≡ scan t s cur a (layout_at s c)
+
+-- before each line, where k counts the names compared: with those of the lines from here on, under section cur, it comes to those of the
+-- text; and it is no large number, since no section has more entries than a table has rows, and each line has a byte
+pub record Counted (t : List Section) (s : List ℕ) (k : ℕ) (c : Cursor) (cur : ℕ) : Type 0 where
+  pub so_far : k + added_up (compared_under t) t s cur (layout_at s c) ≡ names_compared t s
+  pub few : k ≤ most_rows * c.at

@@ -55,8 +55,8 @@ fn read_file(
             writeln!(out, "refused {}, line {}", u32::from(x.kind), x.line)?;
             Ok(None)
         }
-        Ok(count) => Ok(
-            count
+        Ok(read) => Ok(
+            read.sections
                 .checked_sub(tables::fixed_section_count(file))
                 .filter(|n| *n <= MOST_AXLES),
         ),

@@ -12,6 +12,7 @@ use Rattle.lines.proofs.Bools.{clash}
 use Rattle.lines.proofs.Bytes.{same-is}
 use Rattle.refusals.specs.Answer.{acceptance}
 use Rattle.places.specs.Places.{Pair, value_at}
+use Rattle.reading.specs.LookUps.{names_compared}
 use Rattle.reading.specs.Tables.{most_bytes}
 use Rattle.files.specs.Files.{read_by, read_file, axles_of}
 use Rattle.files.proofs.Theorem.{file-unique}
@@ -94,7 +95,7 @@ file-reads f ls w q =
     (ap (λ (m : Layout). read_scan (all_sections f) (least_sections f) (text_of ls) (scan (all_sections f) (text_of ls) (length (all_sections f)) (empty_slots (row_count (all_sections f))) m)) (laid_out ls w))
 
 abbrev given : File → List Line → ℕ → List (List ℕ) → FileRead
-given f ls c vs = record { axles = axles_of f c; pairs = pairs_in (read_lines f ls); values = vs }
+given f ls c vs = record { axles = axles_of f c; pairs = pairs_in (read_lines f ls); values = vs; compared = names_compared (all_sections f) (text_of ls) }
 
 computed-accepted : (f : File) (st : Stated) (a : List (List ℕ)) (ls : List Line) (c : ℕ) (vs : List (List ℕ)) → Computed f st a ls c vs
     → judge_file f st a (text_of ls) ≡ acceptance (given f ls c vs)

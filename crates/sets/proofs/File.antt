@@ -13,8 +13,9 @@ use Rattle.lines.proofs.Bools.{clash}
 use Rattle.kinds.proofs.Laws.{by-test}
 use Rattle.refusals.specs.Answer.{refusal, acceptance}
 use Rattle.places.specs.Places.{Pair, value_at, Within}
-use Rattle.tables.specs.File.{File, ac2, acc, file_number, sections, entries}
+use Rattle.tables.specs.File.{File, ac2, acc, file_number, sections, all_sections, entries}
 use Rattle.reading.specs.Fitting.{StartOf}
+use Rattle.reading.specs.LookUps.{names_compared, entry_lines, sums_of}
 use Rattle.reading.specs.Reading.{Reading, refused, read}
 use Rattle.files.specs.Files.{read_file, axles_of, IsFile}
 use Rattle.files.proofs.Theorem.{read-sound, read-complete}
@@ -86,6 +87,10 @@ pub record Passed (f : File) (a : List (List ℕ)) (s : List ℕ) (g : FileRead)
   pub within : Within s g.pairs
   pub starts : (i : ℕ) → i < length g.pairs → StartOf (sections f g.axles) s i (get_or g.pairs i (0, 0)).0
   pub many : length g.pairs ≡ length (entries f g.axles)
+  -- 02, 4/14
+  pub own : g.compared ≡ names_compared (all_sections f) s
+  pub compared : g.compared ≡ sums_of (sections f g.axles)
+  pub lines : entry_lines (all_sections f) s ≡ length (entries f g.axles)
 
 -- a file, read or not
 pub record FilePassed (f : File) (st : Stated) (a : List (List ℕ)) (s : List ℕ) (g : FileRead) : Type 0 where
@@ -106,6 +111,9 @@ read-passed f booking s c ps ls g e q =
       within = r.within;
       starts = r.starts;
       many = r.many;
+      own = refl;
+      compared = r.compared;
+      lines = r.lines;
     })
 
 text-sound : (f : File) (booking : List (List ℕ) → List (List ℕ)) (s : List ℕ) (g : FileRead) → judge_text f booking s ≡ acceptance g → Passed f (booking g.values) s g
@@ -173,7 +181,7 @@ file-complete f st a given s n vs e r k u = by-test (is_read f (booking_in a) gi
 -- a file that is read so is accepted, where the checks pass
 pub file-accepted : (f : File) (st : Stated) (a : List (List ℕ)) (s : List ℕ) (c : ℕ) (ps : List Pair) (ls : List ℕ) (vs : List (List ℕ))
     → slice_right f st (booking_in a) (is_given s) ≡ true → is_read f (booking_in a) (is_given s) ≡ true → read_file f s ≡ read c ps ls → map (value_at s) ps ≡ vs
-    → first_failed (file_checks f a vs (axles_of f c)) ≡ passed → judge_file f st a s ≡ acceptance (record { axles = axles_of f c; pairs = ps; values = vs })
+    → first_failed (file_checks f a vs (axles_of f c)) ≡ passed → judge_file f st a s ≡ acceptance (record { axles = axles_of f c; pairs = ps; values = vs; compared = names_compared (all_sections f) s })
 unfolding judge_file judge_text
 file-accepted f st a s c ps ls vs r q e v k = rw (r, q, e, v, k) refl
 

@@ -4,6 +4,7 @@ pub mod Always
 pub mod Identification
 pub mod Places
 pub mod Set
+pub mod LookUps
 pub mod Theorem
 pub mod Speeds
 pub mod Examples

@@ -22,12 +22,13 @@ use Rattle.places.proofs.Values.{value-length}
 use Rattle.rules.specs.Slices.{good_stem, is_read}
 use Rattle.rules.specs.Marks.{is_marked}
 use Rattle.rules.specs.declared.Stated.{Stated}
-use Rattle.sets.specs.Records.{Caller, stated_in, Slices, is_given, Record, Read, NotRead, Lawful}
-use Rattle.sets.specs.Judge.{acceptance_of, FileRead, SetRead, judge_slices, set_files, settled, judge}
+use Rattle.sets.specs.Records.{Caller, stated_in, Slices, is_given, Record, Read, NotRead, Lawful, total}
+use Rattle.sets.specs.Judge.{acceptance_of, acceptance_in, FileRead, SetRead, judge_slices, set_files, settled, judge}
 use Rattle.sets.specs.declared.Acceptance.{Acceptance}
 use Rattle.sets.specs.Demand3.{IsAccepted, Placed, Returned, Exactly, Unique, IsReturned, Demands}
 use Rattle.sets.proofs.Steps.{require-inv}
 use Rattle.sets.proofs.Places.{pair_at, within-get, used_pair, unused-pair, places-beyond, places-length}
+use Rattle.sets.proofs.LookUps.{compared-is, lines-are, compared-bounded}
 use Rattle.sets.proofs.Set.{record_of, not-read, no-axles, SetPassed, slices-sound, no-values, passed-lawful, passed-fits, slices-complete}
 
 -- of a file that is not given the record has no axles and no values, and so neither mark is set
@@ -87,9 +88,11 @@ module _ (st : Stated) (s : Slices) (p : List ℕ) (enough : least_places ≤ le
       (λ q. placed f i (omega (arith, same-many f)) q)
       (λ q. absurd (omega (arith, same-many f, no_pairs f q)))
 
-  passed-returned : Returned (record_of s x) s p (acceptance (acceptance_of (λ f. (x.file f).axles) (λ f. (x.file f).values))) afterwards
+  passed-returned : Returned (record_of s x) s p (acceptance (acceptance_in x)) afterwards
   passed-returned = record {
-    carries = refl;
+    carries = λ i. acceptance (acceptance_of (λ f. (x.file f).axles) (λ f. (x.file f).values) (λ f. compared-is st s x w f i));
+    compared = ap (λ (g : File → ℕ). total g) (λ i f. lines-are st s x w f i);
+    bounded = compared-bounded st s x w;
     used = placed-all;
     unused = λ f i h r. let e = unused-pair x fit p enough f i (omega (arith, same-many f)) r in (ap (λ (y : Pair). y.0) e, ap (λ (y : Pair). y.1) e);
     beyond = places-beyond x fit p enough;
@@ -145,7 +148,7 @@ module _ (caller : Caller) (s : Slices) (p : List ℕ) where
       let x : SetRead = w.0 in
       let t = slices-sound (stated_in caller) s x w.1 in
       subst (λ (y : Answer Acceptance × List ℕ). Returned r s p y.0 y.1) (sym (judged caller s p v.good v.enough ∙ ap (settled p) w.1))
-      (subst (λ (q : Record). Returned q s p (acceptance (acceptance_of (λ f. (x.file f).axles) (λ f. (x.file f).values))) (set_files files x (cleared least_places p))) w.2 (passed-returned (stated_in caller) s p v.enough x t))
+      (subst (λ (q : Record). Returned q s p (acceptance (acceptance_in x)) (set_files files x (cleared least_places p))) w.2 (passed-returned (stated_in caller) s p v.enough x t))
 
 -- ---- what a judging leaves in the places
 

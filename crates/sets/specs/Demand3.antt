@@ -1,11 +1,12 @@
 -- Demand 3 (01, Judging): what the judge's answer and places say of the lawful records that fit a set.
-use Rattle.std.specs.Prelude.{ℕ, ◌+◌, ◌≤◌, ◌<◌, ◌≡◌, ◌↔◌, true, List, [], length, get_or, drop}
+use Rattle.std.specs.Prelude.{ℕ, ◌+◌, ◌*◌, ◌≤◌, ◌<◌, ◌≡◌, ◌↔◌, true, List, [], length, get_or, drop}
 use Rattle.refusals.specs.Answer.{Answer, refusal, acceptance}
 use Rattle.places.specs.Places.{start_of, length_of, value_at}
 use Rattle.tables.specs.File.{File, sections, room, first_pair, least_places}
 use Rattle.reading.specs.Fitting.{StartOf}
+use Rattle.reading.specs.LookUps.{twice_bound}
 use Rattle.rules.specs.Slices.{good_stem}
-use Rattle.sets.specs.Records.{Caller, stated_in, Slices, Record, Lawful, Fits}
+use Rattle.sets.specs.Records.{Caller, stated_in, Slices, Record, Lawful, Fits, total, compared_by, compared_for, lines_for}
 use Rattle.sets.specs.Judge.{acceptance_of, judge}
 use Rattle.sets.specs.declared.Acceptance.{Acceptance}
 
@@ -26,8 +27,13 @@ IsZero places f i = (start_of places (first_pair f + i) ≡ 0) × (length_of pla
 
 -- answer and places are those of the record r
 pub record Returned (r : Record) (s : Slices) (before : List ℕ) (answer : Answer Acceptance) (after : List ℕ) : Type 0 where
-  -- its axle counts and marks
-  pub carries : answer ≡ acceptance (acceptance_of r.axles r.values)
+  -- its axle counts and marks, and 02, 4/14: its number of entry names compared
+  pub carries : answer ≡ acceptance (acceptance_of r.axles r.values (compared_by r))
+  -- which "equals the definition", the sum over the entry lines
+  pub compared : total (compared_by r) ≡ total (compared_for r s)
+  -- "twice the sum is at most 47 times the number of entry lines, with the entry count of opacity's largest section plus 1 in place of 47
+  -- if that is larger"
+  pub bounded : 2 * total (compared_by r) ≤ twice_bound * total (lines_for r s)
   pub used : (f : File) (i : ℕ) → i < length (r.values f) → Placed r s after f i
   -- "Unused pairs (of a file not read or an axle not there) are 0"
   pub unused : (f : File) (i : ℕ) → length (r.values f) ≤ i → i < room f → IsZero after f i

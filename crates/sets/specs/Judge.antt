@@ -3,8 +3,9 @@ use Rattle.std.specs.Prelude.{ℕ, Bool, cond, List, [], ◌∷◌, map, leb, lt
 use Rattle.places.specs.Places.{Pair, value_at, set_pairs, cleared}
 use Rattle.refusals.specs.Refusals.{number_of}
 use Rattle.refusals.specs.Answer.{Answer, refusal, acceptance, require, followed, given_by}
-use Rattle.tables.specs.File.{File, ac2, acc, drift, suspension, gas, opacity, files, file_number, identification_number, first_pair, least_places}
+use Rattle.tables.specs.File.{File, ac2, acc, drift, suspension, gas, opacity, files, all_sections, file_number, identification_number, first_pair, least_places}
 use Rattle.reading.specs.Reading.{Reading, refused, read}
+use Rattle.reading.specs.LookUps.{names_compared}
 use Rattle.files.specs.Files.{read_file, axles_of, is_by_hand}
 use Rattle.due.specs.Booking.{booking_in}
 use Rattle.due.specs.Conditions.{conditions_of}
@@ -18,7 +19,7 @@ use Rattle.rules.specs.Marks.{is_marked}
 use Rattle.rules.specs.declared.Stated.{Stated}
 use Rattle.serial.specs.Reading.{read_identification, address_in, seven_in}
 use Rattle.serial.specs.declared.FieldEnds.{FieldEnds}
-use Rattle.sets.specs.Records.{Caller, stated_in, Slices, is_given}
+use Rattle.sets.specs.Records.{Caller, stated_in, Slices, is_given, total}
 use Rattle.sets.specs.declared.Figures.{Figures}
 use Rattle.sets.specs.declared.Acceptance.{Acceptance}
 
@@ -26,30 +27,28 @@ use Rattle.sets.specs.declared.Acceptance.{Acceptance}
 
 -- what acceptance takes from a file of n axles with these values: "a mark .., set exactly when it is given with CodErrore filled";
 -- 02, 1/14: whether its idle speed was entered by hand. Of a file that is not given no value is there, so none is set (`not-given`).
-abbrev pub figures_from : File → ℕ → List (List ℕ) → Figures
-figures_from f n vs = record { axles = n; mark = is_marked f vs; byhand = is_by_hand f vs }
+-- 02, 4/14: k is the number of entry names compared
+abbrev pub figures_from : File → ℕ → List (List ℕ) → ℕ → Figures
+figures_from f n vs k = record { axles = n; mark = is_marked f vs; byhand = is_by_hand f vs; compared = k }
 
 -- "acceptance, with two axle counts (0 for a file not given) and a mark per result file": of drift, suspension, gas and, by 02,
--- 2/14, opacity; 02, 1/14: "acceptance carries that mark for the gas file", and with it alone
-abbrev pub acceptance_with : Figures → Figures → Figures → Figures → Acceptance
-acceptance_with d u g y = record {
-  driftaxles = d.axles;
-  suspensionaxles = u.axles;
-  driftmark = d.mark;
-  suspensionmark = u.mark;
-  gasmark = g.mark;
-  gasbyhand = g.byhand;
-  opacitymark = y.mark;
+-- 2/14, opacity; 02, 1/14: "acceptance carries that mark for the gas file", and with it alone; 02, 4/14: "the number of entry names
+-- compared", of all files. y gives the figures of each
+abbrev pub acceptance_with : (File → Figures) → Acceptance
+acceptance_with y = record {
+  driftaxles = (y drift).axles;
+  suspensionaxles = (y suspension).axles;
+  driftmark = (y drift).mark;
+  suspensionmark = (y suspension).mark;
+  gasmark = (y gas).mark;
+  gasbyhand = (y gas).byhand;
+  opacitymark = (y opacity).mark;
+  compared = total (λ f. (y f).compared);
 }
 
--- from the files' axle counts and values
-abbrev pub acceptance_of : (File → ℕ) → (File → List (List ℕ)) → Acceptance
-acceptance_of axles values =
-    acceptance_with
-    (figures_from drift (axles drift) (values drift))
-    (figures_from suspension (axles suspension) (values suspension))
-    (figures_from gas (axles gas) (values gas))
-    (figures_from opacity (axles opacity) (values opacity))
+-- from the files' axle counts, their values, and the number of entry names compared for each
+abbrev pub acceptance_of : (File → ℕ) → (File → List (List ℕ)) → (File → ℕ) → Acceptance
+acceptance_of axles values compared = acceptance_with (λ f. figures_from f (axles f) (values f) (compared f))
 
 -- ---- the checks of a file that is read
 
@@ -84,13 +83,15 @@ pub record FileRead : Type 0 where
   pub axles : ℕ
   pub pairs : List Pair
   pub values : List (List ℕ)
+  -- 02, 4/14: the number of entry names compared
+  pub compared : ℕ
 
 abbrev pub not_read : FileRead
-not_read = record { axles = 0; pairs = []; values = [] }
+not_read = record { axles = 0; pairs = []; values = []; compared = 0 }
 
 -- c sections, and the pairs of the entries
 abbrev pub file_read : File → List ℕ → ℕ → List Pair → FileRead
-file_read f s c ps = record { axles = axles_of f c; pairs = ps; values = map (value_at s) ps }
+file_read f s c ps = record { axles = axles_of f c; pairs = ps; values = map (value_at s) ps; compared = names_compared (all_sections f) s }
 
 abbrev pub checked_file : File → FileRead → List ℕ → FileCheck → Answer FileRead
 checked_file f g lines passed = acceptance g
@@ -180,11 +181,14 @@ abbrev pub set_files : List File → SetRead → List ℕ → List ℕ
 set_files [] x p = p
 set_files (f ∷ fs) x p = set_files fs x (set_pairs (first_pair f) (x.file f).pairs p)
 
+-- what acceptance carries of a set that passed
+abbrev pub acceptance_in : SetRead → Acceptance
+acceptance_in x = acceptance_of (λ f. (x.file f).axles) (λ f. (x.file f).values) (λ f. (x.file f).compared)
+
 -- "Unused pairs .. are 0; numbers past 278 stay", from 02, 2/14 on 388; after a refusal all pairs are 0. Of these files, the pairs.
 abbrev pub settled_by : List File → List ℕ → Answer SetRead → Answer Acceptance × List ℕ
 settled_by fs p (refusal k f l) = (refusal k f l, cleared least_places p)
-settled_by fs p (acceptance x) =
-    (acceptance (acceptance_of (λ f. (x.file f).axles) (λ f. (x.file f).values)), set_files fs x (cleared least_places p))
+settled_by fs p (acceptance x) = (acceptance (acceptance_in x), set_files fs x (cleared least_places p))
 
 abbrev pub settled : List ℕ → Answer SetRead → Answer Acceptance × List ℕ
 settled p a = settled_by files p a

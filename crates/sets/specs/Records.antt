@@ -1,7 +1,8 @@
 -- Records of a set: when one is lawful, and when it fits a set (01, Judging: "A lawful record .."; 02, 2/14).
-use Rattle.std.specs.Prelude.{ℕ, ◌<◌, ◌≡◌, Bool, true, false, ◌&&◌, List, [], ltb, length, get_or}
-use Rattle.tables.specs.File.{File, ac2, acc, drift, suspension, gas, opacity, has_axles, sections, entries}
+use Rattle.std.specs.Prelude.{ℕ, ◌<◌, ◌≡◌, Bool, true, false, cond, ◌&&◌, List, [], ltb, length, get_or, sum_by}
+use Rattle.tables.specs.File.{File, ac2, acc, drift, suspension, gas, opacity, files, has_axles, sections, all_sections, entries}
 use Rattle.reading.specs.Fitting.{FitsText, EachKept}
+use Rattle.reading.specs.LookUps.{names_compared, entry_lines, sums_of}
 use Rattle.files.specs.Files.{AxleCount}
 use Rattle.due.specs.Booking.{booking_in}
 use Rattle.due.specs.Conditions.{conditions_of}
@@ -58,11 +59,14 @@ pub record Record : Type 0 where
   pub address : List ℕ
 
 -- "each file that is read (every given one, but ACC with L)"
+abbrev pub reads : Record → File → Bool
+reads r f = is_read f (booking_in (r.values ac2)) (r.given f)
+
 abbrev pub Read : Record → File → Type 0
-Read r f = is_read f (booking_in (r.values ac2)) (r.given f) ≡ true
+Read r f = reads r f ≡ true
 
 abbrev pub NotRead : Record → File → Type 0
-NotRead r f = is_read f (booking_in (r.values ac2)) (r.given f) ≡ false
+NotRead r f = reads r f ≡ false
 
 -- ---- lawful records
 
@@ -101,3 +105,25 @@ pub record Fits (r : Record) (s : Slices) : Type 0 where
   pub files : (f : File) → Read r f → FitsText (sections f (r.axles f)) (r.values f) (s.file f)
   -- "Its identification, with slice 6 only, is the answer above with that address and gas's seven values"
   pub identification : r.identification_given ≡ true → s.identification ≡ identification_of r.address (seven_of (r.values gas))
+
+-- ---- 02, 4/14: how many entry names are compared
+
+-- of all files together
+abbrev pub total : (File → ℕ) → ℕ
+total g = sum_by g files
+
+-- "A file that is not read adds nothing"
+abbrev pub where_read : Record → (File → ℕ) → File → ℕ
+where_read r g f = cond (reads r f) (g f) 0
+
+-- "a section of n entries adds the numbers 1 to n, in any line order": by which files are read, and their axle counts
+abbrev pub compared_by : Record → File → ℕ
+compared_by r = where_read r (λ f. sums_of (sections f (r.axles f)))
+
+-- "for each entry line, the place of its name in its section's table", of the files of the set that are read
+abbrev pub compared_for : Record → Slices → File → ℕ
+compared_for r s = where_read r (λ f. names_compared (all_sections f) (s.file f))
+
+-- "the number of entry lines", of these files
+abbrev pub lines_for : Record → Slices → File → ℕ
+lines_for r s = where_read r (λ f. entry_lines (all_sections f) (s.file f))

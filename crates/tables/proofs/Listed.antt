@@ -9,6 +9,7 @@ use Rattle.std.specs.Prelude.{Option, Some, None}
 use Rattle.lines.proofs.Bools.{clash}
 use Rattle.kinds.proofs.Laws.{by-test}
 use Rattle.tables.specs.LookUps.{looked_up}
+use Rattle.tables.specs.declared.lookup.LookUp.{LookUp}
 use mathlib.Core.Bool.{Bool, true, false}
 use mathlib.Core.List.{List, [], map}
 use lib.ListN.{length, get_or, take, drop, length-map, get_or-map}
@@ -69,9 +70,9 @@ module _ {A : Type 0} (name : A → List ℕ) (hs : List A) (p : List ℕ) where
 -- ---- the answer of a look-up
 
 module _ (s : List ℕ) (ns : List (List ℕ)) (a : ℕ) where
-  pub found-at : (x : ℕ) → index_of s ns < length ns → x ≡ a + index_of s ns → Some x ≡ looked_up s ns a
+  pub found-at : (x : LookUp) → index_of s ns < length ns → x.row ≡ a + index_of s ns → x.compared ≡ index_of s ns + 1 → Some x ≡ looked_up s ns a
   unfolding looked_up
-  found-at x l r = rw (lt-ltb _ _ l) (ap Some r)
+  found-at x l r k = rw (lt-ltb _ _ l) (λ i. Some (record { row = r i; compared = k i }))
 
   pub none-at : length ns ≤ index_of s ns → None ≡ looked_up s ns a
   unfolding looked_up
@@ -80,11 +81,11 @@ module _ (s : List ℕ) (ns : List (List ℕ)) (a : ℕ) where
   -- and what it says
   pub lacks : looked_up s ns a ≡ None → length ns ≤ index_of s ns
   unfolding looked_up
-  lacks e = by-test (ltb (index_of s ns) (length ns)) (λ q. let w : Some (a + index_of s ns) ≡ None = rw q at e in clash (cc)) (λ q. ltb-false _ _ q)
+  lacks e = by-test (ltb (index_of s ns) (length ns)) (λ q. let w : Some (record { row = a + index_of s ns; compared = index_of s ns + 1 }) ≡ None = rw q at e in clash (cc)) (λ q. ltb-false _ _ q)
 
-  pub finds : (x : ℕ) → looked_up s ns a ≡ Some x → (index_of s ns < length ns) × (x ≡ a + index_of s ns)
+  pub finds : (x : LookUp) → looked_up s ns a ≡ Some x → (index_of s ns < length ns) × (x.row ≡ a + index_of s ns) × (x.compared ≡ index_of s ns + 1)
   unfolding looked_up
   finds x e =
       by-test (ltb (index_of s ns) (length ns))
-      (λ q. let w : Some (a + index_of s ns) ≡ Some x = rw q at e in (ltb-true _ _ q, cc))
-      (λ q. let w : ◌≡◌ {A = Option ℕ} None (Some x) = rw q at e in clash (cc))
+      (λ q. let w : Some (record { row = a + index_of s ns; compared = index_of s ns + 1 }) ≡ Some x = rw q at e in (ltb-true _ _ q, cc, cc))
+      (λ q. let w : ◌≡◌ {A = Option LookUp} None (Some x) = rw q at e in clash (cc))

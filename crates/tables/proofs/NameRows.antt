@@ -52,6 +52,7 @@ use Rattle.tables.specs.Row.{names, name_in, entries_in, index_of, entry_in, row
 use Rattle.tables.specs.Groups.{testers, gas_entries, group, group_of, StandsAt, lent_by, IsPlaceOf}
 use Rattle.tables.specs.LookUps.{looked_up}
 use Rattle.tables.specs.declared.SectionPlace.{SectionPlace}
+use Rattle.tables.specs.declared.lookup.LookUp.{LookUp}
 use Rattle.std.specs.Prelude.{Option, Some, None}
 use Rattle.std.proofs.lemmas.List.{drop-map, take-map}
 use Rattle.tables.proofs.Files.{of-file, of_others}
@@ -85,10 +86,12 @@ module _ {n c s : ℕ} (h : StandsAt n c s) where
 
 -- ---- what is found in a section's place
 
--- r is the row of the entry of a name in section c of the file of number n
-pub record Found (n c : ℕ) (s : List ℕ) (r : ℕ) : Type 0 where
-  pub row-is : r ≡ row_at (table_of n) c (entry_in (table_of n) c s)
-  pub there : r < row_count (table_of n)
+-- the row of the entry of a name in section c of the file of number n, and how many names were compared
+pub record Found (n c : ℕ) (s : List ℕ) (x : LookUp) : Type 0 where
+  pub inside : entry_in (table_of n) c s < length (entries_in (table_of n) c)
+  pub row-is : x.row ≡ row_at (table_of n) c (entry_in (table_of n) c s)
+  pub there : x.row < row_count (table_of n)
+  pub compared-is : x.compared ≡ entry_in (table_of n) c s + 1
 
 module _ {n c : ℕ} {p : SectionPlace} (h : IsPlaceOf n c p) where
   many : length (lent_by p.group) ≡ length (entries_in (table_of n) c)
@@ -98,18 +101,20 @@ module _ {n c : ℕ} {p : SectionPlace} (h : IsPlaceOf n c p) where
   index-is s = ap (index_of s) h.lent
 
   -- the answer r of a look-up of the name s
-  module _ (s : List ℕ) {r : Option ℕ} (w : r ≡ looked_up s (lent_by p.group) (p.before + 1)) where
+  module _ (s : List ℕ) {r : Option LookUp} (w : r ≡ looked_up s (lent_by p.group) (p.before + 1)) where
     pub place-lacks : r ≡ None → length (entries_in (table_of n) c) ≤ entry_in (table_of n) c s
     place-lacks e = omega (arith, many, index-is s, lacks s (lent_by p.group) (p.before + 1) (sym w ∙ e))
 
-    pub place-finds : {x : ℕ} → r ≡ Some x → Found n c s x
+    pub place-finds : {x : LookUp} → r ≡ Some x → Found n c s x
     unfolding row_at
     place-finds {x} e =
         let v = finds s (lent_by p.group) (p.before + 1) x (sym w ∙ e) in
         let l : entry_in (table_of n) c s < length (entries_in (table_of n) c) = omega (arith, many, index-is s, v.0) in
         record {
+          inside = l;
           row-is = rw (lt-ltb _ _ l) (omega (arith, v.1, index-is s, h.before-is));
           there = omega (arith, v.1, index-is s, h.before-is, row_in (table_of n) c (entry_in (table_of n) c s) l);
+          compared-is = omega (arith, v.2, index-is s);
         }
 
 -- ---- where sections stand

@@ -16,7 +16,7 @@ ghost use Rattle.tables.specs.Row.{entries_in, name_at, heading_at, section_of, 
 ghost use Rattle.tables.specs.LookUps.{looked_up};
 ghost use Rattle.tables.specs.Groups.{section_digit, likely_section, lent_by, StandsAt, IsPlaceOf};
 
-use lookup::Group;
+use lookup::{Group, LookUp};
 
 // The numbers of the files (01, the set). Numbers and no enum: the C interface passes them, and each function here takes any.
 pub const AC2: u32 = 1;
@@ -249,12 +249,15 @@ pub fn section_place(file: u32, section: usize) -> SectionPlace<'static>
 }
 
 // The row of the entry of a name in the section of that place; None where it is none of the section's.
-pub fn find_row(place: SectionPlace<'_>, part: &[u8]) -> Option<usize>
+pub fn find_row(place: SectionPlace<'_>, part: &[u8]) -> Option<LookUp>
     requires { place.before ≤ most_rows }
     ensures { result ≡ looked_up part.now (lent_by place.entry.group) (place.entry.before + 1) }
 {
-    let row = place.group.find(part)?;
-    Some(place.before + 1 + row)
+    let found = place.group.find(part)?;
+    Some(LookUp {
+        row: place.before + 1 + found.row,
+        compared: found.compared,
+    })
 }
 
 // The heading of a section, brackets included; what has no section has the empty heading.

@@ -1,7 +1,7 @@
 // A group of names, and the look-up of a name among them by its tag.
 ghost use Rattle.std.specs.Prelude.{◌≡◌, ◌+◌, ◌≤◌, map, length, take, drop};
-ghost use Rattle.tables.specs.LookUps.{looked_up};
-ghost use Rattle.tables.specs.Tags.{tag_of, PassesTo};
+ghost use Rattle.tables.specs.LookUps.{looked_up, GoesOn};
+ghost use Rattle.tables.specs.Tags.{tag_of};
 
 // The names of a group, and their tags: these lie apart, since eight of them are tested at one load.
 #[derive(Clone, Copy)]
@@ -9,6 +9,15 @@ pub struct Group<'a> {
     pub names: &'a [&'a [u8]],
     pub tags: &'a [u8],
     pub ghost tagged: { tags.now ≡ map tag_of (map (λ n. n.now) names.now) },
+}
+
+// Where a look-up stands: its row, among the names that it goes through, in the answer of `find_row` of the table; and how many names
+// it has compared (02, 4/14). That goes up as names are tried, also for those that their tags tell apart: by one, or by as many as
+// are passed over at once.
+#[derive(Debug, Clone, Copy, PartialEq, Eq)]
+pub struct LookUp {
+    pub row: usize,
+    pub compared: usize,
 }
 
 impl<'a> Group<'a> {
@@ -26,16 +35,22 @@ impl<'a> Group<'a> {
 
     // The row of a name among the group's, looked for in their order. A name is compared byte by byte only where its tag is the
     // part's. No `for`: a row is not followed by the next, but by the next of that tag.
-    pub(crate) fn find(self, part: &[u8]) -> Option<usize>
+    pub(crate) fn find(self, part: &[u8]) -> Option<LookUp>
         ensures { result ≡ looked_up part.now (map (λ n. n.now) self.entry.names.now) 0 }
     {
         let tag = tag_of(part);
-        let mut row = pass_over(self.tags, 0, tag);
-        while row < self.names.len() {
-            if lines::same_name(part, self.names[row]) {
-                return Some(row);
+        let first = LookUp {
+            row: 0,
+            compared: 0,
+        };
+        let mut at = pass_over(self.tags, first, tag);
+        while at.row < self.names.len() {
+            at.compared += 1;
+            if lines::same_name(part, self.names[at.row]) {
+                return Some(at);
             }
-            row = pass_over(self.tags, row + 1, tag);
+            at.row += 1;
+            at = pass_over(self.tags, at, tag);
         }
         None
     }
@@ -52,31 +67,41 @@ fn tag_of(part: &[u8]) -> u8
     ((size % 64 * 4 + usize::from(part[0]) + usize::from(part[size - 1]) % 32 * 8) % 256) as u8
 }
 
-// The first row from `from` on with that tag, one by one; past the last where none has it.
-fn next_row(tags: &[u8], from: usize, tag: u8) -> usize
-    requires { from ≤ length tags.now }
-    ensures { PassesTo tags.now tag from result }
+// On to the first row with that tag, one by one; past the last where none has it.
+fn next_row(tags: &[u8], from: LookUp, tag: u8) -> LookUp
+    requires { (from.row ≤ length tags.now) × (from.compared ≤ from.row) }
+    ensures { GoesOn tags.now tag from result }
 {
-    for row in from..tags.len() {
+    let mut compared = from.compared;
+    for row in from.row..tags.len() {
         if tags[row] == tag {
-            return row;
+            return LookUp { row, compared };
         }
+        compared += 1;
     }
-    tags.len()
+    LookUp {
+        row: tags.len(),
+        compared,
+    }
 }
 
 // Likewise, passing over eight rows at a time while none of the eight has that tag; fewer than eight one by one. No `for`,
 // which would come to these few as well and have to tell them apart.
-fn pass_over(tags: &[u8], from: usize, tag: u8) -> usize
-    requires { from ≤ length tags.now }
-    ensures { PassesTo tags.now tag from result }
+fn pass_over(tags: &[u8], from: LookUp, tag: u8) -> LookUp
+    requires { (from.row ≤ length tags.now) × (from.compared ≤ from.row) }
+    ensures { GoesOn tags.now tag from result }
 {
-    let mut row = from;
-    while 8 <= tags.len() - row {
-        if !lines::lacks(tags, row, tag) {
-            return row + lines::first_of(tags, row, tag);
+    let mut at = from;
+    while 8 <= tags.len() - at.row {
+        if !lines::lacks(tags, at.row, tag) {
+            let passed = lines::first_of(tags, at.row, tag);
+            return LookUp {
+                row: at.row + passed,
+                compared: at.compared + passed,
+            };
         }
-        row += 8;
+        at.row += 8;
+        at.compared += 8;
     }
-    next_row(tags, row, tag)
+    next_row(tags, at, tag)
 }

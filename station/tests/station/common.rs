@@ -80,6 +80,14 @@ pub fn changed(sample: &str, changes: &[Change]) -> Vec<(PathBuf, Vec<u8>)> {
     changed.collect()
 }
 
+/// Writes a sample with changes into a folder, under another stem.
+pub fn put_set(folder: &Path, stem: &str, sample: &str, changes: &[Change]) {
+    for (name, text) in changed(sample, changes) {
+        let ending = name.extension().expect("an ending");
+        put(folder.join(stem).with_extension(ending), text);
+    }
+}
+
 /// Writes a file, and the folders above it.
 pub fn put(path: impl AsRef<Path>, bytes: impl AsRef<[u8]>) {
     let path = path.as_ref();

@@ -1,8 +1,6 @@
 //! Idle speeds that were entered by hand, that were measured, and none: sets one by one and as a list, and files alone.
 
-use std::path::Path;
-
-use crate::common::{changed, empty_folder, put, Change};
+use crate::common::{empty_folder, put_set, Change};
 use crate::transcripts::check;
 
 /// The car's idle speed is `#850`.
@@ -26,13 +24,6 @@ const MORNING: [(&str, &str, &[Change]); 8] = [
     ("AA000008", "accepted-diesel", &[]),
     ("AA000009", "accepted-diesel", &[DRIFT_CODE, OPACITY_CODE]),
 ];
-
-fn put_set(folder: &Path, stem: &str, sample: &str, changes: &[Change]) {
-    for (name, text) in changed(sample, changes) {
-        let ending = name.extension().expect("an ending");
-        put(folder.join(stem).with_extension(ending), text);
-    }
-}
 
 #[test]
 fn idle_speeds_entered_by_hand_are_told() {

@@ -4,6 +4,7 @@ mod broken;
 mod causes;
 mod common;
 mod idle;
+mod look_up;
 mod obeyed;
 mod readme;
 mod reference;

@@ -13,7 +13,7 @@ const GENERATED: u64 = 1000;
 const FIRST_SEED: u64 = 9 << 40;
 
 /// The members of the JSON that are numbers of the answer, and which.
-const MEMBERS: [(&str, usize); 10] = [
+const MEMBERS: [(&str, usize); 11] = [
     ("number", 0),
     ("file", 1),
     ("line", 2),
@@ -24,20 +24,28 @@ const MEMBERS: [(&str, usize); 10] = [
     ("gas_mark", 7),
     ("opacity_mark", 8),
     ("idle_by_hand", 9),
+    ("names_compared", 10),
 ];
 
 /// Those numbers, in this order.
 type Answer = [u32; MEMBERS.len()];
+
+/// Its place in both.
+const NAMES_COMPARED: usize = 10;
 
 fn right(set: &Set) -> Answer {
     let answer = Reference.judge(set).answer;
     MEMBERS.map(|(_, at)| answer[at])
 }
 
-/// The answers of `mctc judge FOLDER --json`, with their stems.
-fn found(folder: &Path) -> Vec<(String, Answer)> {
+/// What `mctc judge FOLDER --json` prints.
+fn judged(folder: &Path) -> String {
     let output = run(folder, &["judge", ".", "--json"]);
-    let text = String::from_utf8(output.stdout).expect("JSON is UTF-8");
+    String::from_utf8(output.stdout).expect("JSON is UTF-8")
+}
+
+/// The answers in it, with their stems.
+fn found(text: &str) -> Vec<(String, Answer)> {
     let sets = text.split("{\"stem\":\"").skip(1);
     sets.map(|set| {
         let (stem, rest) = set.split_once('"').expect("a stem");
@@ -56,6 +64,13 @@ fn answer_in(object: &str) -> Answer {
             number => number.parse().expect("a number"),
         }
     })
+}
+
+/// The folder's own `names_compared`, which stands behind the sets.
+fn sum_found(text: &str) -> u64 {
+    let (_, sum) = text.rsplit_once("\"names_compared\":").expect("a sum");
+    let (sum, _) = sum.split_once('}').expect("its end");
+    sum.parse().expect("a number")
 }
 
 /// The set whose files stand in a folder, with any case of their endings.
@@ -85,7 +100,8 @@ fn samples() {
             let set = load(&folder);
             let stem = String::from_utf8_lossy(&set.stem).into_owned();
             let right = right(&set);
-            assert_eq!(found(&folder), [(stem, right)], "{}", folder.display());
+            let found = found(&judged(&folder));
+            assert_eq!(found, [(stem, right)], "{}", folder.display());
             numbers.push(right[0]);
         }
     }
@@ -122,7 +138,12 @@ fn generate(folder: &Path) -> Vec<(String, Answer)> {
 fn generated_sets() {
     let folder = empty_folder("generated");
     let answers = generate(&folder);
-    assert_eq!(found(&folder), answers);
+    let text = judged(&folder);
+    assert_eq!(found(&text), answers);
+    let compared = answers
+        .iter()
+        .map(|(_, answer)| u64::from(answer[NAMES_COMPARED]));
+    assert_eq!(sum_found(&text), compared.sum::<u64>());
     for number in [0].into_iter().chain(3..=15) {
         let mut numbers = answers.iter().map(|(_, answer)| answer[0]);
         assert!(

@@ -4,8 +4,9 @@
 use crate::generator::{self, Record};
 use crate::judge::{
     answer_before, column_before, make, make_with_answer, places_before, Call, Judge, Outcome,
-    Reference, ANSWER, BY_HAND, OUTPUT_BEFORE, SHORT_ANSWER,
+    Reference, ANSWER, BY_HAND, NAMES_COMPARED, OUTPUT_BEFORE, SHORT_ANSWER,
 };
+use crate::look_ups;
 use crate::met::{JUDGED_AGAIN, READ_BACK};
 use crate::mutator;
 use crate::random::Random;
@@ -67,10 +68,10 @@ pub struct Case {
     pub known: Option<Outcome>,
 }
 
-fn accepted(values: &[u32], by_hand: bool, places: Vec<u32>, output: Vec<u8>) -> Outcome {
+/// An acceptance with the values from [3] on; what stands at a number of its own is 0.
+fn accepted(values: &[u32], places: Vec<u32>, output: Vec<u8>) -> Outcome {
     let mut answer = vec![0; ANSWER];
     answer[3..3 + values.len()].copy_from_slice(values);
-    answer[BY_HAND] = u32::from(by_hand);
     Outcome {
         answer,
         places,
@@ -91,7 +92,10 @@ fn known_of_record(record: &Record, before: &[u32]) -> Outcome {
     let marks = [DRIFT, SUSPENSION, GAS, OPACITY].map(|file| record.mark(file));
     values.extend(marks.map(u32::from));
     let places = places_after(before, &record.places);
-    accepted(&values, record.by_hand(), places, Vec::new())
+    let mut known = accepted(&values, places, Vec::new());
+    known.answer[BY_HAND] = u32::from(record.by_hand());
+    known.answer[NAMES_COMPARED] = record.names_compared();
+    known
 }
 
 /// A whole set, lawful or changed.
@@ -125,8 +129,9 @@ pub fn read_case(seed: u64) -> Case {
             let at = values.first_place();
             first[at..at + pairs.len()].copy_from_slice(pairs);
             let after = places_after(&places, &first);
-            let axles = values.axles as u32;
-            Some(accepted(&[axles], values.by_hand(), after, Vec::new()))
+            let mut known = accepted(&[values.axles as u32], after, Vec::new());
+            known.answer[BY_HAND] = u32::from(values.by_hand());
+            Some(known)
         }
         _ => None,
     };
@@ -155,7 +160,7 @@ pub fn write_case(seed: u64) -> Case {
         let mut after = output.clone();
         after[..written.len()].copy_from_slice(&written);
         let length = written.len() as u32;
-        Some(accepted(&[length], false, writing.places.clone(), after))
+        Some(accepted(&[length], writing.places.clone(), after))
     });
     Case {
         seed,
@@ -421,7 +426,7 @@ fn compare_read_back(
 }
 
 /// The files of an accepted set written from its places: the set of the written files is
-/// accepted with the same answer, all marks included.
+/// accepted with the same answer, all marks and the names compared included.
 fn compare_rewritten(
     subject: &dyn Judge,
     report: &mut Report,
@@ -478,8 +483,26 @@ fn compare_rewritten(
         ));
     }
     report.meet(JUDGED_AGAIN, &again.call, &judged);
+    report.meet_rewritten(set, outcome);
     report.rewritten += 1;
     Ok(())
+}
+
+/// The names compared in an accepted set are as many as 02, 4/14 says that its sections add, and within its bound.
+fn check_names_compared(case: &Case, outcome: &Outcome) -> Result<(), String> {
+    let Call::Judge { set, .. } = &case.call else {
+        return Ok(());
+    };
+    if look_ups::is_right(set, outcome) {
+        return Ok(());
+    }
+    let both = (Reference.name(), outcome);
+    Err(difference(
+        "the names compared are not the sum over the sections, or above the bound",
+        case,
+        both,
+        both,
+    ))
 }
 
 /// In a lawful file each entry is filled or empty as the column says.
@@ -529,8 +552,11 @@ pub fn run_of(subject: &dyn Judge, amounts: Amounts) -> Result<Report, String> {
     let sets = (0..amounts.sets).map(|at| set_case(FIRST_SET + at));
     let mut at = 0;
     run_sort(subject, &mut report, sets, |report, case, outcome| {
-        if outcome.accepted() && at % REWRITTEN == 0 {
-            compare_rewritten(subject, report, case, outcome)?;
+        if outcome.accepted() {
+            check_names_compared(case, outcome)?;
+            if at % REWRITTEN == 0 {
+                compare_rewritten(subject, report, case, outcome)?;
+            }
         }
         at += 1;
         Ok(())

@@ -63,7 +63,7 @@ pub fn printable(random: &mut Random, count: usize) -> Vec<u8> {
 }
 
 fn days_in_month(month: usize, year: usize) -> usize {
-    let leap = (year % 4 == 0 && year % 100 != 0) || year % 400 == 0;
+    let leap = (year.is_multiple_of(4) && !year.is_multiple_of(100)) || year.is_multiple_of(400);
     [
         31,
         28 + usize::from(leap),
@@ -377,6 +377,12 @@ impl Values {
         self.file == GAS && self.get("NumGiriMotoreMin").starts_with(b"#")
     }
 
+    /// 02, 4/14: how often a name is tried to read the file: "a section of n entries adds the numbers 1 to n".
+    pub fn names_compared(&self) -> u32 {
+        let counts = entry_counts(self.file, self.axles);
+        counts.iter().map(|count| (1..=*count).sum::<u32>()).sum()
+    }
+
     /// All values in entry order.
     pub fn all(&self) -> impl Iterator<Item = &Vec<u8>> {
         self.sections.iter().flatten()
@@ -389,6 +395,19 @@ impl Values {
             .iter()
             .flat_map(|section| &section.entries)
             .map(|entry| entry.kind)
+    }
+}
+
+/// How many entries each section of a file has, by 01, Bookings and Results, and 02, 2/14.
+fn entry_counts(file: u32, axles: usize) -> Vec<u32> {
+    match file {
+        AC2 => vec![12],
+        ACC => vec![6],
+        DRIFT => [vec![16], vec![1; axles]].concat(),
+        SUSPENSION => [vec![16], vec![3; axles]].concat(),
+        GAS => vec![46, 7],
+        OPACITY => vec![55],
+        _ => panic!("file {file} has no sections"),
     }
 }
 
@@ -440,6 +459,11 @@ impl Record {
 
     pub fn by_hand(&self) -> bool {
         self.file(GAS).is_some_and(Values::by_hand)
+    }
+
+    /// 02, 4/14: "A file that is not read adds nothing."
+    pub fn names_compared(&self) -> u32 {
+        self.files.iter().map(Values::names_compared).sum()
     }
 }
 

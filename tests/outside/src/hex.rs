@@ -22,7 +22,7 @@ pub fn from_hex(text: &str) -> Result<Vec<u8>, String> {
             .to_digit(16)
             .ok_or(format!("no hexadecimal digit: {}", char::from(c)))
     };
-    if text.len() % 2 != 0 {
+    if !text.len().is_multiple_of(2) {
         return Err("an odd number of hexadecimal digits".to_string());
     }
     text.as_bytes()

@@ -15,6 +15,9 @@ pub const OPACITY_MARK: usize = 8;
 /// The number of the answer, from 0, that is 1 where gas's idle speed was entered by hand (02, 1/14).
 pub const BY_HAND: usize = 9;
 
+/// The number of the answer, from 0, that holds the names compared (02, 4/14): how often a name of a table was tried.
+pub const NAMES_COMPARED: usize = 10;
+
 /// The value of a call whose answer array is too short; it touches nothing.
 pub const SHORT_ANSWER: u32 = u32::MAX;
 
@@ -67,7 +70,8 @@ pub trait Judge {
     /// suspension, gas and opacity (judge), the axle count (read), the length (write), the axle
     /// count and the number of entries (due), the length and the number of the section (names,
     /// words), form, most bytes, decimals and words (kind); in [9] whether gas's idle speed was
-    /// entered by hand (judge, read); else 0. What comes back is the number.
+    /// entered by hand (judge, read); in [10] how often a name of a table was tried (judge); else 0.
+    /// What comes back is the number.
     fn answer(&self, call: &Call, lent: Arrays) -> u32;
 }
 
@@ -130,11 +134,14 @@ fn reference_result(
                 u32::from(acceptance.gas_mark),
                 u32::from(acceptance.opacity_mark),
             ];
-            with_by_hand(&values, acceptance.by_hand)
+            let by_hand = (BY_HAND, u32::from(acceptance.by_hand));
+            let names_compared = (NAMES_COMPARED, acceptance.names_compared);
+            with_numbers(&values, &[by_hand, names_compared])
         }),
-        Call::Read { file, text, .. } => {
-            read_alone(*file, text, places).map(|read| with_by_hand(&[read.axles], read.by_hand))
-        }
+        Call::Read { file, text, .. } => read_alone(*file, text, places).map(|read| {
+            let by_hand = (BY_HAND, u32::from(read.by_hand));
+            with_numbers(&[read.axles], &[by_hand])
+        }),
         Call::Write {
             text, file, axles, ..
         } => write_file(text, places, *file, *axles, output).map(|length| vec![length as u32]),
@@ -156,11 +163,13 @@ fn reference_result(
     }
 }
 
-/// The values from [3] on, and the mark of the idle speed at its number.
-fn with_by_hand(values: &[u32], by_hand: bool) -> Vec<u32> {
+/// The values from [3] on, and others at their numbers of the answer.
+fn with_numbers(values: &[u32], others: &[(usize, u32)]) -> Vec<u32> {
     let mut values = values.to_vec();
-    values.resize(BY_HAND - 3, 0);
-    values.push(u32::from(by_hand));
+    values.resize(ANSWER - 3, 0);
+    for (number, value) in others {
+        values[number - 3] = *value;
+    }
     values
 }
 

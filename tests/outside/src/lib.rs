@@ -10,6 +10,7 @@ pub mod hex;
 pub mod judge;
 #[cfg(feature = "library")]
 pub mod library;
+pub mod look_ups;
 pub mod met;
 pub mod mutator;
 pub mod old_fuels;
@@ -19,4 +20,5 @@ pub mod reference;
 pub mod replay;
 pub mod report;
 pub mod speeds;
+pub mod told_apart;
 pub mod vectors;

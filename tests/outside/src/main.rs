@@ -3,6 +3,7 @@
 //! - `outside`: all. - `outside vectors`: the vectors only.
 //! - `outside replay <file>`: makes the calls in a file, one a line as printed at a
 //!   difference, and prints both outcomes.
+//! - `outside look-ups`: prints how many names look-ups try, and how many of these length and first byte tell apart.
 //!
 //! With the feature `library` the judge is the C static library, else the reference itself.
 //! DICEPEACH_RUNS multiplies the number of generated calls.
@@ -13,6 +14,7 @@ use std::time::Instant;
 use outside::comparison;
 use outside::judge::{make, Judge, Reference};
 use outside::replay;
+use outside::told_apart;
 use outside::vectors::run_vectors;
 
 #[cfg(feature = "library")]
@@ -32,7 +34,11 @@ fn main() -> ExitCode {
         [] => run_all(),
         ["vectors"] => run_only_vectors(),
         ["replay", file] => replay_file(file),
-        _ => Err("usage: outside [vectors | replay <file>]".to_string()),
+        ["look-ups"] => {
+            told_apart::print();
+            Ok(())
+        }
+        _ => Err("usage: outside [vectors | replay <file> | look-ups]".to_string()),
     };
     match result {
         Ok(()) => ExitCode::SUCCESS,

@@ -5,6 +5,8 @@ use std::collections::BTreeMap;
 /// Accepted sets and files.
 pub const JUDGED: &str = "judge 0";
 pub const JUDGED_AGAIN: &str = "judged again";
+/// Accepted sets whose files, written in table order, were judged again with the same answer.
+pub const REWRITTEN: &str = "written in table order";
 pub const READ: &str = "read 0";
 pub const READ_BACK: &str = "read back";
 

@@ -4,7 +4,8 @@ use std::collections::BTreeMap;
 
 use crate::entries::{free_entries, is_conditional};
 use crate::judge::{Call, Outcome, Set, BY_HAND};
-use crate::met::{summary, Met, Wanted, JUDGED, JUDGE_12, JUDGE_9, READ, READ_9};
+use crate::look_ups;
+use crate::met::{summary, Met, Wanted, JUDGED, JUDGE_12, JUDGE_9, READ, READ_9, REWRITTEN};
 use crate::old_fuels;
 use crate::opacities;
 use crate::reference::kinds::Kind;
@@ -108,7 +109,7 @@ pub struct Report {
     counts: [[u64; NUMBERS]; 8],
     /// How often each noted refusal was reached at each entry.
     reached: BTreeMap<&'static str, BTreeMap<EntryOf, u64>>,
-    /// Refused files, idle speeds, what opacity brought and old fuels.
+    /// Refused files, idle speeds, what opacity brought, old fuels and look-ups.
     met: Met,
     /// Written files that were read back.
     pub read_back: u64,
@@ -275,12 +276,13 @@ fn entry_of(call: &Call, refusal: Refusal) -> Option<(&'static str, EntryOf)> {
 }
 
 /// What a run must meet besides numbers and entries.
-fn wanted() -> [(&'static str, Vec<Wanted>); 4] {
+fn wanted() -> [(&'static str, Vec<Wanted>); 5] {
     [
         ("refused files", refused_files()),
         ("idle speeds", speeds::wanted()),
         ("opacity", opacities::wanted()),
         ("old fuels", old_fuels::wanted()),
+        ("look-ups", look_ups::wanted()),
     ]
 }
 
@@ -329,7 +331,13 @@ impl Report {
         opacities::note(&mut self.met, what, call, outcome);
         if let Call::Judge { set, .. } = call {
             old_fuels::note(&mut self.met, what, set);
+            look_ups::note(&mut self.met, what, set, outcome);
         }
+    }
+
+    /// Notes the line order of an accepted set that was written and judged again.
+    pub fn meet_rewritten(&mut self, set: &Set, outcome: &Outcome) {
+        look_ups::note_orders(&mut self.met, REWRITTEN, set, outcome);
     }
 
     /// Notes the values of an accepted file that begin with `#`, where the answer has no mark.

@@ -20,11 +20,20 @@ struct SectionFound {
     entries: Vec<Option<EntryFound>>,
 }
 
+/// What the lines of a file hold.
+struct LinesFound {
+    /// In table order; None where the section's heading does not stand.
+    sections: Vec<Option<SectionFound>>,
+    names_compared: u32,
+}
+
 /// A file that passed 3 to 9.
 pub struct FileRead<'a> {
     pub table: &'static Table,
     pub text: &'a [u8],
     pub axles: usize,
+    /// 02, 4/14: "for each entry line, the place of its name in its section's table, counted from 1", in all.
+    pub names_compared: u32,
     /// Sections in table order (axles 1 to the count), entries in table order.
     sections: Vec<Vec<EntryFound>>,
 }
@@ -86,12 +95,13 @@ pub fn read_file(file: u32, text: &[u8]) -> Result<FileRead<'_>, Refusal> {
     let table = table(file);
     judge_length(table, text)?;
     let found = find_lines(table, text)?;
-    let axles = judge_sections(table, &found)?;
-    let sections = judge_presence(table, axles, &found)?;
+    let axles = judge_sections(table, &found.sections)?;
+    let sections = judge_presence(table, axles, &found.sections)?;
     let read = FileRead {
         table,
         text,
         axles,
+        names_compared: found.names_compared,
         sections,
     };
     judge_kinds(&read)?;
@@ -107,8 +117,9 @@ fn judge_length(table: &Table, text: &[u8]) -> Result<(), Refusal> {
 }
 
 /// 01, rows 4, 5, 6: the lines in their order, each with its form, its heading or entry.
-fn find_lines(table: &Table, text: &[u8]) -> Result<Vec<Option<SectionFound>>, Refusal> {
+fn find_lines(table: &Table, text: &[u8]) -> Result<LinesFound, Refusal> {
     let mut found: Vec<Option<SectionFound>> = vec![None; table.sections.len()];
+    let mut names_compared = 0;
     let mut current: Option<usize> = None;
     let mut position = 0;
     let mut line = 0;
@@ -146,6 +157,7 @@ fn find_lines(table: &Table, text: &[u8]) -> Result<Vec<Option<SectionFound>>, R
                     .iter()
                     .position(|entry| entry.name.as_bytes() == name)
                     .ok_or(refused(6))?;
+                names_compared += entry as u32 + 1;
                 let section = found[at].as_mut().expect("the current section is found");
                 if section.entries[entry].is_some() {
                     return Err(refused(6));
@@ -159,7 +171,10 @@ fn find_lines(table: &Table, text: &[u8]) -> Result<Vec<Option<SectionFound>>, R
         }
         position = after;
     }
-    Ok(found)
+    Ok(LinesFound {
+        sections: found,
+        names_compared,
+    })
 }
 
 /// 01, row 7: "section absent (0)"; axles "from 1 without a gap: 1 to 9". The axle count.

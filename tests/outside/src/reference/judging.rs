@@ -44,8 +44,11 @@ pub fn judge_set(set: Slices, places: &mut [u32]) -> Result<Acceptance, Refusal>
         read.gas.as_ref(),
         read.opacity.as_ref(),
     ];
+    let mut names_compared = 0;
     for file in files.into_iter().flatten() {
         file.fill_places(places);
+        // 02, 4/14: "A file that is not read adds nothing."
+        names_compared += file.names_compared;
     }
     let axles = |file: &Option<FileRead>| file.as_ref().map_or(0, |f| f.axles as u32);
     let mark = |file: &Option<FileRead>| file.as_ref().is_some_and(|f| f.is_filled("CodErrore"));
@@ -57,6 +60,7 @@ pub fn judge_set(set: Slices, places: &mut [u32]) -> Result<Acceptance, Refusal>
         gas_mark: mark(&read.gas),
         opacity_mark: mark(&read.opacity),
         by_hand: read.gas.as_ref().is_some_and(speed_by_hand),
+        names_compared,
     })
 }
 

@@ -1,4 +1,4 @@
-//! Document 01 as a program, in the order of the paper, with the requests of document 02 that have landed: 1/14 to 3/14.
+//! Document 01 as a program, in the order of the paper, with the requests of document 02 that have landed: 1/14 to 4/14.
 //!
 //! - `lines`: line form. - `kinds`: kinds of value. - `tables`: headings and entries.
 //! - `files`: one file, 3 to 9. - `due`: due entries. - `bookings`: rules of AC2 and ACC.
@@ -47,6 +47,8 @@ pub struct Acceptance {
     pub opacity_mark: bool,
     /// 02, 1/14: "acceptance carries that mark for the gas file, unset where none is given".
     pub by_hand: bool,
+    /// 02, 4/14: "Acceptance carries the number of entry names compared".
+    pub names_compared: u32,
 }
 
 /// 01, Writing: a file read alone has an axle count.

@@ -1,5 +1,6 @@
 //! The runner itself: it finds the faults of wrong judges, and its calls can be made again.
 
+mod look_up;
 mod old_fuel;
 mod opacity;
 
@@ -7,12 +8,14 @@ use outside::comparison::{
     column_case, kind_cases, name_cases, read_case, run_of, set_case, word_cases, write_case,
     Amounts, ONE_RUN,
 };
-use outside::judge::{make, Arrays, Call, Judge, Reference, BY_HAND};
+use outside::judge::{make, Arrays, Call, Judge, Reference, BY_HAND, NAMES_COMPARED};
+use outside::look_ups;
 use outside::old_fuels;
 use outside::reference::tables::{table, GAS, OPACITY};
 use outside::reference::PLACES;
 use outside::replay;
 
+use look_up::LookUp;
 use old_fuel::OldFuel;
 use opacity::Opacity;
 
@@ -38,6 +41,7 @@ enum Fault {
     Mark(Mark),
     Opacity(Opacity),
     OldFuel(OldFuel),
+    LookUp(LookUp),
 }
 
 /// A fault in the mark of the idle speed (02, 1/14): where it is set, or whence it is taken.
@@ -204,6 +208,7 @@ impl Judge for Wrong {
             (Fault::WordsFirstByte, Call::Word { .. }) if accepted => output[0] = b'M',
             (Fault::Mark(mark), call) => mark.spoil(call, answer),
             (Fault::Opacity(fault), call) => fault.spoil(call, places, column, answer),
+            (Fault::LookUp(fault), call) => fault.spoil(call, places, answer),
             _ => {}
         }
         answer[0]
@@ -266,6 +271,48 @@ fn what_was_not_reached_of_old_fuels_is_missing() {
     assert!(wanted.iter().all(never));
 }
 
+#[test]
+fn what_was_not_reached_of_look_ups_is_missing() {
+    let report = run_of(&Reference, NONE).expect("no difference");
+    let missing = report.missing();
+    for line in [
+        "judge 0: never file 5, [AnalisiGas] in table order",
+        "judge 0: never file 7, [AnalisiOpacita] last entry first",
+        "written in table order: never file 4, [SospensioniAsse_9] last entry first",
+        "judge 0: never file 2 given and not read",
+        "judge 0: never file 3 of 9 axles",
+        "judged again: never 78 names compared",
+        "judge 0: never 1974 names compared",
+    ] {
+        assert!(missing.contains(&line.to_string()), "{line}");
+    }
+    let wanted = look_ups::wanted();
+    let never = |(call, what): &(&str, String)| missing.contains(&format!("{call}: never {what}"));
+    // 25 sections, of which 16 have a second order; 12 of files, 18 of axles and 2 sums. Each before and after writing.
+    assert_eq!(wanted.len(), 2 * (25 + 16) + 2 * (12 + 18 + 2));
+    assert!(wanted.iter().all(never));
+}
+
+#[test]
+fn names_compared_are_held_to_the_sum_over_the_sections() {
+    let mut accepted = 0;
+    for case in (0..50).map(set_case) {
+        let Call::Judge { set, .. } = &case.call else {
+            panic!("a set");
+        };
+        let mut outcome = make(&Reference, &case.call);
+        if outcome.accepted() {
+            accepted += 1;
+            assert!(look_ups::is_right(set, &outcome));
+            for number in [0, 1, u32::MAX] {
+                outcome.answer[NAMES_COMPARED] = number;
+                assert!(!look_ups::is_right(set, &outcome), "{number}");
+            }
+        }
+    }
+    assert!(accepted > 5);
+}
+
 #[cfg(feature = "library")]
 #[test]
 fn the_library_agrees_with_the_reference() {
@@ -322,6 +369,17 @@ fn faults_of_the_old_fuel_are_found() {
         let reason = fault.reason(&call);
         assert_ne!(right, found, "{fault:?}");
         assert!(reason == right || reason == found, "{fault:?}");
+    }
+}
+
+#[test]
+fn faults_of_look_ups_are_found() {
+    for fault in look_up::FAULTS.map(Fault::LookUp) {
+        let call = assert_found(fault, FEW);
+        let [right, found] = [make(&Reference, &call), make(&Wrong(fault), &call)];
+        // By the number and nothing before it.
+        assert_eq!(right.answer[..BY_HAND], found.answer[..BY_HAND]);
+        assert_ne!(right.answer[NAMES_COMPARED], found.answer[NAMES_COMPARED]);
     }
 }
 

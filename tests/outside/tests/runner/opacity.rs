@@ -81,10 +81,10 @@ impl Opacity {
     pub fn spoil(self, call: &Call, places: &mut [u32], column: &mut [u32], answer: &mut [u32]) {
         let accepted = answer[0] == 0;
         match (self, call) {
-            (Opacity::LeastPlacesAsBefore, Call::Judge { .. }) => {
-                if answer[0] == 1 && places.len() >= FIRST_PLACE {
-                    answer.fill(0);
-                }
+            (Opacity::LeastPlacesAsBefore, Call::Judge { .. })
+                if answer[0] == 1 && places.len() >= FIRST_PLACE =>
+            {
+                answer.fill(0);
             }
             (Opacity::NotReadAlone, Call::Read { file: OPACITY, .. })
             | (Opacity::NotWritten, Call::Write { file: OPACITY, .. }) => {

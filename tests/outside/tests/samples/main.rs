@@ -1,6 +1,7 @@
 //! The reference against the samples of document 01: the table's rows, the established
 //! samples, the misreadings and the settled readings; then those of document 02.
 
+mod look_up;
 mod old_fuel;
 mod opacity;
 
@@ -232,8 +233,8 @@ fn written(text: &[u8], places: &[u32], file: u32, axles: u32, output: usize) ->
 fn the_sample_is_accepted() {
     let outcome = judged_with(&sample(), places_before(PLACES + 22));
     assert_eq!(outcome.returned, 0);
-    // Axle counts 2 and 1, drift marked, the idle speed entered by hand.
-    let right = [0, 0, 0, 2, 1, 1, 0, 0, 0, 1, 0, 0, 0, 0, 0, 0];
+    // Axle counts 2 and 1, drift marked, the idle speed entered by hand, the names compared.
+    let right = [0, 0, 0, 2, 1, 1, 0, 0, 0, 1, 1488, 0, 0, 0, 0, 0];
     assert_eq!(outcome.answer, right);
     assert_eq!(
         outcome.places[PLACES..],
@@ -791,7 +792,7 @@ fn the_mark_of_the_idle_speed() {
     for (speed, mark) in [("850", 0), ("00850", 0), ("#0", 1), ("#00850", 1)] {
         let set = with_speed(speed);
         let alone = read(GAS, set.slice(GAS), PLACES);
-        assert_eq!(judged(&set).answer[8..], [0, mark, 0, 0, 0, 0, 0, 0]);
+        assert_eq!(judged(&set).answer[8..10], [0, mark]);
         assert_eq!(
             alone.answer[3..],
             [0, 0, 0, 0, 0, 0, mark, 0, 0, 0, 0, 0, 0]

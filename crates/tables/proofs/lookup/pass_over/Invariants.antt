@@ -1,10 +1,12 @@
-use Prim.Native.Nat.{◌-◌, ◌≤◌}
+use Prim.Native.Nat.{◌+◌, ◌-◌, ◌≤◌}
+use mathlib.Core.Path.{◌≡◌}
 use lib.ListN.{length}
 use Rattle.tables.proofs.Find.{NoneFrom}
 use Rattle.tables.proofs.lookup.pass_over.Given as goal
 
-abbrev pub invariant-loop-row : goal.invariant-loop-row
-invariant-loop-row l = (l.from ≤ l.row) × (l.row ≤ length l.tags) × NoneFrom l.tags l.tag l.from l.row
+abbrev pub invariant-loop-at : goal.invariant-loop-at
+invariant-loop-at l =
+    (l.fn.from.row ≤ l.at.row) × (l.at.row ≤ length l.tags) × NoneFrom l.tags l.tag l.fn.from.row l.at.row × (l.at.compared + l.fn.from.row ≡ l.fn.from.compared + l.at.row)
 
-abbrev pub decreases-loop-row : goal.decreases-loop-row
-decreases-loop-row l = length l.tags - l.row
+abbrev pub decreases-loop-at : goal.decreases-loop-at
+decreases-loop-at l = length l.tags - l.at.row
