@@ -213,6 +213,6 @@ same_number n s t p q =
     (λ h. h ∙ sym (eq-eqb (number s) (number t) (ap number (same-is s t h))))
     (λ h. h ∙ sym (ne_eqb (number s) (number t) (λ e. let d : s ≡ t = (spelt e).1 in clash (cc (same_refl t)))))
 
-pub ruleset parts = (part-digits, text-empty, text-unprintable)
+pub ruleset texts = (text-empty, text-unprintable)
 
 pub ruleset numbers = (number_step, digit_at, rest_at, grows, small)

@@ -1,4 +1,5 @@
 pub mod Laws
+pub mod Pairs
 pub mod Values
 pub mod Readings
 pub mod Samples

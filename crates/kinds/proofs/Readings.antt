@@ -16,7 +16,7 @@ use Rattle.lines.proofs.Bytes.{same-is}
 use Rattle.kinds.specs.Kind.{N, D, Deriva, Revs, DataPrimaImm}
 use Rattle.kinds.specs.Digits.{is_digit, all_digits, number, number_from}
 use Rattle.kinds.specs.Value.{is_number, is_fixed, point_place, is_year, is_gregorian, is_day, is_first_date, is_first_day, starts_with, is_drift, bare, are_digits, day_of, month_of, year_of, kind_ok}
-use Rattle.kinds.specs.Meaning.{number_read, hundredths, signed, drift, drift_read, revs, revs_read, day_number, day_read}
+use Rattle.kinds.specs.Meaning.{number_read, hundredths, signed, drift, drift_read, revs, revs_read, date_number, first_day_read}
 use Rattle.kinds.proofs.Laws.{digit, digit_at, part-digits, digits-length, digits-all, digits-drop, same_number, FixedPoint, fixed-point, number-long, number_short, number-all, by-test}
 
 module _ (v : List ℕ) where
@@ -32,8 +32,8 @@ module _ (v : List ℕ) where
   unfolding kind_ok revs_read
   revs-reads e = rw e
 
-  pub first-day-reads : kind_ok DataPrimaImm v ≡ true → day_read v ≡ Some (day_number v)
-  unfolding kind_ok day_read
+  pub first-day-reads : kind_ok DataPrimaImm v ≡ true → first_day_read v ≡ Some (date_number v)
+  unfolding kind_ok first_day_read
   first-day-reads e = rw e
 
 -- no digit is `#`
@@ -63,7 +63,7 @@ unfolding kind_ok is_day is_first_day
 day-first-day v e =
     rw (and_left (are_digits 8 v) _ e) (gregorian-first (day_of v) (month_of v) (year_of v) (and_right (are_digits 8 v) _ e))
 
-pub day-reads : (v : List ℕ) → kind_ok D v ≡ true → day_read v ≡ Some (day_number v)
+pub day-reads : (v : List ℕ) → kind_ok D v ≡ true → first_day_read v ≡ Some (date_number v)
 day-reads v e = first-day-reads v (day-first-day v e)
 
 -- at most two digits are at most 99
@@ -98,8 +98,8 @@ pub parts-told : (d m y e n z : ℕ) → d ≤ 99 → m ≤ 99 → e ≤ 99 → 
 parts-told d m y e n z hd hm he hn q = (omega arith, omega arith, omega arith)
 
 -- two dates that have one number are the same
-pub same-date : (s t : List ℕ) → are_digits 8 s ≡ true → are_digits 8 t ≡ true → day_number s ≡ day_number t → s ≡ t
-unfolding day_number
+pub same-date : (s t : List ℕ) → are_digits 8 s ≡ true → are_digits 8 t ≡ true → date_number s ≡ date_number t → s ≡ t
+unfolding date_number
 same-date s t p q e =
     let part : (at count : ℕ) → at + count ≤ 8 → number (take count (drop at s)) ≡ number (take count (drop at t)) → take count (drop at s) ≡ take count (drop at t) =
     λ at count h n. same-is _ _ (same_number count _ _ (part-spelt s p at count h) (part-spelt t q at count h) ∙ eq-eqb _ _ n) in

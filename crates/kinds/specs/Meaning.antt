@@ -1,7 +1,8 @@
--- What a value means: a number, a drift, revs, a day; `None` where the value is not of the kind.
+-- What a value means: a number, a drift, revs, a day, a time; `None` where the value is not of the kind.
 use Rattle.std.specs.Prelude.{ℕ, ◌+◌, ◌*◌, Bool, true, false, cond, List, ℤ, pos, neg_ℤ, take, drop, Option, Some, None}
 use Rattle.kinds.specs.Digits.{number}
-use Rattle.kinds.specs.Value.{is_number, is_fixed, is_drift, bare, is_first_day, point_place, starts_with, day_of, month_of, year_of}
+use Rattle.kinds.specs.Value.{is_number, is_fixed, is_drift, bare, is_day, is_time, is_first_day, point_place, starts_with, day_of, month_of, year_of}
+use Rattle.kinds.specs.declared.Date.{Date}
 use Rattle.kinds.specs.declared.Revs.{Revs}
 
 -- a number of at most nine digits: no kind has more
@@ -34,9 +35,23 @@ unfoldable pub revs_read : List ℕ → Option Revs
 revs_read v = cond (is_number 5 (bare v)) (Some (revs v)) None
 
 -- 01, Bookings: "the number yyyymmdd, zeros included"
-unfoldable pub day_number : List ℕ → ℕ
-day_number v = year_of v * 10000 + month_of v * 100 + day_of v
+unfoldable pub date_number : List ℕ → ℕ
+date_number v = year_of v * 10000 + month_of v * 100 + day_of v
 
 -- of a day of DataPrimaImm, and so of every D
-unfoldable pub day_read : List ℕ → Option ℕ
-day_read v = cond (is_first_day v) (Some (day_number v)) None
+unfoldable pub first_day_read : List ℕ → Option ℕ
+first_day_read v = cond (is_first_day v) (Some (date_number v)) None
+
+-- 02, 5/14: the date of a D
+abbrev pub date_of : List ℕ → Date
+date_of v = record { day = day_of v; month = month_of v; year = year_of v }
+
+unfoldable pub date_read : List ℕ → Option Date
+date_read v = cond (is_day v) (Some (date_of v)) None
+
+-- 02, 5/14: the time of an H, in seconds
+unfoldable pub seconds_of : List ℕ → ℕ
+seconds_of v = number (take 2 v) * 3600 + number (take 2 (drop 2 v)) * 60 + number (take 2 (drop 4 v))
+
+unfoldable pub time_read : List ℕ → Option ℕ
+time_read v = cond (is_time v) (Some (seconds_of v)) None

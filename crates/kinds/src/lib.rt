@@ -5,12 +5,20 @@ pub mod numbers; // numbers.rt: the numbers of the kinds and of the lists of wor
 pub mod shapes; // shapes.rt: what a filled value of a kind must look like
 pub mod words; // words.rt: the words of the kinds
 
-ghost use Rattle.std.specs.Prelude.{◌≡◌, IsTrue, true, ◌+◌, ◌≤◌, ◌<◌, ◌^◌, length, take, drop, position};
+ghost use Rattle.std.specs.Prelude.{◌≡◌, ℕ, IsTrue, IfSome, get_or, true, cond, ◌+◌, ◌*◌, ◌≤◌, ◌<◌, ◌^◌, [], ◌∷◌, length, take, drop, leb, position, Some, None};
 ghost use Rattle.lines.specs.Bytes.{all_printable, same_bytes};
 ghost use Rattle.kinds.specs.Kind.{kind_of};
 ghost use Rattle.kinds.specs.Digits.{all_digits, number as Digits·number};
 ghost use Rattle.kinds.specs.Value.{is_number, is_fixed, is_leap, days_in, is_year, is_gregorian, are_digits, is_day, is_time, word_index, is_word, words_of, is_drift, bare as Value·bare, is_temperature, is_plate, is_first_date, is_first_day, is_s_or_n, all_s_or_n, is_positions, kind_ok, kind_kept};
-ghost use Rattle.kinds.specs.Meaning.{number_read, hundredths as Meaning·hundredths, signed as Meaning·signed, signed_read, drift_read, revs, revs_read, day_number, day_read};
+ghost use Rattle.kinds.specs.Meaning.{number_read, hundredths as Meaning·hundredths, signed as Meaning·signed, signed_read, drift_read, revs, revs_read, first_day_read, date_of, date_read, seconds_of, time_read};
+
+// The parts of ddmmyyyy.
+#[derive(Debug, PartialEq, Eq, Clone, Copy)]
+pub struct Date {
+    pub day: u32,
+    pub month: u32,
+    pub year: u32,
+}
 
 // Revolutions per minute, and whether they were entered by hand.
 #[derive(Debug, PartialEq, Eq, Clone, Copy)]
@@ -79,6 +87,14 @@ fn days_in(year: u32, month: u32) -> u32
     }
 }
 
+// Whether a month has this day: each has 28, so that most days are not looked up.
+#[tactic(auto, unfolding(crate::specs::Value::days_in))]
+fn has_day(year: u32, month: u32, day: u32) -> bool
+    ensures { result ≡ leb day (days_in year month) }
+{
+    day <= 28 || day <= days_in(year, month)
+}
+
 #[tactic(auto, unfolding(crate::specs::Value::is_year))]
 fn is_year(year: u32) -> bool
     ensures { result ≡ is_year year }
@@ -87,78 +103,115 @@ fn is_year(year: u32) -> bool
 }
 
 #[tactic(auto, unfolding(crate::specs::Value::is_gregorian))]
-fn is_gregorian(day: u32, month: u32, year: u32) -> bool
-    ensures { result ≡ is_gregorian day month year }
+fn is_gregorian(date: Date) -> bool
+    ensures { result ≡ is_gregorian date.day date.month date.year }
 {
-    is_year(year) && 1 <= month && month <= 12 && 1 <= day && day <= days_in(year, month)
+    let Date { day, month, year } = date;
+    is_year(year) && 1 <= month && month <= 12 && 1 <= day && has_day(year, month, day)
 }
 
 // Exactly `count` digits.
 #[tactic(auto, unfolding(crate::specs::Value::are_digits))]
 fn are_digits(value: &[u8], count: usize) -> bool
-    ensures value { result ≡ are_digits count value.now }
-    ensures digits { IsTrue result → (length value.now ≡ count) × (all_digits value.now ≡ true) }
+    ensures { result ≡ are_digits count value.now }
 {
     value.len() == count && all_digits(value)
 }
 
-// The number that `count` digits spell, from place `at` on.
-#[tactic(auto, using(crate::proofs::Laws::parts))]
-fn number_at(value: &[u8], at: usize, count: usize) -> u32
-    requires { (at + count ≤ length value.now) × (count ≤ 9) × (all_digits value.now ≡ true) }
-    ensures { (result ≡ Digits·number (take count (drop at value.now))) × (result < 10 ^ count) }
+// The numbers that four pairs of digits spell. All eight bytes are taken at once, as one number with the first lowest: without its
+// 30 hex a digit is 0 to 9, and 76 hex more sets the high bit of what is 10 or more. Then ten times each digit and the one after it
+// are at most 99, so that no sum carries into the next, and every other sum is a pair's.
+fn pairs_of(bytes: [u8; 8]) -> Option<[u32; 4]>
+    ensures small { IfSome result (λ ns. (k : ℕ) → get_or ns k 0 < 256) }
+    ensures numbers { result ≡ cond (all_digits bytes) (Some (Digits·number (take 2 bytes) ∷ Digits·number (take 2 (drop 2 bytes)) ∷ Digits·number (take 2 (drop 4 bytes)) ∷ Digits·number (take 2 (drop 6 bytes)) ∷ [])) None }
 {
-    number(&value[at..at + count])
+    let digits = u64::from_le_bytes(bytes) ^ 0x3030303030303030;
+    let above = (digits & 0x7f7f7f7f7f7f7f7f) + 0x7676767676767676;
+    if (above | digits) & 0x8080808080808080 != 0 {
+        return None;
+    }
+    let sums = digits * 10 + digits / 0x100;
+    Some([
+        (sums % 0x100) as u32,
+        (sums / 0x10000 % 0x100) as u32,
+        (sums / 0x100000000 % 0x100) as u32,
+        (sums / 0x1000000000000 % 0x100) as u32,
+    ])
+}
+
+// The date that eight digits spell, which need be no day.
+#[tactic(auto, unfolding(crate::specs::Value::are_digits), using(crate::proofs::Pairs::dates))]
+fn date_of(value: &[u8]) -> Option<Date>
+    ensures { result ≡ cond (are_digits 8 value.now) (Some (date_of value.now)) None }
+{
+    let bytes = <[u8; 8]>::try_from(value).ok()?;
+    let [day, month, century, year] = pairs_of(bytes)?;
+    Some(Date {
+        day,
+        month,
+        year: century * 100 + year,
+    })
+}
+
+// A D as its date.
+#[tactic(auto, unfolding(crate::specs::Meaning::date_read, crate::specs::Value::is_day))]
+pub fn read_date(value: &[u8]) -> Option<Date>
+    ensures { result ≡ date_read value.now }
+{
+    let date = date_of(value)?;
+    is_gregorian(date).then_some(date)
 }
 
 // D
-#[tactic(auto, unfolding(crate::specs::Value::is_day))]
+#[tactic(auto, unfolding(crate::specs::Meaning::date_read))]
 fn is_day(value: &[u8]) -> bool
     ensures { result ≡ is_day value.now }
 {
-    are_digits(value, 8)
-        && is_gregorian(
-            number_at(value, 0, 2),
-            number_at(value, 2, 2),
-            number_at(value, 4, 4),
-        )
+    read_date(value).is_some()
 }
 
-// H: hour, minute, second
-#[tactic(auto, unfolding(crate::specs::Value::is_time))]
+// An H as the seconds of its day that are over. Two zeros make eight digits of its six.
+#[tactic(auto, unfolding(crate::specs::Meaning::time_read, crate::specs::Meaning::seconds_of, crate::specs::Value::is_time, crate::specs::Value::are_digits), using(crate::proofs::Pairs::times))]
+pub fn read_time(value: &[u8]) -> Option<u32>
+    ensures { result ≡ time_read value.now }
+{
+    let &[a, b, c, d, e, f] = value else {
+        return None;
+    };
+    let [hour, minute, second, _] = pairs_of([a, b, c, d, e, f, b'0', b'0'])?;
+    if hour <= 23 && minute <= 59 && second <= 59 {
+        Some(hour * 3600 + minute * 60 + second)
+    } else {
+        None
+    }
+}
+
+// H
+#[tactic(auto, unfolding(crate::specs::Meaning::time_read))]
 fn is_time(value: &[u8]) -> bool
     ensures { result ≡ is_time value.now }
 {
-    are_digits(value, 6)
-        && number_at(value, 0, 2) <= 23
-        && number_at(value, 2, 2) <= 59
-        && number_at(value, 4, 2) <= 59
+    read_time(value).is_some()
 }
 
 // A day of DataPrimaImm: 00 is a day that is not known, and with it month 00 one that is not known.
 #[tactic(auto, unfolding(crate::specs::Value::is_first_date))]
-fn is_first_date(day: u32, month: u32, year: u32) -> bool
-    ensures { result ≡ is_first_date day month year }
+fn is_first_date(date: Date) -> bool
+    ensures { result ≡ is_first_date date.day date.month date.year }
 {
-    if day == 0 {
-        is_year(year) && month <= 12
+    if date.day == 0 {
+        is_year(date.year) && date.month <= 12
     } else {
-        is_gregorian(day, month, year)
+        is_gregorian(date)
     }
 }
 
 // DataPrimaImm
-#[tactic(auto, unfolding(crate::specs::Value::is_first_day))]
+#[tactic(auto, unfolding(crate::specs::Meaning::first_day_read))]
 fn is_first_day(value: &[u8]) -> bool
-    ensures value { result ≡ is_first_day value.now }
-    ensures digits { IsTrue result → (length value.now ≡ 8) × (all_digits value.now ≡ true) }
+    ensures { result ≡ is_first_day value.now }
 {
-    are_digits(value, 8)
-        && is_first_date(
-            number_at(value, 0, 2),
-            number_at(value, 2, 2),
-            number_at(value, 4, 4),
-        )
+    read_first_day(value).is_some()
 }
 
 // Deriva
@@ -255,7 +308,7 @@ fn length_ok(kind: u8, value: &[u8]) -> bool
 }
 
 // S and C.
-#[tactic(auto, using(crate::proofs::Laws::parts))]
+#[tactic(auto, using(crate::proofs::Laws::texts))]
 fn is_text(kind: u8, value: &[u8]) -> bool
     requires { kind ≤ 6 }
     ensures { result ≡ kind_ok (kind_of kind) value.now }
@@ -409,20 +462,19 @@ pub fn read_revs(value: &[u8]) -> Option<Revs>
 }
 
 // A day of D or DataPrimaImm as the number yyyymmdd.
-#[tactic(auto, unfolding(crate::specs::Meaning::day_read))]
-pub fn read_day(value: &[u8]) -> Option<u32>
-    ensures { result ≡ day_read value.now }
+#[tactic(auto, unfolding(crate::specs::Meaning::first_day_read, crate::specs::Meaning::date_number, crate::specs::Value::is_first_day))]
+pub fn read_first_day(value: &[u8]) -> Option<u32>
+    ensures { result ≡ first_day_read value.now }
 {
-    is_first_day(value).then(|| day_number(value))
+    let date = date_of(value)?;
+    is_first_date(date).then(|| date_number(date))
 }
 
-#[tactic(auto, unfolding(crate::specs::Meaning::day_number))]
-fn day_number(value: &[u8]) -> u32
-    requires { (length value.now ≡ 8) × (all_digits value.now ≡ true) }
-    ensures { result ≡ day_number value.now }
+#[tactic(auto, unfolding(crate::specs::Value::is_first_date, crate::specs::Value::is_gregorian, crate::specs::Value::is_year, crate::specs::Value::days_in))]
+fn date_number(date: Date) -> u32
+    requires { is_first_date date.day date.month date.year ≡ true }
+    ensures { result ≡ date.year * 10000 + date.month * 100 + date.day }
 {
-    let day = number_at(value, 0, 2);
-    let month = number_at(value, 2, 2);
-    let year = number_at(value, 4, 4);
+    let Date { day, month, year } = date;
     year * 10000 + month * 100 + day
 }

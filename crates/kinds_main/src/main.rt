@@ -32,7 +32,8 @@ fn show_word(out: &mut impl Write, list: u8, value: &[u8]) -> io::Result<()> {
 fn show_reading(out: &mut impl Write, kind: u8, value: &[u8]) -> io::Result<()> {
     match kind {
         numbers::N_1..=numbers::N_5 => show_number(out, kinds::read_number(value)),
-        numbers::D | numbers::DATA_PRIMA_IMM => show_number(out, kinds::read_day(value)),
+        numbers::D | numbers::DATA_PRIMA_IMM => show_number(out, kinds::read_first_day(value)),
+        numbers::H => show_number(out, kinds::read_time(value)),
         numbers::DERIVA => show_number(out, kinds::read_drift(value)),
         numbers::N_BY_HAND_5 => show_revs(out, value),
         numbers::VEHICLE_TYPE..=numbers::COUNTER_LINK => {

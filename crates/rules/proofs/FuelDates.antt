@@ -13,7 +13,7 @@ use Rattle.lines.proofs.Bools.{and_left, and_right}
 use Rattle.kinds.specs.Digits.{all_digits, number_from}
 use Rattle.kinds.specs.Kind.{DataPrimaImm}
 use Rattle.kinds.specs.Value.{is_leap, days_in, is_year, is_gregorian, are_digits, is_first_date, is_first_day, day_of, month_of, year_of, kind_ok}
-use Rattle.kinds.specs.Meaning.{day_number, day_read}
+use Rattle.kinds.specs.Meaning.{date_number, first_day_read}
 use Rattle.std.specs.Prelude.{Some}
 use Rattle.kinds.proofs.Laws.{by-test, digits-length, digits-all, digits-drop}
 use Rattle.kinds.proofs.Readings.{part-most, parts-told, same-date}
@@ -25,8 +25,8 @@ use Rattle.std.proofs.lemmas.Option.{cond_some}
 -- ---- by the number yyyymmdd
 
 -- day 01 of a month has the number next to its day 00
-counted : (v : List ℕ) → day_number (compared_date v) ≡ cond (is_month_only (day_of v) (month_of v)) (day_number v + 1) (day_number v)
-unfolding day_number compared_date number_from
+counted : (v : List ℕ) → date_number (compared_date v) ≡ cond (is_month_only (day_of v) (month_of v)) (date_number v + 1) (date_number v)
+unfolding date_number compared_date number_from
 counted v =
     by-test (is_month_only (day_of v) (month_of v))
     (λ h. let zero : day_of v ≡ 0 = eqb-true (day_of v) 0 (and_left _ _ h) in rw (h, drop-drop 2 2 v) (omega arith))
@@ -75,23 +75,23 @@ module _ (v : List ℕ) (e : is_first_day v ≡ true) where
   unfolding is_first_day
   digits = and_left _ _ e
 
-  before : (month year : ℕ) → 1 ≤ month → month ≤ 99 → ltb (day_number (compared_date v)) (year * 10000 + month * 100 + 1) ≡ ltb (day_number v) (year * 10000 + month * 100)
-  unfolding day_number
+  before : (month year : ℕ) → 1 ≤ month → month ≤ 99 → ltb (date_number (compared_date v)) (year * 10000 + month * 100 + 1) ≡ ltb (date_number v) (year * 10000 + month * 100)
+  unfolding date_number
   before month year known most =
       ap (λ (n : ℕ). ltb n (year * 10000 + month * 100 + 1)) (counted v)
       ∙ by-month (day_of v) (month_of v) (year_of v) month year (part-most v digits 0) (part-most v digits 2) known most
 
-  by_number : period_of v ≡ by_month (day_number v)
+  by_number : period_of v ≡ by_month (date_number v)
   unfolding period_of period_at
   by_number =
-      let first : ltb (day_number (compared_date v)) (october1986 + 1) ≡ ltb (day_number v) october1986 = before 10 1986 (omega arith) (omega arith) in
-      let second : ltb (day_number (compared_date v)) (july2002 + 1) ≡ ltb (day_number v) july2002 = before 7 2002 (omega arith) (omega arith) in
+      let first : ltb (date_number (compared_date v)) (october1986 + 1) ≡ ltb (date_number v) october1986 = before 10 1986 (omega arith) (omega arith) in
+      let second : ltb (date_number (compared_date v)) (july2002 + 1) ≡ ltb (date_number v) july2002 = before 7 2002 (omega arith) (omega arith) in
       rw (e, first, second) refl
 
-pub period-by-month : (v : List ℕ) (day : ℕ) → day_read v ≡ Some day → period_of v ≡ by_month day
-unfolding day_read
+pub period-by-month : (v : List ℕ) (day : ℕ) → first_day_read v ≡ Some day → period_of v ≡ by_month day
+unfolding first_day_read
 period-by-month v day e =
-    let r = cond_some (is_first_day v) (day_number v) day e in
+    let r = cond_some (is_first_day v) (date_number v) day e in
     by_number v r.0 ∙ ap by_month r.1
 
 -- ---- day 01 of a known month is a day
@@ -116,11 +116,11 @@ first-day v e h =
     let date : is_first_date 0 (month_of v) (year_of v) ≡ true = rw day at (and_right (are_digits 8 v) _ e) in
     rw (digits-length 6 (drop 2 v) rest, digits-all 6 (drop 2 v) rest, drop-drop 2 2 v) (first-date (month_of v) (year_of v) date month)
 
--- ---- what 02, 3/14 changes: `period_at (day_number v)` is the period that a date had before
+-- ---- what 02, 3/14 changes: `period_at (date_number v)` is the period that a date had before
 
 module _ (v : List ℕ) (e : kind_ok DataPrimaImm v ≡ true) where
   -- for every date but day 00 with a known month it is the former one
-  pub period-stays : is_month_only (day_of v) (month_of v) ≡ false → period_of v ≡ period_at (day_number v)
+  pub period-stays : is_month_only (day_of v) (month_of v) ≡ false → period_of v ≡ period_at (date_number v)
   unfolding kind_ok period_of compared_date
   period-stays h = rw (e, h) refl
 
@@ -129,25 +129,25 @@ module _ (v : List ℕ) (e : kind_ok DataPrimaImm v ≡ true) where
   unfolding kind_ok period_of compared_date number_from
   period-counts h = rw (e, h, first-day v e h) refl
 
-  not-day : (w : List ℕ) → are_digits 8 w ≡ true → (v ≡ w → ⊥) → day_number v ≡ day_number w → ⊥
+  not-day : (w : List ℕ) → are_digits 8 w ≡ true → (v ≡ w → ⊥) → date_number v ≡ date_number w → ⊥
   unfolding kind_ok
   not-day w d other q = other (same-date v w (digits v e) d q)
 
   -- and all but two stayed on their side
-  pub others-stay : (v ≡ bytes "00101986" → ⊥) → (v ≡ bytes "00072002" → ⊥) → period_of v ≡ period_at (day_number v)
-  unfolding kind_ok period_at are_digits all_digits day_number number_from
+  pub others-stay : (v ≡ bytes "00101986" → ⊥) → (v ≡ bytes "00072002" → ⊥) → period_of v ≡ period_at (date_number v)
+  unfolding kind_ok period_at are_digits all_digits date_number number_from
   others-stay first second =
-      let one : day_number v ≡ october1986 → ⊥ = not-day (bytes "00101986") refl first in
-      let two : day_number v ≡ july2002 → ⊥ = not-day (bytes "00072002") refl second in
+      let one : date_number v ≡ october1986 → ⊥ = not-day (bytes "00101986") refl first in
+      let two : date_number v ≡ july2002 → ⊥ = not-day (bytes "00072002") refl second in
       by_number v e
       ∙ rw (
-        same-side (day_number v) october1986 (day_number v) (october1986 + 1) (λ l. omega arith) (λ l. omega arith),
-        same-side (day_number v) july2002 (day_number v) (july2002 + 1) (λ l. omega arith) (λ l. omega arith),
+        same-side (date_number v) october1986 (date_number v) (october1986 + 1) (λ l. omega arith) (λ l. omega arith),
+        same-side (date_number v) july2002 (date_number v) (july2002 + 1) (λ l. omega arith) (λ l. omega arith),
       ) refl
 
 -- and these two did: 00101986 was before 01/10/1986 and is from then on, 00072002 likewise beside 01/07/2002
 pub two-changed :
-    (period_at (day_number (bytes "00101986")) ≡ Before1986) × (period_of (bytes "00101986") ≡ Before2002)
-    × (period_at (day_number (bytes "00072002")) ≡ Before2002) × (period_of (bytes "00072002") ≡ Later)
-unfolding period_of period_at compared_date is_first_day are_digits all_digits is_first_date is_year is_gregorian days_in is_leap day_number number_from
+    (period_at (date_number (bytes "00101986")) ≡ Before1986) × (period_of (bytes "00101986") ≡ Before2002)
+    × (period_at (date_number (bytes "00072002")) ≡ Before2002) × (period_of (bytes "00072002") ≡ Later)
+unfolding period_of period_at compared_date is_first_day are_digits all_digits is_first_date is_year is_gregorian days_in is_leap date_number number_from
 two-changed = (refl, refl, refl, refl)

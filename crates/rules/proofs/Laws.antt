@@ -14,7 +14,7 @@ use Rattle.lines.proofs.Bytes.{same-is, same_refl}
 use Rattle.kinds.specs.Kind.{N, DataPrimaImm, AnnoPrimaImm, words}
 use Rattle.kinds.specs.Digits.{number}
 use Rattle.kinds.specs.Value.{is_number, is_first_day, word_index, is_word, are_digits, year_of, kind_ok}
-use Rattle.kinds.specs.Meaning.{day_number}
+use Rattle.kinds.specs.Meaning.{date_number}
 use Rattle.kinds.proofs.Laws.{and-true, by-test, digits-length, digits-drop, same_number}
 use Rattle.kinds.proofs.Readings.{number-reads}
 use Rattle.tables.specs.File.{File, ac2, acc}
@@ -122,7 +122,7 @@ difference-is l r d el er ed =
     rw (number-kept 2 l (omega arith) el, number-kept 2 r (omega arith) er) (number_is_lem 2 d (difference (number l) (number r)) (omega arith) ed)
 
 -- the date as it counts is compared as the number yyyymmdd
-pub period-is : (v : List ℕ) → kind_ok DataPrimaImm v ≡ true → period_of v ≡ period_at (day_number (compared_date v))
+pub period-is : (v : List ℕ) → kind_ok DataPrimaImm v ≡ true → period_of v ≡ period_at (date_number (compared_date v))
 unfolding kind_ok period_of
 period-is v e = rw e refl
 
@@ -154,14 +154,14 @@ pub petrol-words : (date old : List ℕ) → kind_ok DataPrimaImm date ≡ true
     → (petrol_fits (petrol_word (directive_of (bytes "91/441/CEE")) (period_of date)) old ≡ same_bytes old (bytes "BENZINA CAT"))
     × (petrol_fits (petrol_word (directive_of (bytes "98/69/CE")) (period_of date)) old ≡ same_bytes old (bytes "BENZINA CAT"))
     × (petrol_fits (petrol_word (directive_of (bytes "RT1902")) (period_of date)) old
-    ≡ cond (ltb (day_number (compared_date date)) 19861001) (same_bytes old (bytes "BENZINA<86")) (ltb (day_number (compared_date date)) 20020701 && same_bytes old (bytes "BENZINA NO CAT")))
-    × (petrol_fits (petrol_word (directive_of (bytes "NESSUNA")) (period_of date)) old ≡ (ltb (day_number (compared_date date)) 19861001 && same_bytes old (bytes "BENZINA<86")))
+    ≡ cond (ltb (date_number (compared_date date)) 19861001) (same_bytes old (bytes "BENZINA<86")) (ltb (date_number (compared_date date)) 20020701 && same_bytes old (bytes "BENZINA NO CAT")))
+    × (petrol_fits (petrol_word (directive_of (bytes "NESSUNA")) (period_of date)) old ≡ (ltb (date_number (compared_date date)) 19861001 && same_bytes old (bytes "BENZINA<86")))
 unfolding directive_of word_index words same_bytes period_at
 petrol-words date old d =
     rw (period-is date d)
-    (by-test (ltb (day_number (compared_date date)) 19861001)
+    (by-test (ltb (date_number (compared_date date)) 19861001)
     (λ h. rw h (refl, refl, refl, refl))
-    (λ h. by-test (ltb (day_number (compared_date date)) 20020701) (λ k. rw (h, k) (refl, refl, refl, refl)) (λ k. rw (h, k) (refl, refl, refl, refl))))
+    (λ h. by-test (ltb (date_number (compared_date date)) 20020701) (λ k. rw (h, k) (refl, refl, refl, refl)) (λ k. rw (h, k) (refl, refl, refl, refl))))
 
 -- "Turbo S "DIESEL TURBO COMPRESSO"; else by AC2's CorrettorePressione, N .., S .."
 pub diesel-words : (corrector old : List ℕ)

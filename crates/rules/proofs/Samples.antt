@@ -10,7 +10,7 @@ use Rattle.lines.specs.Text.{bytes}
 use Rattle.kinds.specs.Kind.{D, H, Deriva, Revs, DataPrimaImm, words, categories}
 use Rattle.kinds.specs.Digits.{all_digits, number_from}
 use Rattle.kinds.specs.Value.{is_leap, days_in, is_gregorian, are_digits, is_year, is_first_date, is_first_day, is_number, word_index, is_word, kind_ok}
-use Rattle.kinds.specs.Meaning.{drift_read, day_number}
+use Rattle.kinds.specs.Meaning.{drift_read, date_number}
 use Rattle.std.specs.Prelude.{Some}
 use Rattle.kinds.proofs.Samples.{drift-minus, drift-most, drift-three, first-day-unknown, first-month-unknown, leap-2000, leap-1900, hour-24, revs-by-hand}
 use Rattle.serial.specs.Identification.{sum, checksum}
@@ -36,19 +36,19 @@ fits directive date old = petrol_fits (petrol_word (directive_of directive) (per
 -- RT1902 with 30091986 BENZINA<86, 01101986 BENZINA NO CAT, 01072002 none
 module _ (old : List ℕ) where
   pub before-1986 : fits (bytes "RT1902") (bytes "30091986") old ≡ same_bytes old (bytes "BENZINA<86")
-  unfolding directive_of word_index words period_of period_at compared_date same_bytes is_first_day are_digits all_digits is_first_date is_year is_gregorian days_in is_leap day_number number_from
+  unfolding directive_of word_index words period_of period_at compared_date same_bytes is_first_day are_digits all_digits is_first_date is_year is_gregorian days_in is_leap date_number number_from
   before-1986 = refl
 
   pub from-1986 : fits (bytes "RT1902") (bytes "01101986") old ≡ same_bytes old (bytes "BENZINA NO CAT")
-  unfolding directive_of word_index words period_of period_at compared_date same_bytes is_first_day are_digits all_digits is_first_date is_year is_gregorian days_in is_leap day_number number_from
+  unfolding directive_of word_index words period_of period_at compared_date same_bytes is_first_day are_digits all_digits is_first_date is_year is_gregorian days_in is_leap date_number number_from
   from-1986 = refl
 
   pub from-2002 : fits (bytes "RT1902") (bytes "01072002") old ≡ false
-  unfolding directive_of word_index words period_of period_at compared_date same_bytes is_first_day are_digits all_digits is_first_date is_year is_gregorian days_in is_leap day_number number_from
+  unfolding directive_of word_index words period_of period_at compared_date same_bytes is_first_day are_digits all_digits is_first_date is_year is_gregorian days_in is_leap date_number number_from
   from-2002 = refl
 
   pub nessuna-later : fits (bytes "NESSUNA") (bytes "01101986") old ≡ false
-  unfolding directive_of word_index words period_of period_at compared_date same_bytes is_first_day are_digits all_digits is_first_date is_year is_gregorian days_in is_leap day_number number_from
+  unfolding directive_of word_index words period_of period_at compared_date same_bytes is_first_day are_digits all_digits is_first_date is_year is_gregorian days_in is_leap date_number number_from
   nessuna-later = refl
 
   -- 02, 3/14: unknown days about the two dates, with RT1902 and with NESSUNA
@@ -63,7 +63,7 @@ module _ (old : List ℕ) where
       × (fits (bytes "NESSUNA") (bytes "00001986") old ≡ same_bytes old (bytes "BENZINA<86"))
       × (fits (bytes "NESSUNA") (bytes "00072002") old ≡ false)
       × (fits (bytes "NESSUNA") (bytes "00002002") old ≡ false)
-  unfolding directive_of word_index words period_of period_at compared_date same_bytes is_first_day are_digits all_digits is_first_date is_year is_gregorian days_in is_leap day_number number_from
+  unfolding directive_of word_index words period_of period_at compared_date same_bytes is_first_day are_digits all_digits is_first_date is_year is_gregorian days_in is_leap date_number number_from
   unknown-days = (refl, refl, refl, refl, refl, refl, refl, refl, refl, refl)
 
 -- "day 00 with a known month counts as day 01 ..; 00001986 remains before"

@@ -10,7 +10,7 @@ use borrow.Author.Tests.{ltb-true, ltb-false, lt-ltb, le-ltb}
 use Rattle.lines.specs.Bytes.{same_bytes}
 use Rattle.kinds.specs.Digits.{number}
 use Rattle.kinds.specs.Value.{is_number, is_first_day, word_index, is_word}
-use Rattle.kinds.specs.Meaning.{number_read, day_read, day_number}
+use Rattle.kinds.specs.Meaning.{number_read, first_day_read, date_number}
 use Rattle.kinds.proofs.Laws.{by-test}
 use Rattle.std.specs.Prelude.{Some, None, Ok, Err}
 use Rattle.std.proofs.lemmas.Option.{cond_some, none-some}
@@ -87,6 +87,6 @@ pub no_number : (v : List ℕ) → number_read v ≡ None → is_number 9 v ≡ 
 unfolding number_read
 no_number v e = no-test (is_number 9 v) (number v) e
 
-pub no-day : (v : List ℕ) → day_read v ≡ None → period_of v ≡ Later
-unfolding day_read period_of
-no-day v e = rw (no-test (is_first_day v) (day_number v) e) refl
+pub no-day : (v : List ℕ) → first_day_read v ≡ None → period_of v ≡ Later
+unfolding first_day_read period_of
+no-day v e = rw (no-test (is_first_day v) (date_number v) e) refl

@@ -6,7 +6,7 @@ use Rattle.lines.specs.Text.{bytes}
 use Rattle.kinds.specs.Digits.{number}
 use Rattle.kinds.specs.Kind.{words, petrol_directives}
 use Rattle.kinds.specs.Value.{word_index, is_word, is_number, is_first_day, day_of, month_of}
-use Rattle.kinds.specs.Meaning.{day_number}
+use Rattle.kinds.specs.Meaning.{date_number}
 use Rattle.refusals.specs.declared.RefusalKind.TheVariants.{BookingRule}
 use Rattle.tables.specs.File.{ac2, acc}
 use Rattle.tables.specs.Value.{of}
@@ -98,7 +98,7 @@ compared_date v = cond (is_month_only (day_of v) (month_of v)) (bytes "01" ++ dr
 
 -- the period of a value of DataPrimaImm; a value that is no such day is before neither date (9 refuses it)
 unfoldable pub period_of : List ℕ → Period
-period_of v = cond (is_first_day v) (period_at (day_number (compared_date v))) Later
+period_of v = cond (is_first_day v) (period_at (date_number (compared_date v))) Later
 
 -- "with 91/441/CEE or 98/69/CE "BENZINA CAT"; with RT1902 or NESSUNA before 01/10/1986 "BENZINA<86"; with RT1902 from then
 -- and before 01/07/2002 "BENZINA NO CAT"; else no value fits"

@@ -1,7 +1,7 @@
 // The rules of bookings (01, Bookings; row 12): AC2's own, and ACC against AC2. Each test is of values.
 ghost use Rattle.std.specs.Prelude.{◌≡◌, cond, List, [], ◌∷◌, ◌++◌, map, ℕ, ◌-◌, ◌≤◌, Some, Ok};
 ghost use Rattle.kinds.specs.Value.{is_word};
-ghost use Rattle.kinds.specs.Meaning.{day_read};
+ghost use Rattle.kinds.specs.Meaning.{first_day_read};
 ghost use Rattle.tables.specs.File.{ac2, acc};
 ghost use Rattle.tables.specs.Value.{values_of, Held};
 ghost use Rattle.due.specs.Values.{new_values};
@@ -195,7 +195,7 @@ fn directive_of(value: &[u8]) -> Directive
 // Of every value that reads as this day, the number yyyymmdd. Both fuel dates are the first of their month, and day 00 counts as
 // that day (02, 3/14): so the month decides, whose first number is that of its day 00.
 fn period_at(day: u32) -> Period
-    ensures { (v : List ℕ) → day_read v ≡ Some day → result ≡ period_of v }
+    ensures { (v : List ℕ) → first_day_read v ≡ Some day → result ≡ period_of v }
 {
     if day < 19861000 {
         return Period::Before1986;
@@ -209,7 +209,7 @@ fn period_at(day: u32) -> Period
 fn period_of(date: &[u8]) -> Period
     ensures { result ≡ period_of date.now }
 {
-    match kinds::read_day(date) {
+    match kinds::read_first_day(date) {
         Some(day) => period_at(day),
         None => Period::Later,
     }

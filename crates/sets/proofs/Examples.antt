@@ -24,7 +24,7 @@ use Rattle.lines.specs.Line.{Line, heading, entry, text_of, well_formed, all_wel
 use Rattle.lines.specs.Layout.{Layout, layout_of}
 use Rattle.kinds.specs.Kind.{words}
 use Rattle.kinds.specs.Digits.{all_digits, number_from}
-use Rattle.kinds.specs.Meaning.{day_number}
+use Rattle.kinds.specs.Meaning.{date_number}
 use Rattle.kinds.specs.Value.{is_string, is_exact, is_number, is_fixed, is_leap, days_in, is_year, is_gregorian, are_digits, is_day, is_time, word_index, is_word, starts_with, is_drift, bare, is_temperature, is_plate, is_first_date, is_first_day, all_s_or_n, is_positions, kind_ok, kind_kept}
 use Rattle.tables.specs.Section.{entries_of}
 use Rattle.tables.specs.Entries.{new_booking, old_booking, tester, protocol, measurement, sixteen, drift_axle, suspension_axle, analyser, counter, speed_test, all_key_dates, all_key_bodies, analysis, fuel_analysis, opacimeter, opacity_test, opacity_keys, opacity_analysis}
@@ -479,7 +479,7 @@ computed :
     × (judge_file gas van_stated van_new_values [] ≡ acceptance not_read)
     × Computed opacity van_stated van_new_values van_opacity 1 van_opacity_values
     × (opacity_due (booking_in van_new_values) ≡ true)
-unfolding same_bytes all_printable without text_of well_formed all_well_formed layout_of words all_digits number_from day_number is_string is_exact is_number is_fixed is_leap days_in is_year is_gregorian are_digits is_day is_time word_index is_word starts_with is_drift bare is_temperature is_plate is_first_date is_first_day all_s_or_n is_positions kind_ok kind_kept entries_of new_booking old_booking tester protocol measurement sixteen drift_axle suspension_axle analyser counter speed_test all_key_dates all_key_bodies analysis fuel_analysis opacimeter opacity_test opacity_keys opacity_analysis fixed_sections axle_entries axles_from axle_sections sections least_sections entries row_count row_at place_of axle_place_of scan first_wrong first_absent owner_row is_m is_n is_o is_l fuel_in is_late booking_in version_in links_in conditions_of exceptions condition_of condition_at is_moped is_motorcycle is_m_or_n condition_p holds_in due_of first_not_as_due_from first_not_as_due first_broken rules_of type_of parking_brake_fits new_rules descriptions_of year_fits directive_of period_at compared_date period_of diesel_fits fuel_fits old_brake_fits number_is parking_axles_fit old_rules difference_fits differences_from stated_of old_booking_right opacity_due slice_right is_read is_serial_link identification_right seven_of separated sum hex_digit checksum identification_of address_ok field_ok all_fields_ok seven_ok judge_file judge_identification
+unfolding same_bytes all_printable without text_of well_formed all_well_formed layout_of words all_digits number_from date_number is_string is_exact is_number is_fixed is_leap days_in is_year is_gregorian are_digits is_day is_time word_index is_word starts_with is_drift bare is_temperature is_plate is_first_date is_first_day all_s_or_n is_positions kind_ok kind_kept entries_of new_booking old_booking tester protocol measurement sixteen drift_axle suspension_axle analyser counter speed_test all_key_dates all_key_bodies analysis fuel_analysis opacimeter opacity_test opacity_keys opacity_analysis fixed_sections axle_entries axles_from axle_sections sections least_sections entries row_count row_at place_of axle_place_of scan first_wrong first_absent owner_row is_m is_n is_o is_l fuel_in is_late booking_in version_in links_in conditions_of exceptions condition_of condition_at is_moped is_motorcycle is_m_or_n condition_p holds_in due_of first_not_as_due_from first_not_as_due first_broken rules_of type_of parking_brake_fits new_rules descriptions_of year_fits directive_of period_at compared_date period_of diesel_fits fuel_fits old_brake_fits number_is parking_axles_fit old_rules difference_fits differences_from stated_of old_booking_right opacity_due slice_right is_read is_serial_link identification_right seven_of separated sum hex_digit checksum identification_of address_ok field_ok all_fields_ok seven_ok judge_file judge_identification
 computed = (
   record { slice = refl; is_read_lem = refl; well-formed = refl; short = refl; reads = refl; values = refl; checks = refl },
   refl,

@@ -4,4 +4,4 @@ use Rattle.rules.proofs.Tests.{no-day}
 use Rattle.rules.proofs.bookings.period_of.Goals as goal
 
 pub returns-in-None : goal.returns-in-None
-returns-in-None c = sym (no-day _ (sym c.read_day.ensures ∙ c.in-None.is))
+returns-in-None c = sym (no-day _ (sym c.read_first_day.ensures ∙ c.in-None.is))
