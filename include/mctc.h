@@ -40,7 +40,7 @@
  * Answer: at least 16 numbers, of which the first 16 are all set.
  *
  *     number   acceptance                         refusal
- *     0        0                                  1 to 18, below
+ *     0        0                                  1 to 19, below
  *     1        0                                  file, 0 for none
  *     2        0                                  line from 1, 0 for none
  *     3        judge: axles of drift              0
@@ -55,6 +55,10 @@
  *     9        judge, read: 1 where the idle      0
  *              speed was entered by hand, else 0
  *     10       judge: names compared              0
+ *     11       judge: seconds of drift            0
+ *     12       judge: seconds of suspension       0
+ *     13       judge: seconds of gas              0
+ *     14       judge: seconds of opacity          0
  *     others   0                                  0
  *
  * The idle speed is NumGiriMotoreMin of gas, entered by hand where its value begins with `#`. Number 9 says nothing of
@@ -75,6 +79,23 @@
  *     7      1,540
  *
  * A file that is not read adds 0: one that is not given, and ACC with category L.
+ *
+ * A measure begins on DataMisura, at InizioMisura. One whose FineMisura is below its InizioMisura ends on the next day,
+ * any other on the same. The seconds of drift, suspension, gas or opacity are the length of its measure, from
+ * InizioMisura to FineMisura: 0 to 86,399, 0 where both are the same, and 40 from 235930 to 000010. They are 0 too for a
+ * file that is not given.
+ *
+ * A device is good through its due date, and in a set that passes each due date covers the day on which its file's
+ * measure ends, whether CodErrore is filled or not:
+ *
+ *     file   due dates, each of a device
+ *     3      DataScadenza, of the drift tester
+ *     4      DataScadenza, of the suspension tester
+ *     5      DataScadenzaAnalizzatore; DataScadenzaContagiri, of the rev counter; DataScadenzaProvaVelocita, of the
+ *            speed bench, where it is filled
+ *     7      DataScadenzaOpacimetro; DataScadenzaContagiri, of the rev counter
+ *
+ * No due date covers the day after 31122099. Other dates in these files are no due dates.
  *
  * The calls that say what the judge goes by:
  *
@@ -153,14 +174,22 @@ extern "C" {
 #define MCTC_PAIR_OUTSIDE 17
 /* The output is too short, or the column: line 0. */
 #define MCTC_OUTPUT_TOO_SHORT 18
+/* A device is out of date on the day on which the measure ends: the line of its due date, the first such one in the
+ * order of the file's table. It comes after 10 and before 13 of the same file. */
+#define MCTC_DEVICE_OUT_OF_DATE 19
 
 /* Judges a whole set: the stem of its files and seven slices, each empty where it is not given, in the order of the
- * files' numbers. Refuses with 1 to 15.
+ * files' numbers. Refuses with 1 to 15, 19, in this order: 1, 2, then file by file in the order of their numbers, each
+ * with 11, 3, the first line with 4, 5 or 6, then 7, 8, 9, 10, 19, then 12 (files 1 and 2) or 13 (file 4); file 6 with
+ * 11, 14, 15. ACC with category L is held to 11 alone.
  *
  * Accepted: answer 3 and 4 are the axle counts of drift and suspension, 0 for a file that is not given; 5, 6, 7 and 8
  * are the marks of drift, suspension, gas and opacity, 1 where the file is given with CodErrore filled, else 0; 9 is 1
  * where gas is given and its idle speed was entered by hand, 0 where it was measured or gas is not given; 10 is the names
- * compared. Which sets pass does not hang on 9 or 10. The places have the pairs of all files that were read. */
+ * compared; 11, 12, 13 and 14 are the seconds that the measures of drift, suspension, gas and opacity lasted, 0 for a
+ * file that is not given. Which sets pass does not hang on the numbers 9 to 14: no length is refused. That FineMisura is
+ * below InizioMisura counts all the same, as the measure then ends on the next day (19). The places have the pairs of all
+ * files that were read. */
 uint32_t mctc_judge(const uint8_t *stem, size_t stem_length,
                     const uint8_t *ac2, size_t ac2_length,
                     const uint8_t *acc, size_t acc_length,

@@ -256,7 +256,13 @@ fn explain(given: Given) -> Result<Command, Trouble> {
     let text = word.to_str().unwrap_or_default();
     let page = match text.parse() {
         Ok(number) if (1..=words::LAST).contains(&number) => Some(words::page(number)),
-        Ok(_) => return Err(about("refusals have the numbers 1 to 18, and not", &word)),
+        Ok(_) => {
+            let last = words::LAST;
+            return Err(about(
+                &format!("refusals have the numbers 1 to {last}, and not"),
+                &word,
+            ));
+        }
         Err(_) => entries::page(text),
     };
     let unknown = || {

@@ -4,8 +4,8 @@ use mctc::{Places, Set, Test};
 
 use crate::candidates;
 use crate::file_types::{AC2, ACC};
+use crate::made_up::{self, Values};
 use crate::shown::word_list;
-use crate::table;
 
 /// Days on both sides of those by which the fuel of the old booking changes.
 pub const DAYS: [&str; 4] = ["30091986", "01101986", "30062002", "01072002"];
@@ -14,9 +14,6 @@ pub const DAYS: [&str; 4] = ["30091986", "01101986", "30062002", "01072002"];
 pub const UNKNOWN_DAYS: [&str; 6] = [
     "00001986", "00091986", "00101986", "00002002", "00062002", "00072002",
 ];
-
-/// Values by the names of their entries. What stands first counts.
-pub type Values<'a> = [(&'a str, &'a str)];
 
 /// What both bookings have where nothing else is said: a car without any rule to break but the one that is tried.
 const PLAIN: [(&str, &str); 11] = [
@@ -33,19 +30,9 @@ const PLAIN: [(&str, &str); 11] = [
     ("NumAssiStazionamento", "0"),
 ];
 
-/// A booking with these values, the plain ones where there is none, and nothing at all other entries.
-fn booking(file: u32, values: &Values) -> Vec<u8> {
-    let mut text = String::new();
-    for section in table::sections(file) {
-        text += &format!("{}\r\n", section.heading);
-        for entry in section.entries {
-            let mut known = values.iter().chain(&PLAIN);
-            let value = known.find(|(name, _)| *name == entry.name);
-            let value = value.map_or("", |(_, value)| value);
-            text += &format!("{}={value}\r\n", entry.name);
-        }
-    }
-    text.into_bytes()
+/// A booking with these values, the plain ones where there is none.
+pub fn booking(file: u32, values: &Values) -> Vec<u8> {
+    made_up::text(file, &[values, &PLAIN].concat())
 }
 
 /// Whether the library lets bookings pass: it accepts, or refuses a file behind them.

@@ -35,6 +35,23 @@ pub fn old_booking() -> impl Iterator<Item = &'static str> {
     OLD_BOOKING.into_iter()
 }
 
+/// A day, ddmmyyyy, and what the next may be: one more, the first of the next month, the first of the next year. Those
+/// that are no days the library refuses.
+pub fn day_and_next(found: &[u8]) -> Option<[String; 4]> {
+    let found = std::str::from_utf8(found).ok()?;
+    let (day, rest) = found.split_at_checked(2)?;
+    let (month, year) = rest.split_at_checked(2)?;
+    let [day, month, year] = [day, month, year].map(|digits| digits.parse::<u32>().ok());
+    let (day, month, year) = (day?, month?, year?);
+    let days = [
+        (day, month, year),
+        (day + 1, month, year),
+        (1, month + 1, year),
+        (1, 1, year + 1),
+    ];
+    Some(days.map(|(day, month, year)| format!("{day:02}{month:02}{year:04}")))
+}
+
 /// All years that a day may have, as they are written.
 pub fn years() -> impl Iterator<Item = String> {
     (1900..=2099).map(|year: u32| year.to_string())

@@ -19,6 +19,8 @@ const ENTRY_NOT_AS_DUE: u32 = 10;
 pub struct Case<'a> {
     stem: &'a [u8],
     texts: [&'a [u8]; COUNT],
+    /// All files of the set on disk, those too that the library is not lent.
+    beside: [&'a [u8]; COUNT],
     /// The number of the file that is read alone.
     alone: Option<u32>,
     /// The folder has a set with this stem in capitals, which a change of the stem would meet.
@@ -27,12 +29,27 @@ pub struct Case<'a> {
 
 impl<'a> Case<'a> {
     pub fn set(set: &'a SetOnDisk) -> Case<'a> {
+        let texts = FILE_TYPES.map(|file| set.text(file.number));
         Case {
             stem: &set.stem,
-            texts: FILE_TYPES.map(|file| set.text(file.number)),
+            texts,
+            beside: texts,
             alone: None,
             twin: set.twin,
         }
+    }
+
+    /// A set of these files, which are on no disk.
+    pub fn made_up(stem: &'a [u8], files: &[(u32, &'a [u8])]) -> Case<'a> {
+        let none = Case {
+            stem,
+            texts: Default::default(),
+            beside: Default::default(),
+            alone: None,
+            twin: false,
+        };
+        let with = |case: Case<'a>, (file, text): &(u32, &'a [u8])| case.with_text(*file, text);
+        files.iter().fold(none, with)
     }
 
     /// One file of a set, read alone.
@@ -48,6 +65,7 @@ impl<'a> Case<'a> {
         let case = Case {
             stem: &[],
             texts: Default::default(),
+            beside: Default::default(),
             alone: Some(number),
             twin: false,
         };
@@ -69,8 +87,12 @@ impl<'a> Case<'a> {
 
     /// The text of a file, empty where it is not given.
     pub fn text(&self, file: u32) -> &'a [u8] {
-        let text = place(file).and_then(|at| self.texts.get(at));
-        text.copied().unwrap_or_default()
+        text(&self.texts, file)
+    }
+
+    /// The text that a file of the set has on disk, whether the library is lent it or not.
+    pub fn beside(&self, file: u32) -> &'a [u8] {
+        text(&self.beside, file)
     }
 
     pub fn with_text<'b>(&self, file: u32, text: &'b [u8]) -> Case<'b>
@@ -164,6 +186,11 @@ impl<'a> Case<'a> {
     }
 }
 
+fn text<'a>(texts: &[&'a [u8]; COUNT], file: u32) -> &'a [u8] {
+    let text = place(file).and_then(|at| texts.get(at));
+    text.copied().unwrap_or_default()
+}
+
 /// Of a file that is due.
 pub fn missing(file: &FileType) -> String {
     format!("{} is due, but missing", file.ending)
@@ -247,7 +274,8 @@ impl<'a> Refused<'a> {
             8 => (4, table::first_missing_entry(file, text, line)),
             9 => (5, entry()),
             10 => (6, entry()),
-            12 | 13 => (7, entry()),
+            19 => (7, entry()),
+            12 | 13 => (8, entry()),
             _ => (number, 0),
         };
         (file, step, place)

@@ -5,6 +5,7 @@ use mctc::{Condition, Kind};
 use crate::file_types::{FileType, FILE_TYPES};
 use crate::kinds;
 use crate::near::nearest;
+use crate::out_of_date;
 use crate::page::labelled;
 use crate::reasons;
 use crate::table::{self, Entry, Section};
@@ -52,6 +53,14 @@ impl Described {
         reasons::when_filled(&self.condition)
     }
 
+    /// The rule that its line is refused by, and what it decides for other lines.
+    fn rules(&self, file: u32) -> String {
+        let name = self.name.as_bytes();
+        let rule = words::rule(file, name).map(|(_, rule)| rule);
+        let rules = rule.into_iter().chain(out_of_date::decided_by(file, name));
+        rules.map(|rule| labelled("rule", &rule)).collect()
+    }
+
     fn page(&self) -> String {
         let FileType {
             number,
@@ -62,10 +71,7 @@ impl Described {
         let mut page = labelled("file", &file);
         page += &labelled("kind", &self.kind());
         page += &labelled("filled", &self.filled());
-        if let Some(rule) = words::rule(*number, self.name.as_bytes()) {
-            page += &labelled("rule", rule);
-        }
-        page
+        page + &self.rules(*number)
     }
 }
 

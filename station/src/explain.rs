@@ -13,6 +13,7 @@ use crate::line_form;
 use crate::misnamed;
 use crate::not_as_due;
 use crate::other_type;
+use crate::out_of_date;
 use crate::page::{labelled, verbatim};
 use crate::rules;
 use crate::shown::{self, counted, Line};
@@ -126,6 +127,7 @@ fn finding(refused: &Refused, subject: Option<&Subject>) -> Option<Finding> {
         13 => rules::difference(refused),
         14 => identification::form(refused),
         15 => identification::difference(refused),
+        19 => out_of_date::finding(refused),
         _ => None,
     }
 }

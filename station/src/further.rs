@@ -2,7 +2,8 @@
 //!
 //! By the order of judging (01, Judging) the rest of a set is not judged once it is refused. What holds all the same:
 //! each file read alone (3 to 9, 14), and where that file and the new booking pass, its due column (10); of a file with
-//! values of the wrong kind the entries whose condition looks at none of these.
+//! values of the wrong kind the entries whose condition looks at none of these. Where a file and the new booking pass
+//! all of that, its devices that are out of date (19).
 
 use mctc::{Due, Places, Refusal};
 
@@ -11,6 +12,7 @@ use crate::disk::SetOnDisk;
 use crate::edit::Action;
 use crate::explain::{explain, Explained, Subject};
 use crate::file_types::{AC2, ACC, FILE_TYPES};
+use crate::out_of_date::{covering, uncovered, OUT_OF_DATE};
 use crate::shown;
 
 const WRONG_KIND: u32 = 9;
@@ -37,6 +39,7 @@ pub fn further(set: &SetOnDisk, verdict: Refusal) -> Vec<Explained> {
         };
         findings.extend(alone.findings);
         findings.extend(due);
+        findings.extend(out_of_date(set, number));
     }
     findings.retain(|finding| finding.refusal != verdict);
     findings
@@ -136,6 +139,35 @@ impl Alone {
             .map(|refusal| explain(case, refusal, Subject::of_set(set, number)))
             .collect()
     }
+}
+
+/// The devices of a file that are out of date. Beside the new booking the library judges that file alone; each due date
+/// that it refuses is written as one that covers the measure, to find the next. Where no date does, all are found with
+/// another text, and explained as they stand.
+fn out_of_date(set: &SetOnDisk, number: u32) -> Vec<Explained> {
+    let both = Case::set(set).only(&[AC2, number]);
+    let uncovered = refused_device(both).and_then(|refused| uncovered(&refused));
+    let mut text = uncovered.as_deref().unwrap_or(both.text(number)).to_vec();
+    let mut findings = Vec::new();
+    while let Some(refused) = refused_device(both.with_text(number, &text)) {
+        let case = match &uncovered {
+            Some(_) => both,
+            None => refused.case,
+        };
+        let subject = Subject::of_set(set, number);
+        findings.push(explain(case, refused.refusal, subject));
+        let Some(edit) = covering(&refused) else {
+            break;
+        };
+        text = edit.apply(&text);
+    }
+    findings
+}
+
+/// A device of these files that is out of date.
+fn refused_device(case: Case) -> Option<Refused> {
+    let refusal = case.refusal()?;
+    (refusal.number == OUT_OF_DATE).then_some(Refused { case, refusal })
 }
 
 /// Whether the condition of an entry looks at one of these entries of its own file.

@@ -89,7 +89,8 @@ the cause where it is known, what is expected there, and what to do.
 With STEM: the verdict on that set. With --json one object: stem, accepted,
 number, file, line (0 for none), name, meaning, text, remark, to_do, cause,
 expected, mend, drift_axles, suspension_axles, drift_mark, suspension_mark,
-gas_mark, opacity_mark, idle_by_hand, names_compared, empty, notes; or stem and
+gas_mark, opacity_mark, idle_by_hand, names_compared, drift_seconds,
+suspension_seconds, gas_seconds, opacity_seconds, empty, notes; or stem and
 error where a file cannot be read.
 
 Of an accepted set it says which files are marked, that is, have CodErrore
@@ -98,10 +99,19 @@ hand, with `#` before the number in NumGiriMotoreMin. Either may pass. In the
 object idle_by_hand is false also where gas is not given or the set is refused;
 of values that were entered by hand in opacity it says nothing.
 
+Of each result file of an accepted set it says how long the measure lasted, from
+InizioMisura to FineMisura, and whether it went over midnight, as one does whose
+FineMisura is below its InizioMisura. No length is refused; but the devices must
+be in date on the day on which the measure ends (`mctc explain 19`). In the
+object the lengths are drift_seconds to opacity_seconds, 0 also where the file
+is not given or the set is refused.
+
 An accepted set may have notes: values that are near a word that counts, as
-`benzina` is near `BENZINA`, and by which something would be due; and drift and
-suspension with different counts of axles. Any set may have notes of files in
-the folder that have its stem, but no ending of a set: they are not read.
+`benzina` is near `BENZINA`, and by which something would be due; drift and
+suspension with different counts of axles; and a measure over midnight that is
+shorter with InizioMisura and FineMisura exchanged. Any set may have notes of
+files in the folder that have its stem, but no ending of a set: they are not
+read.
 
 The line look-up of an accepted set says how much looking up of names it took to
 read it: for each line with an entry, the names of its section that were tried
@@ -124,10 +134,10 @@ line, action and text:
   rename     all files of the set have this stem
 
 With --all also what else can be said beside the verdict, which stays as it is:
-each file read alone (3 to 9, 14), and the entries that are not as due (10) of
-files that pass, where the new booking passes. With --json a member further: an
-array of objects with number, file, line, name, meaning, text, remark, to_do,
-cause, expected, mend.
+each file read alone (3 to 9, 14), and where the new booking passes, the entries
+that are not as due (10) and the devices out of date (19) of files that pass
+what comes before. With --json a member further: an array of objects with
+number, file, line, name, meaning, text, remark, to_do, cause, expected, mend.
 
 Without STEM: a line for each set, which tells marked files and an idle speed
 entered by hand, with --all also one for each further finding, then how many
@@ -164,7 +174,7 @@ pub const EXPLAIN: Help = Help::plain(
 mctc explain NUMBER
 mctc explain ENTRY
 
-Says what refusals with this number (1 to 18) mean, what they carry, in which
+Says what refusals with this number (1 to 19) mean, what they carry, in which
 calls they come, and what to do; or for each file that has an entry of this
 name, its section, what its value must look like, when it is filled, and its
 rule.
@@ -178,8 +188,8 @@ pub const RULES: Help = Help::plain(
 mctc rules
 
 Prints the rules of a set as Markdown: the files, each entry with its kind and
-when it is filled, the rules between values, the identification answer, and the
-refusals. docs/RULES.md is this text.
+when it is filled, the rules between values, devices in date, the identification
+answer, and the refusals. docs/RULES.md is this text.
 
 Exit status: 0 printed; 2 bad usage.
 ",

@@ -2,9 +2,9 @@
 
 use std::ops::Range;
 
-use crate::case::Refused;
+use crate::case::{Case, Refused};
 use crate::edit::{Action, Edit};
-use crate::file_types::{by_number, GAS};
+use crate::file_types::{by_number, GAS, IDENTIFICATION};
 use crate::finding::Finding;
 use crate::shown::{self, counted};
 
@@ -64,6 +64,16 @@ pub fn page(text: &[u8], places: &[Range<usize>]) -> String {
         format!("  {:width$} = {}\n", field.name, shown::bytes(value))
     });
     rows.collect()
+}
+
+/// What the answer has in place of an entry of gas, where it is of the form.
+pub fn answered<'a>(case: &Case<'a>, entry: &[u8]) -> Option<&'a [u8]> {
+    let text = case.beside(IDENTIFICATION);
+    let places = mctc::identification(text).ok()?;
+    let mut fields = fields().into_iter().zip(places);
+    let is_it = |field: &Field| field.entry.is_some() && field.name.as_bytes() == entry;
+    let (_, place) = fields.find(|(field, _)| is_it(field))?;
+    text.get(place)
 }
 
 const AGAIN: &str = "have the analyser's answer recorded again";

@@ -13,10 +13,12 @@ use crate::explain::{explain, Explained, Subject};
 use crate::file_types::{ACC, DRIFT, FILE_TYPES, GAS, OPACITY, SUSPENSION};
 use crate::further::further;
 use crate::json::Object;
+use crate::measure::Measure;
 use crate::not_as_due::doubts;
+use crate::out_of_date::is_over_midnight;
 use crate::output::{Output, Status, Trouble};
 use crate::page::labelled;
-use crate::shown::{counted, names_compared, IDLE_BY_HAND};
+use crate::shown::{counted, length, names_compared, IDLE_BY_HAND};
 
 /// What is asked for besides the verdict.
 #[derive(Clone, Copy, Debug, PartialEq, Eq)]
@@ -63,7 +65,7 @@ pub struct Judged {
     /// Beside the verdict, where they are asked for.
     further: Option<Vec<Explained>>,
     /// Beside the verdict: files that are near in name. Beside an acceptance also values by which nothing is due, but
-    /// which may be meant otherwise, and axles that a file lacks.
+    /// which may be meant otherwise, axles that a file lacks, and times that look exchanged.
     noted: Vec<String>,
 }
 
@@ -83,7 +85,9 @@ impl Judged {
         let mut noted: Vec<String> = match &verdict {
             Ok(acceptance) => {
                 let axles = other_axles(&set, acceptance);
-                doubts(&case).into_iter().chain(axles).collect()
+                let times = exchanged_times(&case, acceptance);
+                let doubts = doubts(&case).into_iter();
+                doubts.chain(axles).chain(times).collect()
             }
             Err(_) => Vec::new(),
         };
@@ -224,13 +228,20 @@ impl Judged {
             _ => None,
         };
         let axles = axles.map(|axles| counted(axles as usize, "axle"));
+        let length = seconds(acceptance, file).map(|seconds| {
+            let midnight = match is_over_midnight(&Case::set(&self.set), file) {
+                true => " over midnight",
+                false => "",
+            };
+            format!("{}{midnight}", length(seconds))
+        });
         let mark = mark(acceptance, file).map(|is_set| match is_set {
             true => "marked: CodErrore is filled".to_string(),
             false => "no mark".to_string(),
         });
         let unread = (file == ACC && self.places.value(ACC, 0).is_none())
             .then(|| "not read with category L".to_string());
-        let said = axles.into_iter().chain(mark).chain(unread);
+        let said = axles.into_iter().chain(length).chain(mark).chain(unread);
         let said: String = said.map(|what| format!(", {what}")).collect();
         match file {
             GAS => format!("{said}; {}", idle(acceptance)),
@@ -257,6 +268,10 @@ impl Judged {
             .truth("opacity_mark", acceptance.opacity_mark)
             .truth("idle_by_hand", acceptance.idle_by_hand)
             .number("names_compared", acceptance.names_compared)
+            .number("drift_seconds", acceptance.drift_seconds)
+            .number("suspension_seconds", acceptance.suspension_seconds)
+            .number("gas_seconds", acceptance.gas_seconds)
+            .number("opacity_seconds", acceptance.opacity_seconds)
             .strings("empty", self.set.empty_files())
             .strings("notes", self.noted.iter().map(String::as_str));
         let object = match &self.further {
@@ -303,6 +318,27 @@ fn other_axles(set: &SetOnDisk, acceptance: &Acceptance) -> Option<String> {
     })
 }
 
+/// Of measures over midnight that are shorter with InizioMisura and FineMisura exchanged.
+fn exchanged_times(case: &Case, acceptance: &Acceptance) -> Vec<String> {
+    let notes = FILE_TYPES.iter().filter_map(|file| {
+        let (number, title) = (file.number, file.title);
+        let measure = Measure::of(number, case.text(number))?;
+        let text = measure.exchanged().apply(case.text(number));
+        let exchanged = case.with_text(number, &text);
+        let exchanged = mctc::judge(&exchanged.lent(), &mut Places::default()).ok()?;
+        let lasted = seconds(acceptance, number)?;
+        let shorter = seconds(&exchanged, number)?;
+        let looks_exchanged = shorter < lasted && is_over_midnight(case, number);
+        looks_exchanged.then(|| {
+            let (lasted, shorter, times) = (length(lasted), length(shorter), measure.times());
+            format!(
+                "{title} lasted {lasted} over midnight: see that {times} are not exchanged, which would give {shorter}"
+            )
+        })
+    });
+    notes.collect()
+}
+
 pub fn counts_as_not_given(name: &str) -> String {
     format!("{name} is empty and counts as not given")
 }
@@ -319,6 +355,17 @@ fn mark(acceptance: &Acceptance, file: u32) -> Option<bool> {
         SUSPENSION => Some(acceptance.suspension_mark),
         GAS => Some(acceptance.gas_mark),
         OPACITY => Some(acceptance.opacity_mark),
+        _ => None,
+    }
+}
+
+/// How long the measure of a result file lasted; None of the other files.
+fn seconds(acceptance: &Acceptance, file: u32) -> Option<u32> {
+    match file {
+        DRIFT => Some(acceptance.drift_seconds),
+        SUSPENSION => Some(acceptance.suspension_seconds),
+        GAS => Some(acceptance.gas_seconds),
+        OPACITY => Some(acceptance.opacity_seconds),
         _ => None,
     }
 }

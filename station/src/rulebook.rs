@@ -6,6 +6,7 @@ use crate::booking_tables;
 use crate::entries::{self, Described};
 use crate::file_types::{by_number, FileType, FILE_TYPES, GAS};
 use crate::identification;
+use crate::measure_tables;
 use crate::reasons;
 use crate::words;
 
@@ -37,6 +38,22 @@ is not before it. One whose month is not known either (month 00) is before every
 01/10/1986. Only with these two dates do zeros count so.
 ";
 
+const DEVICES: &str = "
+## Devices in date
+
+A measure begins on DataMisura, at InizioMisura, and ends at FineMisura: on the day after DataMisura where FineMisura is
+below InizioMisura, else on DataMisura. A device is good through its due date, which must not be before the day on which
+the measure ends, whatever stands in CodErrore. The first due date of a file, in the order of its entries, that is before
+that day is refused with 19. An empty DataScadenzaProvaVelocita, of gas without a speed bench, asks nothing. The other
+dates of a device, of its version and its keys, are not held to this. The length of a measure, which an accepted set
+tells, is the time from InizioMisura to FineMisura.
+
+What passes, by trial with the library:
+
+| DataMisura | InizioMisura | FineMisura | due date | length |
+|---|---|---|---|---|
+";
+
 const ANSWER: &str = "
 ## The identification answer
 
@@ -52,9 +69,9 @@ const ORDER: &str = "
 ## The order of judging
 
 The stem (2), then the files in the order of their numbers. For each file: given or not (11), its length (3), the first
-line with 4, 5 or 6, absent sections (7) and entries (8), all kinds (9), all that is filled or empty (10), then the rules
-(12 or 13). For the identification answer: 11, 14, 15. The first refusal in this order is the verdict. An old booking is
-not read with category L, even if it is too long.
+line with 4, 5 or 6, absent sections (7) and entries (8), all kinds (9), all that is filled or empty (10), devices out
+of date (19), then the rules (12 or 13). For the identification answer: 11, 14, 15. The first refusal in this order is
+the verdict. An old booking is not read with category L, even if it is too long.
 ";
 
 const REFUSALS: &str = "
@@ -70,7 +87,15 @@ pub fn text() -> String {
     for file in &FILE_TYPES {
         text += &entries_of(file);
     }
-    text + &rules() + &bookings() + ANSWER + &fields() + ORDER + REFUSALS + &refusals()
+    text + &rules()
+        + &bookings()
+        + DEVICES
+        + &measures()
+        + ANSWER
+        + &fields()
+        + ORDER
+        + REFUSALS
+        + &refusals()
 }
 
 /// A row of a table. A bar within would end its cell.
@@ -124,9 +149,8 @@ fn rules() -> String {
             .to_string();
     for file in &FILE_TYPES {
         for entry in entries::of_file(file) {
-            if let Some(rule) = words::rule(file.number, entry.name.as_bytes()) {
-                let refusal = words::rule_refusal(file.number).to_string();
-                text += &row(&[file.ending, &entry.name, rule, &refusal]);
+            if let Some((refusal, rule)) = words::rule(file.number, entry.name.as_bytes()) {
+                text += &row(&[file.ending, &entry.name, &rule, &refusal.to_string()]);
             }
         }
     }
@@ -182,6 +206,12 @@ fn table(head: &[&str], rows: &[impl AsRef<[String]>]) -> String {
     });
     let rule = "|---".repeat(head.len());
     format!("\n{}{rule}|\n{}", row(head), rows.collect::<String>())
+}
+
+fn measures() -> String {
+    let rows = measure_tables::measures().into_iter();
+    rows.map(|cells| row(&cells.each_ref().map(String::as_str)))
+        .collect()
 }
 
 fn fields() -> String {

@@ -13,7 +13,7 @@ use crate::near::nearest;
 use crate::not_as_due::{correction, then_lacking, Correction};
 use crate::reasons::{doubtful, Looked};
 use crate::shown;
-use crate::table;
+use crate::table::{self, Given};
 use crate::unknown_day::{self, Zeros};
 use crate::words;
 
@@ -64,22 +64,12 @@ pub fn booking(refused: &Refused) -> Option<Finding> {
     })
 }
 
-/// A filled entry of the new booking.
-struct Given<'a> {
-    name: &'static str,
-    line: u32,
-    value: &'a [u8],
+/// `AC2 line 8: Alimentazione_1=..`.
+fn in_booking(given: &Given) -> String {
+    format!("AC2 {}", given.words())
 }
 
-impl Given<'_> {
-    /// `AC2 line 8: Alimentazione_1=..`.
-    fn words(&self) -> String {
-        let Given { name, line, value } = self;
-        format!("AC2 line {line}: {name}={}", shown::value(value))
-    }
-}
-
-/// Those of the entries that are filled and decide. Of those that the fuel hangs on, not all do.
+/// Those of the new booking's entries that are filled and decide. Of those that the fuel hangs on, not all do.
 fn deciding<'a>(refused: &Refused<'a>, names: &[&'static str]) -> Vec<Given<'a>> {
     let given = names.iter().filter_map(|name| {
         let (line, value) = filled(refused.case.text(AC2), AC2, name)?;
@@ -106,7 +96,7 @@ fn texts<'a>(given: &[Given<'a>]) -> Vec<(&'static str, &'a str)> {
 
 /// The values that decide, behind what is found.
 fn behind(deciding: &[Given]) -> String {
-    let hangs: Vec<String> = deciding.iter().map(Given::words).collect();
+    let hangs: Vec<String> = deciding.iter().map(in_booking).collect();
     match hangs.as_slice() {
         [] => String::new(),
         hangs => format!("; this hangs on {}", hangs.join(", ")),
@@ -135,8 +125,8 @@ fn no_fuel_fits(
         "{found}, and no value fits here: {} does not go with {} ({}, {}){}",
         shown::value(one.value),
         shown::value(other.value),
-        one.words(),
-        other.words(),
+        in_booking(one),
+        in_booking(other),
         how_zeros_count(zeros)
     );
     let in_vain = zeros.and_then(|zeros| zeros.in_vain);
@@ -244,11 +234,7 @@ pub fn difference(refused: &Refused) -> Option<Finding> {
         .filter(|(line, _)| *line != refused.refusal.line)
         .filter_map(|(line, entry)| {
             let (name, value) = shown::entry(entry)?;
-            Some(format!(
-                "line {line}: {}={}",
-                shown::bytes(name),
-                shown::value(value)
-            ))
+            Some(shown::entry_at(line, name, value))
         })
         .collect();
     let mut edits =

@@ -121,6 +121,29 @@ pub fn entry_on_line(text: &[u8], number: u32) -> Option<(&[u8], &[u8])> {
     entry(lines_from(text, number)?.next()?)
 }
 
+/// `line 23: Aderenza%Sx=..`.
+pub fn entry_at(line: u32, name: &[u8], found: &[u8]) -> String {
+    format!("line {line}: {}={}", bytes(name), value(found))
+}
+
+/// A day, ddmmyyyy, as dd/mm/yyyy.
+pub fn day(found: &[u8]) -> String {
+    match found {
+        [d, e, m, n, year @ ..] => bytes(&[&[*d, *e, b'/', *m, *n, b'/'], year].concat()),
+        _ => bytes(found),
+    }
+}
+
+/// How long a measure lasted (02, 5/14): `4 min 21 s`, hours and minutes only where there are any.
+pub fn length(seconds: u32) -> String {
+    let (minutes, rest) = (seconds / 60, seconds % 60);
+    match (minutes / 60, minutes % 60) {
+        (0, 0) => format!("{rest} s"),
+        (0, minutes) => format!("{minutes} min {rest} s"),
+        (hours, minutes) => format!("{hours} h {minutes} min {rest} s"),
+    }
+}
+
 /// The number of the line in which a byte stands.
 pub fn line_at(text: &[u8], place: usize) -> u32 {
     let before = text.iter().take(place).filter(|byte| **byte == b'\n');
@@ -167,4 +190,30 @@ pub fn names_compared(count: u64) -> String {
 pub fn counted(count: usize, what: &str) -> String {
     let ending = if count == 1 { "" } else { "s" };
     format!("{count} {what}{ending}")
+}
+
+#[cfg(test)]
+mod tests {
+    use super::{day, length};
+
+    #[test]
+    fn lengths_are_short() {
+        for (seconds, words) in [
+            (0, "0 s"),
+            (40, "40 s"),
+            (60, "1 min 0 s"),
+            (162, "2 min 42 s"),
+            (3599, "59 min 59 s"),
+            (3600, "1 h 0 min 0 s"),
+            (86_399, "23 h 59 min 59 s"),
+        ] {
+            assert_eq!(length(seconds), words);
+        }
+    }
+
+    #[test]
+    fn days_have_slashes() {
+        assert_eq!(day(b"01032027"), "01/03/2027");
+        assert_eq!(day(b"010"), "010");
+    }
 }

@@ -14,6 +14,20 @@ pub struct Entry {
     pub name: String,
 }
 
+/// An entry as it stands in a text.
+pub struct Given<'a> {
+    pub name: &'static str,
+    pub line: u32,
+    pub value: &'a [u8],
+}
+
+impl Given<'_> {
+    /// `line 8: Alimentazione_1=..`.
+    pub fn words(&self) -> String {
+        shown::entry_at(self.line, self.name.as_bytes(), self.value)
+    }
+}
+
 /// All sections of a file in table order, those of nine axles too. A file without a table has none.
 pub fn sections(file: u32) -> Vec<Section> {
     let mut sections: Vec<Section> = (0..)

@@ -1,8 +1,9 @@
 //! A DataPrimaImm with zeros, of which the day or the month is not known: how they count in the fuel of the old booking
 //! (02, 3/14). Whether a value fails by them is found by trial.
 
-use crate::booking_tables::{fuels, fuels_with, Values};
+use crate::booking_tables::{fuels, fuels_with};
 use crate::candidates;
+use crate::made_up::Values;
 use crate::near::nearest;
 
 const ENTRY: &str = "DataPrimaImm";

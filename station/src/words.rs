@@ -1,12 +1,13 @@
 //! What each refusal means and what to do, in plain words.
 
-use crate::file_types::{by_number, numbers_and_titles, FILE_TYPES};
+use crate::file_types::{by_number, numbers_and_titles, FILE_TYPES, SUSPENSION};
 use crate::identification;
+use crate::out_of_date::{self, OUT_OF_DATE};
 use crate::page::labelled;
 use crate::reasons;
 
 /// The last number of a refusal.
-pub const LAST: u32 = 18;
+pub const LAST: u32 = 19;
 
 /// All that is said of refusals with this number.
 pub fn page(number: u32) -> String {
@@ -21,6 +22,7 @@ pub fn page(number: u32) -> String {
             .map(|file| format!("{}: {}", file.title, reasons::when_given(file.number)))
             .collect(),
         12 => booking_rules(),
+        19 => out_of_date::rules(),
         _ => Vec::new(),
     };
     for rule in rules {
@@ -46,7 +48,7 @@ fn calls(number: u32) -> &'static str {
     match number {
         1 => "in every call with places; never from this program, which lends enough",
         14 => "in judging a set, and in reading an identification answer alone (`mctc judge`, `mctc read`)",
-        2 | 12 | 13 | 15 => "in judging a set (`mctc judge`)",
+        2 | 12 | 13 | 15 | 19 => "in judging a set (`mctc judge`)",
         3..=8 => "in judging a set and in reading a file alone (`mctc judge`, `mctc due`, `mctc read`, `mctc format`)",
         9 => {
             "in judging a set, in reading a file alone and in writing one (`mctc judge`, `mctc due`, `mctc read`, \
@@ -84,6 +86,7 @@ pub fn meaning(number: u32) -> &'static str {
         16 => "there is no such file, or it has no entries",
         17 => "a value lies outside the text",
         18 => "the output is too short",
+        19 => "a device is out of date on the day on which the measure ends",
         _ => "the library refuses with a number that this program does not know",
     }
 }
@@ -134,6 +137,10 @@ fn fixed_advice(number: u32) -> &'static str {
                seven values), the checksum as two capital hexadecimal digits, 03 hex; at most 512 bytes",
         17 => "lend the places that reading this text gave",
         18 => "lend an output as long as the text that was read",
+        19 => {
+            "correct the due date if it is not the one on the device's certificate, or DataMisura, InizioMisura or \
+             FineMisura if one of them is wrong; else have the measure made again with a device in date"
+        }
         _ => "report this to whoever maintains the program",
     }
 }
@@ -154,20 +161,18 @@ fn booking_rules() -> Vec<String> {
         .collect()
 }
 
-/// The rule at an entry, which its line is refused by.
-pub fn rule(file: u32, entry: &[u8]) -> Option<&'static str> {
-    match (file, entry) {
-        (4, b"Differenza%") => Some("the larger of Aderenza%Sx and Aderenza%Dx less the smaller"),
-        _ => booking_rule(file, entry),
-    }
+/// The rule at an entry, with the number that its line is refused with.
+pub fn rule(file: u32, entry: &[u8]) -> Option<(u32, String)> {
+    let fixed = |number: u32, rule: Option<&str>| Some((number, rule?.to_string()));
+    fixed(12, booking_rule(file, entry))
+        .or_else(|| fixed(13, grip_rule(file, entry)))
+        .or_else(|| Some((OUT_OF_DATE, out_of_date::rule(file, entry)?)))
 }
 
-/// The refusal of a file whose rules are broken.
-pub fn rule_refusal(file: u32) -> u32 {
-    match file {
-        1 | 2 => 12,
-        _ => 13,
-    }
+/// 01, Results: the rule at an entry of a suspension axle.
+fn grip_rule(file: u32, entry: &[u8]) -> Option<&'static str> {
+    (file == SUSPENSION && entry == b"Differenza%")
+        .then_some("the larger of Aderenza%Sx and Aderenza%Dx less the smaller")
 }
 
 /// 01, Bookings: the rule at an entry of a booking.

@@ -53,7 +53,7 @@ pub struct Set<'a> {
 /// Why a call was refused.
 #[derive(Clone, Copy, Debug, PartialEq, Eq)]
 pub struct Refusal {
-    /// 1 to 18, as in document 01.
+    /// 1 to 18, as in document 01; 19, a device that is out of date (document 02, 5/14).
     pub number: u32,
     /// 0 for none.
     pub file: u32,
@@ -70,8 +70,8 @@ impl fmt::Display for Refusal {
 
 impl std::error::Error for Refusal {}
 
-/// What the acceptance of a set carries. The default is that of a set whose result files are all not given, but for
-/// `names_compared`, which is never 0 in an accepted set.
+/// What the acceptance of a set carries. The default is that of a set of bookings alone, but for `names_compared`, which
+/// is never 0 in an accepted set.
 #[derive(Clone, Copy, Debug, Default, PartialEq, Eq)]
 pub struct Acceptance {
     /// 0 where drift is not given.
@@ -90,6 +90,13 @@ pub struct Acceptance {
     /// tried, in table order, until its own was found. A section of n entries adds 1 + 2 + .. + n in any order of its
     /// lines, so that this hangs only on which files were read and how many axles they have.
     pub names_compared: u32,
+    /// How long the measures of drift, suspension, gas and opacity lasted, from InizioMisura to FineMisura: 0 to 86,399
+    /// seconds, over midnight where FineMisura is below InizioMisura. 0 too where the file is not given. No length is
+    /// refused.
+    pub drift_seconds: u32,
+    pub suspension_seconds: u32,
+    pub gas_seconds: u32,
+    pub opacity_seconds: u32,
 }
 
 /// What the acceptance of a file read alone carries.
@@ -409,8 +416,9 @@ fn group_at(groups: &mut Vec<Vec<Reason>>, number: usize) -> &mut Vec<Reason> {
 /// Judges a whole set; the places have the pairs of all files that were read.
 pub fn judge(set: &Set, places: &mut Places) -> Result<Acceptance, Refusal> {
     answered(|answer| lent::judge(set, &mut places.0, answer)).map(|values| {
-        let [drift_axles, suspension_axles, drift, suspension, gas, opacity, _, names_compared, ..] =
-            values;
+        let [drift_axles, suspension_axles, drift, suspension, gas, opacity, rest @ ..] = values;
+        let [_, names_compared, seconds @ ..] = rest;
+        let [drift_seconds, suspension_seconds, gas_seconds, opacity_seconds, _] = seconds;
         Acceptance {
             drift_axles,
             suspension_axles,
@@ -420,6 +428,10 @@ pub fn judge(set: &Set, places: &mut Places) -> Result<Acceptance, Refusal> {
             opacity_mark: opacity == 1,
             idle_by_hand: idle_by_hand(&values),
             names_compared,
+            drift_seconds,
+            suspension_seconds,
+            gas_seconds,
+            opacity_seconds,
         }
     })
 }

@@ -37,6 +37,10 @@ fn a_set_is_judged() {
         opacity_mark: false,
         idle_by_hand: false,
         names_compared: 78 + 139,
+        drift_seconds: 2 * 60 + 42,
+        suspension_seconds: 0,
+        gas_seconds: 0,
+        opacity_seconds: 0,
     };
     assert_eq!(mctc::judge(&set, &mut places), Ok(acceptance));
     let third = places.value(3, 18).expect("the third axle");
@@ -103,6 +107,7 @@ fn a_diesel_is_judged_with_its_opacity() {
     let mut places = Places::default();
     let unmarked = Acceptance {
         names_compared: 78 + 1540,
+        opacity_seconds: 8 * 60 + 28,
         ..Acceptance::default()
     };
     assert_eq!(diesel(&opacity, &mut places), Ok(unmarked));
@@ -187,6 +192,9 @@ fn a_set_says_whether_its_idle_speed_was_entered_by_hand() {
         drift_axles: 2,
         suspension_axles: 2,
         names_compared: 1494,
+        drift_seconds: 2 * 60 + 42,
+        suspension_seconds: 4 * 60 + 21,
+        gas_seconds: 6 * 60 + 43,
         ..Acceptance::default()
     };
     let by_hand = Acceptance {
@@ -216,8 +224,8 @@ fn a_file_says_whether_its_idle_speed_was_entered_by_hand() {
     }
 }
 
-/// Of a sample's set, whose files stand under this stem, with endings in capitals.
-fn names_compared(stem: &str) -> u32 {
+/// A sample's set, whose files stand under this stem, with endings in capitals.
+fn judged(stem: &str) -> Result<Acceptance, Refusal> {
     let [ac2, acc, drift, suspension, gas, identification, opacity] =
         ["AC2", "ACC", "DER", "SOS", "GAS", "ID", "OPA"]
             .map(|ending| fs::read(samples().join(format!("{stem}.{ending}"))).unwrap_or_default());
@@ -232,8 +240,11 @@ fn names_compared(stem: &str) -> u32 {
         identification: &identification,
         opacity: &opacity,
     };
-    let acceptance = mctc::judge(&set, &mut Places::default());
-    acceptance.expect("it is accepted").names_compared
+    mctc::judge(&set, &mut Places::default())
+}
+
+fn accepted(stem: &str) -> Acceptance {
+    judged(stem).expect("it is accepted")
 }
 
 /// The lines of the car and of the diesel's opacity stand in an order of their own.
@@ -254,7 +265,39 @@ fn a_set_says_how_many_names_were_compared() {
         ("accepted-moped/AD900123", new_booking + gas),
     ];
     for (stem, right) in right {
-        assert_eq!(names_compared(stem), right, "{stem}");
+        assert_eq!(accepted(stem).names_compared, right, "{stem}");
+    }
+}
+
+#[test]
+fn a_set_says_how_long_its_measures_lasted() {
+    let right = [
+        ("accepted-car/AA123456", [162, 261, 403, 0]),
+        ("accepted-diesel/AE305518", [95, 212, 0, 508]),
+        ("accepted-moped/AD900123", [0, 0, 403, 0]),
+        // Its drift went over midnight.
+        ("accepted-midnight/AG280227", [40, 0, 0, 527]),
+    ];
+    for (stem, right) in right {
+        let acceptance = accepted(stem);
+        let seconds = [
+            acceptance.drift_seconds,
+            acceptance.suspension_seconds,
+            acceptance.gas_seconds,
+            acceptance.opacity_seconds,
+        ];
+        assert_eq!(seconds, right, "{stem}");
+    }
+}
+
+#[test]
+fn a_device_out_of_date_is_refused_at_its_due_date() {
+    let right = [
+        ("refused-19/AB120019", refusal(19, 5, 10)),
+        ("refused-19-midnight/AB121919", refusal(19, 3, 7)),
+    ];
+    for (stem, right) in right {
+        assert_eq!(judged(stem), Err(right), "{stem}");
     }
 }
 

@@ -17,6 +17,7 @@ use Rattle.rules.specs.declared.Stated.{Stated}
 use Rattle.sets.specs.Records.{is_given}
 use Rattle.sets.specs.Judge.{FileRead, not_read, judge_file}
 use Rattle.files.proofs.ByHand.{unread-by-hand}
+use Rattle.rules.proofs.DueDates.{no-seconds}
 use Rattle.judge.specs.Steps.{file_numbered, no_figures, FileReady, JudgesFile, text_judged, file_judged}
 use Rattle.std.specs.Prelude.{Result, Ok, Err}
 use Rattle.refusals.specs.declared.Refusal.{Refusal}
@@ -49,7 +50,7 @@ module _ {file : ℕ} {b : Booking} {s p : List ℕ} (d : FileReady file b s p) 
   module _ (r : Bool) (e : r ≡ of_number true (λ f. slice_right f stated b (is_given t)) file) (q : r ≡ true) (u : Bool) (eu : u ≡ of_number (is_given t) (λ f. is_read f b (is_given t)) file) where
     pub file-unread : u ≡ false → JudgesFile f (file_judged file stated s t p) (Ok no_figures) p p
     unfolding set_pairs is_marked
-    file-unread k = (not_read, chain true false (right_is r true e q) (read_is u false eu k), rw (unread-by-hand f) refl, refl)
+    file-unread k = (not_read, chain true false (right_is r true e q) (read_is u false eu k), rw (unread-by-hand f, no-seconds f) refl, refl)
 
     pub file-read : u ≡ true → (y : Result Figures Refusal) (v : List ℕ) → JudgesFile f (text_judged file s t p) y p v → JudgesFile f (file_judged file stated s t p) y p v
     file-read k y v w = subst (λ (x : Answer FileRead). JudgesFile f x y p v) (sym (chain true true (right_is r true e q) (read_is u true eu k))) w

@@ -30,6 +30,8 @@ use Rattle.tables.specs.Value.{pairs_of, values_of, NumberHeld}
 use Rattle.due.specs.Values.{new_values}
 use Rattle.rules.specs.declared.BrokenRule.{BrokenRule}
 use Rattle.tables.proofs.Values.{held_number, fixed_held}
+use Rattle.calendar.specs.declared.Measure.{Measure}
+use Rattle.rules.specs.Devices.{measure_at}
 use Rattle.sets.specs.Judge.{check_rule, checked_file, first_failed, figures_from}
 use Rattle.judge.specs.Steps.{file_numbered, IsNumber, ValuesReady, read_at, values_step, JudgesValues}
 use Rattle.sets.specs.declared.Figures as K
@@ -70,11 +72,15 @@ module _ {file c names : ℕ} {b : Booking} {s t p ls : List ℕ} (w : ValuesRea
   number-held {m} e =
       (w.own.0, rw (by-file file w.number 0 first_pair, by-file file w.number 0 (λ f. length (entries f m)), e) w.own.1)
 
-  pub figures-ready : {k : ℕ} → k ≡ of_number 0 (λ f. length (fixed_sections f)) file → IsNumber file × (c - k ≤ most_axles) × (names < 2 ^ 32) × NumberHeld file (c - k) t p
-  figures-ready e = let q = axles-are e in (w.number, omega (arith, q, w.few), w.compared-fits, number-held q)
+  pub measure-ready : {k : ℕ} → k ≡ of_number 0 (λ f. length (fixed_sections f)) file → (c - k ≤ most_axles) × NumberHeld file (c - k) t p
+  measure-ready e = let q = axles-are e in (omega (arith, q, w.few), number-held q)
 
-  pub broken-ready : {k : ℕ} → k ≡ of_number 0 (λ f. length (fixed_sections f)) file → (c - k ≤ most_axles) × Says s p b × NumberHeld file (c - k) t p
-  broken-ready e = let q = axles-are e in (omega (arith, q, w.few), w.says, number-held q)
+  module _ {k : ℕ} (e : k ≡ of_number 0 (λ f. length (fixed_sections f)) file) {x : Measure} (m : x ≡ measure_at file (c - k) t p) where
+    pub broken-ready : (c - k ≤ most_axles) × Says s p b × NumberHeld file (c - k) t p × (x.lastday ≡ (measure_at file (c - k) t p).lastday)
+    broken-ready = let r = measure-ready e in (r.0, w.says, r.1, ap (λ (y : Measure). y.lastday) m)
+
+    pub figures-ready : IsNumber file × (c - k ≤ most_axles) × (names < 2 ^ 32) × NumberHeld file (c - k) t p × (x.seconds ≡ (measure_at file (c - k) t p).seconds)
+    figures-ready = let r = measure-ready e in (w.number, r.0, w.compared-fits, r.1, ap (λ (y : Measure). y.seconds) m)
 
   due-failed : ltb (first_not_as_due f conditions vs) (length vs) ≡ true → values_step f c s t p ls ≡ refusal 10 (file_number f) (get_or (take size ls) (first_not_as_due f conditions vs) 0)
   due-failed q = rw q refl
@@ -122,7 +128,7 @@ module _ {file c names : ℕ} {b : Booking} {s t p ls : List ℕ} (w : ValuesRea
             due-failed (lt-ltb (first_not_as_due f conditions vs) (length vs) (omega (arith, many, count-is, o.0, o.1)))
             ∙ ap₂ (λ (x y : ℕ). refusal 10 x y) w.number (sym (el ∙ ap₂ (λ (x y : ℕ). get_or (take x ls) y 0) count-is o.0))
 
-        -- then 12 or 13
+        -- then 19, 12 or 13
         module _ (o : x ≡ None) {m : ℕ} (em : m ≡ of_number 0 (λ f. length (fixed_sections f)) file) {r : RuleCheck} (er : r ≡ of_number (Ok tt) (λ f. first_broken_at f (c - m) s t p) file) where
           rule-is : first_broken f (rules_of f (new_values s p) vs n) ≡ r
           rule-is = sym (er ∙ by-file file w.number (Ok tt) (λ f. first_broken_at f (c - m) s t p) ∙ ap (λ (k : ℕ). first_broken_at f k s t p) (axles-are em))

@@ -34,7 +34,7 @@ abbrev pub figures_of : File → FileRead → Figures
 figures_of f g = figures_from f g.axles g.values g.compared
 
 abbrev pub no_figures : Figures
-no_figures = record { axles = 0; mark = false; byhand = false; compared = 0 }
+no_figures = record { axles = 0; mark = false; byhand = false; compared = 0; seconds = 0 }
 
 -- ---- one file
 
@@ -63,7 +63,7 @@ pub record ValuesReady (file c k : ℕ) (b : Booking) (s t p ls : List ℕ) : Ty
 abbrev pub read_at : File → ℕ → List ℕ → List ℕ → FileRead
 read_at f c t p = file_read f t c (pairs_of f (axles_of f c) p)
 
--- all of 10, then 12 or 13, of a file of c sections whose pairs are in the places and whose lines are the first of ls
+-- all of 10, then 19, 12 or 13, of a file of c sections whose pairs are in the places and whose lines are the first of ls
 abbrev pub values_step : File → ℕ → List ℕ → List ℕ → List ℕ → List ℕ → Answer FileRead
 values_step f c s t p ls =
     checked_file f (read_at f c t p) (take (length (entries f (axles_of f c))) ls)

@@ -5,6 +5,7 @@ ghost use Rattle.std.specs.Prelude.{◌≡◌, ◌≤◌, ◌<◌, ◌^◌, leng
 ghost use Rattle.tables.specs.File.{ac2 as booking_file, files, most_axles, least_places};
 ghost use Rattle.tables.specs.Row.{most_rows};
 ghost use Rattle.tables.specs.Value.{values_of, NumberHeld};
+ghost use Rattle.rules.specs.Devices.{measure_at};
 ghost use Rattle.rules.specs.Rules.{Says};
 ghost use Rattle.sets.specs.Records.{caller_of, each_file};
 ghost use Rattle.sets.specs.Judge.{figures_from, acceptance_with, judge_text, judge_booking, judge_slices};
@@ -37,6 +38,7 @@ const NO_FIGURES: Figures = Figures {
     mark: false,
     byhand: false,
     compared: 0,
+    seconds: 0,
 };
 
 // AC2 that passed: what its values say, for all slices after it, and its figures.
@@ -53,9 +55,17 @@ fn line_of(lines: &[u32], entry: usize) -> u32
     lines.get(entry).copied().unwrap_or(0)
 }
 
-// The figures of a file whose pairs are in the places; `compared` counts the entry names compared to read it.
-fn figures_of(file: u32, axles: usize, compared: usize, own: PlacedText<'_>) -> Figures
-    requires { IsNumber file × (axles ≤ most_axles) × (compared < 2 ^ 32) × NumberHeld file axles own.text.now own.places.now }
+// The figures of a file whose pairs are in the places; `compared` counts the entry names compared to read it,
+// `seconds` those of its measure.
+fn figures_of(
+    file: u32,
+    axles: usize,
+    compared: usize,
+    seconds: u32,
+    own: PlacedText<'_>,
+) -> Figures
+    requires { IsNumber file × (axles ≤ most_axles) × (compared < 2 ^ 32) × NumberHeld file axles own.text.now own.places.now
+        × (seconds ≡ (measure_at file axles own.text.now own.places.now).seconds) }
     ensures { result ≡ figures_from (file_numbered file) axles
         (values_of (file_numbered file) axles own.entry.text.now own.entry.places.now) compared }
 {
@@ -64,10 +74,11 @@ fn figures_of(file: u32, axles: usize, compared: usize, own: PlacedText<'_>) -> 
         mark: rules::is_marked(file, axles, own),
         byhand: files::is_by_hand(file, axles, own),
         compared: compared as u32,
+        seconds,
     }
 }
 
-// All of 10, then 12 or 13, of a file whose pairs are in the places, with the lines of its entries.
+// All of 10, then 19, 12 or 13, of a file whose pairs are in the places, with the lines of its entries.
 fn judge_values(
     file: u32,
     read: TextRead,
@@ -91,13 +102,14 @@ fn judge_values(
         });
     }
     let axles = read.sections - tables::fixed_section_count(file);
-    match rules::first_broken(file, axles, new, own) {
+    let measure = rules::measure_of(file, axles, own);
+    match rules::first_broken(file, axles, new, own, measure.lastday) {
         Err(x) => Err(Refusal {
             kind: x.kind,
             file,
             line: line_of(&lines[..count], x.entry),
         }),
-        Ok(()) => Ok(figures_of(file, axles, read.compared, own)),
+        Ok(()) => Ok(figures_of(file, axles, read.compared, measure.seconds, own)),
     }
 }
 
@@ -238,6 +250,10 @@ fn acceptance_with(
         gasbyhand: gas.byhand,
         opacitymark: opacity.mark,
         compared: bookings + results,
+        driftseconds: drift.seconds,
+        suspensionseconds: suspension.seconds,
+        gasseconds: gas.seconds,
+        opacityseconds: opacity.seconds,
     }
 }
 

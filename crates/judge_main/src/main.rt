@@ -68,7 +68,7 @@ fn print_answer(out: &mut impl Write, answer: Result<Acceptance, Refusal>) -> io
     match answer {
         Ok(a) => write!(
             out,
-            "A {} {} {} {} {} {} {} {}",
+            "A {} {} {} {} {} {} {} {} {} {} {} {}",
             a.driftaxles,
             a.suspensionaxles,
             u8::from(a.driftmark),
@@ -77,6 +77,10 @@ fn print_answer(out: &mut impl Write, answer: Result<Acceptance, Refusal>) -> io
             u8::from(a.opacitymark),
             u8::from(a.gasbyhand),
             a.compared,
+            a.driftseconds,
+            a.suspensionseconds,
+            a.gasseconds,
+            a.opacityseconds,
         ),
         Err(x) => write!(out, "R {} {} {}", u32::from(x.kind), x.file, x.line),
     }

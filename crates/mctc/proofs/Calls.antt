@@ -15,12 +15,11 @@ use Rattle.writing.specs.ReadBack.{IsReadBack}
 use Rattle.writing.proofs.Theorem.{reads-back}
 use Rattle.writing.specs.declared.WriteAcceptance.{WriteAcceptance}
 use Rattle.mctc.specs.Answers.{answer_size, answered, write_numbers, set_numbers, Filled}
-use Rattle.mctc.specs.Calls.{WriteCall, returned, answer_after, where_fits, JudgeCall}
+use Rattle.mctc.specs.Calls.{WriteCall, returned, answer_after, where_fits, SetFilled, JudgeCall}
 use mathlib.Core.Logic.{◌↔◌}
 use Rattle.sets.specs.Records.{Caller, Slices}
 use Rattle.sets.specs.declared.Acceptance.{Acceptance}
 use Rattle.sets.specs.Demand3.{IsAccepted, Demand3}
-use Rattle.judge.specs.Judged.{SetJudged}
 
 module _ (s p : List ℕ) (file n : ℕ) (o t a b : List ℕ) (r : ℕ) where
   -- 0 as the returned number is an acceptance, which carries the file's length
@@ -53,8 +52,11 @@ zero-accepts (Err x) r e = (λ z. absurd (omega (arith, not-zero x.kind)), λ z.
 
 -- a judged set whose answer stands in the first numbers m of an array a that is long enough is what the call promises
 module _ (a m : List ℕ) (r : ℕ) (l : answer_size ≤ length a) where
-  pub judge-done : (caller : Caller) (s : Slices) (p q : List ℕ) (x : Result Acceptance Refusal) → SetJudged caller s p q x → Filled (set_numbers (answer_is x)) m r → JudgeCall caller s p q a (m ++ drop answer_size a) r
-  judge-done caller s p q x h f =
+  pub judge-done : (caller : Caller) (s : Slices) (p q : List ℕ) → SetFilled caller s p q m r → JudgeCall caller s p q a (m ++ drop answer_size a) r
+  judge-done caller s p q w =
+      let x = w.given in
+      let h = w.judged in
+      let f = w.filled in
       let t = le-leb answer_size (length a) l in
       let g = subst (λ (y : Answer Acceptance). Filled (set_numbers y) m r) h.answer f in
       let z = zero-accepts x r f.number in
@@ -64,6 +66,6 @@ module _ (a m : List ℕ) (r : ℕ) (l : answer_size ≤ length a) where
         answer = rw t (ap (λ (y : List ℕ). y ++ drop answer_size a) g.answer);
         places = rw t h.places;
         demand3 = λ k. subst (λ (y : Answer Acceptance). Demand3 caller s p y q) h.answer h.demand3;
-        accepted = (λ e. let w = h.demand3.exactly.0 (z.0 e) in (l, w.0, w.1, w.2), λ w. z.1 (h.demand3.exactly.1 (w.1, w.2, w.3)));
+        accepted = (λ e. let d = h.demand3.exactly.0 (z.0 e) in (l, d.0, d.1, d.2), λ d. z.1 (h.demand3.exactly.1 (d.1, d.2, d.3)));
         leaves = record { zero = λ n. v.zero (λ k. n.1 (z.1 k)); short = v.short; beyond = v.beyond; same_length = v.same_length };
       }

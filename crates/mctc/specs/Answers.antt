@@ -71,7 +71,8 @@ abbrev pub due_numbers : Answer ColumnAcceptance → List ℕ
 due_numbers = numbers_of due_carried
 
 -- a judged set (01, Judging): "two axle counts .. and a mark per result file", in number 8 opacity's (02, 2/14); in number 9 whether
--- gas's idle speed was entered by hand (02, 1/14), in number 10 the number of entry names compared (02, 4/14)
+-- gas's idle speed was entered by hand (02, 1/14), in number 10 the number of entry names compared (02, 4/14), in numbers 11 to 14
+-- "the length for each result file" (02, 5/14)
 abbrev pub set_carried : Acceptance → List ℕ
 set_carried a =
     a.driftaxles ∷
@@ -82,6 +83,10 @@ set_carried a =
     mark_number a.opacitymark ∷
     mark_number a.gasbyhand ∷
     a.compared ∷
+    a.driftseconds ∷
+    a.suspensionseconds ∷
+    a.gasseconds ∷
+    a.opacityseconds ∷
     []
 
 abbrev pub set_numbers : Answer Acceptance → List ℕ

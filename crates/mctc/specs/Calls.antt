@@ -1,5 +1,5 @@
 -- What each exported function promises, for an answer array of any length: the returned number, and every lent array after the call.
-use Rattle.std.specs.Prelude.{ℕ, ◌<◌, ◌≤◌, ◌≡◌, ◌↔◌, true, cond, List, ◌++◌, leb, length, get_or, take, drop}
+use Rattle.std.specs.Prelude.{ℕ, ◌<◌, ◌≤◌, ◌≡◌, ◌↔◌, true, cond, List, ◌++◌, leb, length, get_or, take, drop, Result}
 use Rattle.std.specs.Borrow.{MutBor}
 use Rattle.std.specs.Fn.{CalledAtMut, Mut}
 use Rattle.std.proofs.Math.Option.{Option}
@@ -14,9 +14,13 @@ use Rattle.rules.specs.Slices.{good_stem}
 use Rattle.sets.specs.Records.{Caller, Slices}
 use Rattle.sets.specs.Judge.{judge}
 use Rattle.sets.specs.Demand3.{HasRecord, Demand3, Leaves}
+use Rattle.sets.specs.declared.Acceptance.{Acceptance}
+use Rattle.judge.specs.Judged.{SetJudged}
+use Rattle.refusals.specs.Answer.{answer_is}
+use Rattle.refusals.specs.declared.Refusal.{Refusal}
 use Rattle.columns.specs.Column as C
 use Rattle.columns.specs.Column.{due_column, places_of, column_after}
-use Rattle.mctc.specs.Answers.{answer_size, answered, read_numbers, write_numbers, name_numbers, kind_numbers, set_numbers, due_numbers}
+use Rattle.mctc.specs.Answers.{answer_size, answered, read_numbers, write_numbers, name_numbers, kind_numbers, set_numbers, due_numbers, Filled}
 
 -- what a call answers where the answer array is too short: the largest number, which no refusal has
 abbrev pub too_short : ℕ
@@ -68,6 +72,12 @@ pub record AskCall (ns a b : List ℕ) (r : ℕ) : Type 0 where
 -- the kind x of an entry in numbers (01, Kinds of value), `entry_kind` (`names` Names) of the file and a number
 abbrev pub KindCall : ℕ → Option Kind → List ℕ → List ℕ → ℕ → Type 0
 KindCall file x a b r = AskCall (kind_numbers (N.kind_answer_of file x)) a b r
+
+-- for the contract of the code: a set was judged, and its answer stands in the numbers m, of which r is the first
+pub record SetFilled (caller : Caller) (s : Slices) (p q m : List ℕ) (r : ℕ) : Type 0 where
+  pub given : Result Acceptance Refusal
+  pub judged : SetJudged caller s p q given
+  pub filled : Filled (set_numbers (answer_is given)) m r
 
 -- a set of these slices judged (01, Judging: "The answer and places equal one definition over the inputs")
 pub record JudgeCall (caller : Caller) (s : Slices) (p q a b : List ℕ) (r : ℕ) : Type 0 where

@@ -10,7 +10,8 @@ ghost use Rattle.refusals.specs.Answer.{answer_is};
 ghost use Rattle.names.specs.Names as N;
 ghost use Rattle.sets.specs.Records.{caller_of, slices_of};
 ghost use Rattle.mctc.specs.Answers.{refusal_numbers, numbers_of, read_carried, write_carried, name_carried, kind_carried, set_carried, due_carried, Room, Filled};
-ghost use Rattle.mctc.specs.Calls.{AnsweredBy, ReadCall, WriteCall, NameCall, KindCall, JudgeCall, DueCall};
+ghost use Rattle.mctc.specs.Calls.{AnsweredBy, ReadCall, WriteCall, NameCall, KindCall, SetFilled, JudgeCall, DueCall};
+ghost use Rattle.judge.specs.Judged.{slices_in};
 
 use columns::ColumnAcceptance;
 use files::FileAcceptance;
@@ -100,6 +101,10 @@ impl Carries for Acceptance {
                 opacity,
                 byhand,
                 self.compared,
+                self.driftseconds,
+                self.suspensionseconds,
+                self.gasseconds,
+                self.opacityseconds,
             ],
         )
     }
@@ -185,7 +190,10 @@ pub fn mctc_judge(
     };
     answered(
         answer,
-        &mut |numbers| { fill_answer(numbers, judge::judge_set(stem, &slices, places)) },
+        &mut |numbers|
+            ensures { SetFilled (caller_of stem.entry.now) (slices_in slices.entry)
+                places.entry.now places.exit.now numbers.new result }
+        { fill_answer(numbers, judge::judge_set(stem, &slices, places)) },
     )
 }
 

@@ -1,10 +1,10 @@
--- Refusals (01, Judging: the table), and their numbers.
+-- Refusals (01, Judging: the table; 02), and their numbers.
 use Rattle.std.specs.Prelude.{ℕ}
 use Rattle.refusals.specs.declared.Refusal.{Refusal}
 use Rattle.refusals.specs.declared.RefusalKind.{RefusalKind}
-use Rattle.refusals.specs.declared.RefusalKind.TheVariants.{PlacesTooShort, StemForm, FileTooLong, LineForm, HeadingNotExpected, EntryNotExpected, SectionAbsent, EntryAbsent, WrongKind, NotAsDue, SliceNotAsDue, BookingRule, DifferenceRule, IdentificationForm, IdentificationDiffers, FileOrAxles, PairOutside, OutputTooShort}
+use Rattle.refusals.specs.declared.RefusalKind.TheVariants.{PlacesTooShort, StemForm, FileTooLong, LineForm, HeadingNotExpected, EntryNotExpected, SectionAbsent, EntryAbsent, WrongKind, NotAsDue, SliceNotAsDue, BookingRule, DifferenceRule, IdentificationForm, IdentificationDiffers, FileOrAxles, PairOutside, OutputTooShort, DeviceOutOfDate}
 
--- document 01's number for each case
+-- the number for each case: document 01's, and from 19 on document 02's
 abbrev pub number_of : RefusalKind → ℕ
 -- places too short
 number_of PlacesTooShort = 1
@@ -42,6 +42,8 @@ number_of FileOrAxles = 16
 number_of PairOutside = 17
 -- output too short
 number_of OutputTooShort = 18
+-- 02, 5/14: device out of date
+number_of DeviceOutOfDate = 19
 
 -- the code's refusal of this kind, with file and line
 abbrev pub refusal_with : RefusalKind → ℕ → ℕ → Refusal

@@ -1,10 +1,10 @@
-// Refusals (01, Judging): a kind for each row of the table, with file and line.
+// Refusals (01, Judging; 02): a kind for each row of the table, with file and line.
 #![tactic(auto)]
 
 ghost use Rattle.std.specs.Prelude.{◌≡◌};
 ghost use Rattle.refusals.specs.Refusals.{number_of};
 
-// The rows of the table, in its order.
+// The rows of the table, in its order; then those of document 02.
 #[derive(Debug, PartialEq, Eq, Clone, Copy)]
 pub enum RefusalKind {
     PlacesTooShort,
@@ -25,6 +25,7 @@ pub enum RefusalKind {
     FileOrAxles,
     PairOutside,
     OutputTooShort,
+    DeviceOutOfDate,
 }
 
 #[derive(Debug, PartialEq, Eq, Clone, Copy)]
@@ -34,7 +35,7 @@ pub struct Refusal {
     pub line: u32,
 }
 
-// Document 01's number of a refusal.
+// Its number in document 01 or 02.
 impl From<RefusalKind> for u32 {
     ghost from_gives = { λ kind n. n ≡ number_of kind };
 
@@ -58,6 +59,7 @@ impl From<RefusalKind> for u32 {
             RefusalKind::FileOrAxles => 16,
             RefusalKind::PairOutside => 17,
             RefusalKind::OutputTooShort => 18,
+            RefusalKind::DeviceOutOfDate => 19,
         }
     }
 }

@@ -1,7 +1,9 @@
 pub mod Tests
 pub mod Categories
 pub mod Rules
+pub mod Names
+pub mod DueDates
+pub mod InDate
 pub mod FuelDates
 pub mod Laws
-pub mod Names
 pub mod Samples

@@ -21,7 +21,7 @@ use Rattle.due.specs.declared.Fuel.TheVariants.{Petrol, Diesel, OtherFuel}
 use Rattle.rules.specs.Rule.{broken, first_broken}
 use Rattle.rules.specs.Bookings.{type_of, type_is, parking_brake_fits, new_rules, descriptions_of, descriptions, year_fits, fuel_fits_by, fuel_fits, petrol_fits, petrol_word, directive_of, period_of, diesel_fits, old_brake_fits, parking_axles_fit, old_rules}
 use Rattle.rules.specs.Differences.{difference_fits, differences_from}
-use Rattle.rules.specs.Rules.{rules_of}
+use Rattle.rules.specs.Rules.{other_rules}
 use Rattle.rules.specs.Identification.{seven_of}
 use Rattle.rules.specs.Marks.{is_marked}
 use Rattle.std.specs.Prelude.{Ok}
@@ -106,28 +106,28 @@ difference-end t p n i h =
 -- ---- bookings have no axles
 
 module _ (t p : List ℕ) (a : List (List ℕ)) (n : ℕ) where
-  pub new-rules : first_broken ac2 (rules_of ac2 a (values_of ac2 n t p) n) ≡ first_broken ac2 (new_rules a)
-  unfolding rules_of
+  pub new-rules : first_broken ac2 (other_rules ac2 a (values_of ac2 n t p) n) ≡ first_broken ac2 (new_rules a)
+  unfolding other_rules
   new-rules = refl
 
-  pub old-rules : first_broken acc (rules_of acc a (values_of acc n t p) n) ≡ first_broken acc (old_rules a (values_of acc 0 t p))
-  unfolding rules_of entries sections fixed_sections axle_sections entries_of
+  pub old-rules : first_broken acc (other_rules acc a (values_of acc n t p) n) ≡ first_broken acc (old_rules a (values_of acc 0 t p))
+  unfolding other_rules entries sections fixed_sections axle_sections entries_of
   old-rules = refl
 
-  pub axle-rules : first_broken suspension (rules_of suspension a (values_of suspension n t p) n) ≡ first_broken suspension (differences_from (values_of suspension n t p) 0 n)
-  unfolding rules_of
+  pub axle-rules : first_broken suspension (other_rules suspension a (values_of suspension n t p) n) ≡ first_broken suspension (differences_from (values_of suspension n t p) 0 n)
+  unfolding other_rules
   axle-rules = refl
 
-  pub drift-rules : first_broken drift (rules_of drift a (values_of drift n t p) n) ≡ (Ok tt)
-  unfolding rules_of first_broken
+  pub drift-rules : first_broken drift (other_rules drift a (values_of drift n t p) n) ≡ (Ok tt)
+  unfolding other_rules first_broken
   drift-rules = refl
 
-  pub gas-rules : first_broken gas (rules_of gas a (values_of gas n t p) n) ≡ (Ok tt)
-  unfolding rules_of first_broken
+  pub gas-rules : first_broken gas (other_rules gas a (values_of gas n t p) n) ≡ (Ok tt)
+  unfolding other_rules first_broken
   gas-rules = refl
 
-  pub opacity-rules : first_broken opacity (rules_of opacity a (values_of opacity n t p) n) ≡ (Ok tt)
-  unfolding rules_of first_broken
+  pub opacity-rules : first_broken opacity (other_rules opacity a (values_of opacity n t p) n) ≡ (Ok tt)
+  unfolding other_rules first_broken
   opacity-rules = refl
 
   pub old-any : Held acc n t p → Held acc 0 t p

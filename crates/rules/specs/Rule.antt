@@ -1,4 +1,5 @@
--- A rule of 12 or 13: the entry whose line a refusal carries, the refusal, and whether the values keep it (01, Judging: rows 12 and 13).
+-- A rule of 12, 13 or 19: the entry whose line a refusal carries, the refusal, and whether the values keep it (01, Judging: rows 12 and
+-- 13; 02, 5/14).
 use Rattle.std.specs.Prelude.{ℕ, Bool, true, cond, ◌&&◌, List, [], ◌∷◌, Result, Ok, Err}
 use Prim.Native.String.{String}
 use Rattle.tables.specs.File.{File}
@@ -16,7 +17,7 @@ abbrev pub place_in : File → EntryName → ℕ
 place_in f (fixed_entry n) = place_of f n
 place_in f (axle_entry k n) = axle_place_of f k n
 
--- 01's number of the rule is that of its refusal
+-- the number of the rule is that of its refusal
 pub record Rule : Type 0 where
   pub entry : EntryName
   pub kind : RefusalKind

@@ -1,5 +1,5 @@
-// Judges stored cases by the rules: due entries against found ones (10), bookings (12), Differenza% (13), slices (2, 11)
-// and identification answers (14, 15).
+// Judges stored cases by the rules: due entries against found ones (10), bookings (12), Differenza% (13), devices in date
+// (19), slices (2, 11) and identification answers (14, 15).
 // Standard input: for each case a title and two parts, each ended by a byte 00. The title's first word says what is
 // judged:
 //   due F    AC2, file F: each entry of F, what is asked of it and what was found; the first that is not as due
@@ -7,6 +7,7 @@
 //   stem     a stem, nothing
 //   given    AC2, a stem: for each file whether it may be left out, whether it may be given, whether it is read then
 //   answer   gas or nothing, the answer or nothing
+//   days     dates with a space between them, nothing: the number of each day
 // F is one digit. With file 1 the second part is empty: AC2 is the file.
 #![tactic(auto)]
 
@@ -286,17 +287,26 @@ fn show_due(out: &mut impl Write, case: Beside<'_>) -> io::Result<()> {
     show_mark(out, rules::is_marked(case.file, case.axles, case.own))
 }
 
-// ---- bookings and Differenza%
+// ---- bookings, Differenza% and devices
 
 fn show_rules(out: &mut impl Write, case: Beside<'_>) -> io::Result<()> {
     let new = NewBooking {
         text: case.booking,
         says: new_booking(case),
     };
-    match rules::first_broken(case.file, case.axles, &new, case.own) {
+    let measure = rules::measure_of(case.file, case.axles, case.own);
+    match rules::first_broken(case.file, case.axles, &new, case.own, measure.lastday) {
         Ok(()) => out.write_all(b"kept\n"),
         Err(x) => print_refusal(out, u32::from(x.kind), x.entry, case),
     }
+}
+
+fn show_days(out: &mut impl Write, dates: &[u8]) -> io::Result<()> {
+    for date in dates.split(|&c| c == b' ') {
+        out.write_all(date)?;
+        writeln!(out, " {}", calendar::day_number(date))?;
+    }
+    Ok(())
 }
 
 // ---- a file beside AC2
@@ -488,6 +498,8 @@ fn show_case(out: &mut impl Write, title: &[u8], first: &[u8], second: &[u8]) ->
         show_given(out, first, second)
     } else if title.starts_with(b"answer") {
         show_answer(out, first, second)
+    } else if title.starts_with(b"days") {
+        show_days(out, first)
     } else {
         Ok(())
     }

@@ -17,14 +17,17 @@ use Rattle.reading.specs.Tables.{most_bytes}
 use Rattle.files.specs.Files.{read_by, read_file, axles_of}
 use Rattle.files.proofs.Theorem.{file-unique}
 use Rattle.rules.specs.declared.Stated.{Stated}
-use Rattle.rules.proofs.Laws.{petrol-fuel, fuel-kept}
+use Rattle.rules.proofs.Laws.{petrol-fuel, fuel-kept, first-kept, all-kept}
+use Rattle.rules.proofs.InDate.{in_date, in-date}
 use Rattle.rules.proofs.Samples.{unknown-days}
 use Rattle.lines.specs.Bytes.{same_bytes, all_printable, without}
 use Rattle.lines.specs.Line.{Line, heading, entry, text_of, well_formed, all_well_formed}
 use Rattle.lines.specs.Layout.{Layout, layout_of}
 use Rattle.kinds.specs.Kind.{words}
 use Rattle.kinds.specs.Digits.{all_digits, number_from}
-use Rattle.kinds.specs.Meaning.{date_number}
+use Rattle.kinds.specs.Meaning.{date_number, date_read, time_read, seconds_of}
+use Rattle.calendar.specs.Measures.{time_of}
+use Rattle.calendar.proofs.Calendar.{days_before}
 use Rattle.kinds.specs.Value.{is_string, is_exact, is_number, is_fixed, is_leap, days_in, is_year, is_gregorian, are_digits, is_day, is_time, word_index, is_word, starts_with, is_drift, bare, is_temperature, is_plate, is_first_date, is_first_day, all_s_or_n, is_positions, kind_ok, kind_kept}
 use Rattle.tables.specs.Section.{entries_of}
 use Rattle.tables.specs.Entries.{new_booking, old_booking, tester, protocol, measurement, sixteen, drift_axle, suspension_axle, analyser, counter, speed_test, all_key_dates, all_key_bodies, analysis, fuel_analysis, opacimeter, opacity_test, opacity_keys, opacity_analysis}
@@ -36,14 +39,16 @@ use Rattle.due.specs.Booking.{is_m, is_n, is_o, is_l, fuel_in, is_late, booking_
 use Rattle.due.specs.Conditions.{version_in, is_serial_link, links_in, conditions_of}
 use Rattle.due.specs.Due.{exceptions, condition_of, condition_at, is_moped, is_motorcycle, is_m_or_n, condition_p, holds_in, due_of, first_not_as_due_from, first_not_as_due}
 use Rattle.rules.specs.Rule.{first_broken}
-use Rattle.rules.specs.Rules.{rules_of}
+use Rattle.rules.specs.Devices.{device_rules}
+use Rattle.rules.specs.Rules.{other_rules, rules_of}
+use Rattle.std.specs.Prelude.{Ok}
 use Rattle.rules.specs.Bookings.{type_of, parking_brake_fits, new_rules, descriptions_of, year_fits, directive_of, period_at, compared_date, period_of, diesel_fits, fuel_fits, old_brake_fits, number_is, parking_axles_fit, old_rules}
 use Rattle.rules.specs.Differences.{difference_fits, differences_from}
 use Rattle.rules.specs.Slices.{stated_of, old_booking_right, opacity_due, slice_right, is_read, identification_right}
 use Rattle.rules.specs.Identification.{seven_of}
 use Rattle.serial.specs.Identification.{separated, sum, hex_digit, checksum, identification_of, address_ok, field_ok, all_fields_ok, seven_ok}
 use Rattle.sets.specs.Records.{Slices, each_file, slices_of, is_given, Record, Read, Lawful, Fits}
-use Rattle.sets.specs.Judge.{passed, file_checks, first_failed, FileRead, not_read, judge_file, judge_identification, SetRead}
+use Rattle.sets.specs.Judge.{passed, check_due, file_checks, first_failed, FileRead, not_read, judge_file, judge_identification, SetRead}
 use Rattle.sets.proofs.File.{file-sound, file-accepted}
 use Rattle.sets.proofs.Identification.{identification-sound, identification-complete}
 use Rattle.sets.proofs.Set.{record_of, same-record, of-each, SetPassed, passed-lawful, passed-fits, file-of}
@@ -86,7 +91,15 @@ pub record Computed (f : File) (st : Stated) (a : List (List ℕ)) (ls : List Li
   pub short : leb (length (text_of ls)) most_bytes ≡ true
   pub reads : Reads c (read_lines f ls)
   pub values : map (value_at (text_of ls)) (pairs_in (read_lines f ls)) ≡ vs
-  pub checks : first_failed (file_checks f a vs (axles_of f c)) ≡ passed
+  pub as-due : check_due f (conditions_of f a vs) vs ≡ passed
+  pub devices : in_date f vs ≡ true
+  pub others : first_broken f (other_rules f a vs (axles_of f c)) ≡ Ok tt
+
+-- which are all checks of the file
+passes : (f : File) (a vs : List (List ℕ)) (n : ℕ) → check_due f (conditions_of f a vs) vs ≡ passed → in_date f vs ≡ true → first_broken f (other_rules f a vs n) ≡ Ok tt
+    → first_failed (file_checks f a vs n) ≡ passed
+unfolding rules_of
+passes f a vs n d i o = rw (d, first-kept f (device_rules f vs) (other_rules f a vs n) (all-kept f (device_rules f vs) (in-date f vs i)), o) refl
 
 file-reads : (f : File) (ls : List Line) → all_well_formed ls ≡ true → leb (length (text_of ls)) most_bytes ≡ true → read_file f (text_of ls) ≡ read_lines f ls
 unfolding read_by read_text
@@ -101,7 +114,7 @@ computed-accepted : (f : File) (st : Stated) (a : List (List ℕ)) (ls : List Li
     → judge_file f st a (text_of ls) ≡ acceptance (given f ls c vs)
 computed-accepted f st a ls c vs k =
     let r : Reading = read_lines f ls in
-    file-accepted f st a (text_of ls) c (pairs_in r) (numbers_in r) vs k.slice k.is_read_lem (file-reads f ls k.well-formed k.short ∙ reading-is c r k.reads) k.values k.checks
+    file-accepted f st a (text_of ls) c (pairs_in r) (numbers_in r) vs k.slice k.is_read_lem (file-reads f ls k.well-formed k.short ∙ reading-is c r k.reads) k.values (passes f a vs (axles_of f c) k.as-due k.devices k.others)
 
 -- a set whose slices are accepted has this record, a being AC2's values
 record-fits : (st : Stated) (s : Slices) (x : SetRead) → ((f : File) → judge_file f st (x.file ac2).values (s.file f) ≡ acceptance (x.file f))
@@ -479,31 +492,31 @@ computed :
     × (judge_file gas van_stated van_new_values [] ≡ acceptance not_read)
     × Computed opacity van_stated van_new_values van_opacity 1 van_opacity_values
     × (opacity_due (booking_in van_new_values) ≡ true)
-unfolding same_bytes all_printable without text_of well_formed all_well_formed layout_of words all_digits number_from date_number is_string is_exact is_number is_fixed is_leap days_in is_year is_gregorian are_digits is_day is_time word_index is_word starts_with is_drift bare is_temperature is_plate is_first_date is_first_day all_s_or_n is_positions kind_ok kind_kept entries_of new_booking old_booking tester protocol measurement sixteen drift_axle suspension_axle analyser counter speed_test all_key_dates all_key_bodies analysis fuel_analysis opacimeter opacity_test opacity_keys opacity_analysis fixed_sections axle_entries axles_from axle_sections sections least_sections entries row_count row_at place_of axle_place_of scan first_wrong first_absent owner_row is_m is_n is_o is_l fuel_in is_late booking_in version_in links_in conditions_of exceptions condition_of condition_at is_moped is_motorcycle is_m_or_n condition_p holds_in due_of first_not_as_due_from first_not_as_due first_broken rules_of type_of parking_brake_fits new_rules descriptions_of year_fits directive_of period_at compared_date period_of diesel_fits fuel_fits old_brake_fits number_is parking_axles_fit old_rules difference_fits differences_from stated_of old_booking_right opacity_due slice_right is_read is_serial_link identification_right seven_of separated sum hex_digit checksum identification_of address_ok field_ok all_fields_ok seven_ok judge_file judge_identification
+unfolding same_bytes all_printable without text_of well_formed all_well_formed layout_of words all_digits number_from date_number date_read time_read seconds_of time_of days_before is_string is_exact is_number is_fixed is_leap days_in is_year is_gregorian are_digits is_day is_time word_index is_word starts_with is_drift bare is_temperature is_plate is_first_date is_first_day all_s_or_n is_positions kind_ok kind_kept entries_of new_booking old_booking tester protocol measurement sixteen drift_axle suspension_axle analyser counter speed_test all_key_dates all_key_bodies analysis fuel_analysis opacimeter opacity_test opacity_keys opacity_analysis fixed_sections axle_entries axles_from axle_sections sections least_sections entries row_count row_at place_of axle_place_of scan first_wrong first_absent owner_row is_m is_n is_o is_l fuel_in is_late booking_in version_in links_in conditions_of exceptions condition_of condition_at is_moped is_motorcycle is_m_or_n condition_p holds_in due_of first_not_as_due_from first_not_as_due first_broken other_rules type_of parking_brake_fits new_rules descriptions_of year_fits directive_of period_at compared_date period_of diesel_fits fuel_fits old_brake_fits number_is parking_axles_fit old_rules difference_fits differences_from stated_of old_booking_right opacity_due slice_right is_read is_serial_link identification_right seven_of separated sum hex_digit checksum identification_of address_ok field_ok all_fields_ok seven_ok judge_file judge_identification
 computed = (
-  record { slice = refl; is_read_lem = refl; well-formed = refl; short = refl; reads = refl; values = refl; checks = refl },
+  record { slice = refl; is_read_lem = refl; well-formed = refl; short = refl; reads = refl; values = refl; as-due = refl; devices = refl; others = refl },
   refl,
   refl,
   refl,
   refl,
   refl,
-  record { slice = refl; is_read_lem = refl; well-formed = refl; short = refl; reads = refl; values = refl; checks = refl },
-  record { slice = refl; is_read_lem = refl; well-formed = refl; short = refl; reads = refl; values = refl; checks = refl },
-  record { slice = refl; is_read_lem = refl; well-formed = refl; short = refl; reads = refl; values = refl; checks = refl },
-  record { slice = refl; is_read_lem = refl; well-formed = refl; short = refl; reads = refl; values = refl; checks = refl },
-  record { slice = refl; is_read_lem = refl; well-formed = refl; short = refl; reads = refl; values = refl; checks = refl },
+  record { slice = refl; is_read_lem = refl; well-formed = refl; short = refl; reads = refl; values = refl; as-due = refl; devices = refl; others = refl },
+  record { slice = refl; is_read_lem = refl; well-formed = refl; short = refl; reads = refl; values = refl; as-due = refl; devices = refl; others = refl },
+  record { slice = refl; is_read_lem = refl; well-formed = refl; short = refl; reads = refl; values = refl; as-due = refl; devices = refl; others = refl },
+  record { slice = refl; is_read_lem = refl; well-formed = refl; short = refl; reads = refl; values = refl; as-due = refl; devices = refl; others = refl },
+  record { slice = refl; is_read_lem = refl; well-formed = refl; short = refl; reads = refl; values = refl; as-due = refl; devices = refl; others = refl },
   refl,
   refl,
   refl,
   refl,
   refl,
   refl,
-  record { slice = refl; is_read_lem = refl; well-formed = refl; short = refl; reads = refl; values = refl; checks = refl },
+  record { slice = refl; is_read_lem = refl; well-formed = refl; short = refl; reads = refl; values = refl; as-due = refl; devices = refl; others = refl },
   refl,
   refl,
   refl,
   refl,
-  record { slice = refl; is_read_lem = refl; well-formed = refl; short = refl; reads = refl; values = refl; checks = refl },
+  record { slice = refl; is_read_lem = refl; well-formed = refl; short = refl; reads = refl; values = refl; as-due = refl; devices = refl; others = refl },
   refl,
 )
 
@@ -586,7 +599,7 @@ van-without st r s new none l f =
 pub unknown-day-fuel : (st : Stated) (r : Record) → of ac2 (r.values ac2) "Alimentazione_1" ≡ bytes "BENZINA"
     → of ac2 (r.values ac2) "DirettivaEmissioniGasBenzinaAuto" ≡ bytes "RT1902" → of ac2 (r.values ac2) "DataPrimaImm" ≡ bytes "00101986"
     → Lawful st r → Read r acc → of acc (r.values acc) "Alimentazione_1" ≡ bytes "BENZINA NO CAT"
-unfolding rules_of
+unfolding rules_of device_rules other_rules
 unknown-day-fuel st r fuel directive day l q =
     let a : List (List ℕ) = r.values ac2 in
     let old : List ℕ = of acc (r.values acc) "Alimentazione_1" in

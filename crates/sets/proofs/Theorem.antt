@@ -21,6 +21,10 @@ use Rattle.due.specs.Booking.{booking_in}
 use Rattle.places.proofs.Values.{value-length}
 use Rattle.rules.specs.Slices.{good_stem, is_read}
 use Rattle.rules.specs.Marks.{is_marked}
+use Rattle.rules.specs.Rule.{all_hold}
+use Rattle.rules.specs.Devices.{measure_in, device_rules}
+use Rattle.rules.proofs.DueDates.{no-seconds}
+use Rattle.rules.proofs.InDate.{devices-hold}
 use Rattle.rules.specs.declared.Stated.{Stated}
 use Rattle.sets.specs.Records.{Caller, stated_in, Slices, is_given, Record, Read, NotRead, Lawful, total}
 use Rattle.sets.specs.Judge.{acceptance_of, acceptance_in, FileRead, SetRead, judge_slices, set_files, settled, judge}
@@ -31,14 +35,18 @@ use Rattle.sets.proofs.Places.{pair_at, within-get, used_pair, unused-pair, plac
 use Rattle.sets.proofs.LookUps.{compared-is, lines-are, compared-bounded}
 use Rattle.sets.proofs.Set.{record_of, not-read, no-axles, SetPassed, slices-sound, no-values, passed-lawful, passed-fits, slices-complete}
 
--- of a file that is not given the record has no axles and no values, and so neither mark is set
+-- of a file that is not given the record has no axles and no values, and so neither mark is set and its length is 0
 pub not-given : (st : Stated) (r : Record) → Lawful st r → (f : File) → r.given f ≡ false
-    → (r.axles f ≡ 0) × (r.values f ≡ []) × (is_marked f (r.values f) ≡ false) × (is_by_hand f (r.values f) ≡ false)
+    → (r.axles f ≡ 0) × (r.values f ≡ []) × (is_marked f (r.values f) ≡ false) × (is_by_hand f (r.values f) ≡ false) × ((measure_in f (r.values f)).seconds ≡ 0)
 unfolding is_marked
 not-given st r l f g =
     let q : NotRead r f = not-read f (booking_in (r.values ac2)) (r.given f) g in
     let v : r.values f ≡ [] = l.unread f q in
-    (subst (λ (b : Bool). AxleCount b (r.axles f)) (no-axles f (booking_in (r.values ac2)) (r.given f) q) (l.counts f), v, rw v refl, rw v (unread-by-hand f))
+    (subst (λ (b : Bool). AxleCount b (r.axles f)) (no-axles f (booking_in (r.values ac2)) (r.given f) q) (l.counts f), v, rw v refl, rw v (unread-by-hand f), rw v (no-seconds f))
+
+-- 02, 5/14: the devices of each file that is read are in date
+pub devices-in-date : (st : Stated) (r : Record) → Lawful st r → (f : File) → Read r f → all_hold (device_rules f (r.values f)) ≡ true
+devices-in-date st r l f q = devices-hold f (r.values ac2) (r.values f) (r.axles f) (l.rules f q)
 
 -- ---- what is returned
 

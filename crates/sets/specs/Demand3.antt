@@ -27,7 +27,7 @@ IsZero places f i = (start_of places (first_pair f + i) ≡ 0) × (length_of pla
 
 -- answer and places are those of the record r
 pub record Returned (r : Record) (s : Slices) (before : List ℕ) (answer : Answer Acceptance) (after : List ℕ) : Type 0 where
-  -- its axle counts and marks, and 02, 4/14: its number of entry names compared
+  -- its axle counts and marks, 02, 4/14: its number of entry names compared, and 02, 5/14: the lengths of its measures
   pub carries : answer ≡ acceptance (acceptance_of r.axles r.values (compared_by r))
   -- which "equals the definition", the sum over the entry lines
   pub compared : total (compared_by r) ≡ total (compared_for r s)

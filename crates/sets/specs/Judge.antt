@@ -12,6 +12,7 @@ use Rattle.due.specs.Conditions.{conditions_of}
 use Rattle.due.specs.Due.{first_not_as_due}
 use Rattle.due.specs.declared.Conditions.{Conditions}
 use Rattle.rules.specs.Rule.{RuleCheck, first_broken}
+use Rattle.rules.specs.Devices.{measure_in}
 use Rattle.rules.specs.Rules.{rules_of}
 use Rattle.rules.specs.Slices.{good_stem, slice_right, is_read, identification_right}
 use Rattle.rules.specs.Identification.{seven_of, same_fields}
@@ -27,13 +28,13 @@ use Rattle.sets.specs.declared.Acceptance.{Acceptance}
 
 -- what acceptance takes from a file of n axles with these values: "a mark .., set exactly when it is given with CodErrore filled";
 -- 02, 1/14: whether its idle speed was entered by hand. Of a file that is not given no value is there, so none is set (`not-given`).
--- 02, 4/14: k is the number of entry names compared
+-- 02, 4/14: k is the number of entry names compared. 02, 5/14: the length of its measure, "0 for one not given"
 abbrev pub figures_from : File → ℕ → List (List ℕ) → ℕ → Figures
-figures_from f n vs k = record { axles = n; mark = is_marked f vs; byhand = is_by_hand f vs; compared = k }
+figures_from f n vs k = record { axles = n; mark = is_marked f vs; byhand = is_by_hand f vs; compared = k; seconds = (measure_in f vs).seconds }
 
 -- "acceptance, with two axle counts (0 for a file not given) and a mark per result file": of drift, suspension, gas and, by 02,
 -- 2/14, opacity; 02, 1/14: "acceptance carries that mark for the gas file", and with it alone; 02, 4/14: "the number of entry names
--- compared", of all files. y gives the figures of each
+-- compared", of all files; 02, 5/14: "the length for each result file". y gives the figures of each
 abbrev pub acceptance_with : (File → Figures) → Acceptance
 acceptance_with y = record {
   driftaxles = (y drift).axles;
@@ -44,6 +45,10 @@ acceptance_with y = record {
   gasbyhand = (y gas).byhand;
   opacitymark = (y opacity).mark;
   compared = total (λ f. (y f).compared);
+  driftseconds = (y drift).seconds;
+  suspensionseconds = (y suspension).seconds;
+  gasseconds = (y gas).seconds;
+  opacityseconds = (y opacity).seconds;
 }
 
 -- from the files' axle counts, their values, and the number of entry names compared for each
@@ -61,12 +66,12 @@ pub data FileCheck : Type 0 where
 abbrev pub check_due : File → Conditions → List (List ℕ) → FileCheck
 check_due f c vs = cond (ltb (first_not_as_due f c vs) (length vs)) (failed 10 (first_not_as_due f c vs)) passed
 
--- 12 or 13
+-- 19, 12 or 13
 abbrev pub check_rule : RuleCheck → FileCheck
 check_rule (Ok x) = passed
 check_rule (Err b) = failed (number_of b.kind) b.entry
 
--- "all of 10 .. then 12 or 13": a for AC2's values, own for the file's, n for its axles
+-- "all of 10 .. then 12 or 13", and 02, 5/14: 19 between them: a for AC2's values, own for the file's, n for its axles
 abbrev pub file_checks : File → List (List ℕ) → List (List ℕ) → ℕ → List FileCheck
 file_checks f a own n = check_due f (conditions_of f a own) own ∷ check_rule (first_broken f (rules_of f a own n)) ∷ []
 

@@ -89,7 +89,7 @@ pub record Lawful (stated : Stated) (r : Record) : Type 0 where
   -- "one value for each entry", and "every rule on kinds"
   pub kinds : (f : File) → Read r f → EachKept (entries f (r.axles f)) (r.values f)
   pub due_entries : (f : File) → Read r f → EachAsDue f (r.values ac2) (r.values f)
-  -- "bookings, Differenza%"
+  -- "bookings, Differenza%"; 02, 5/14: devices in date, "A lawful record keeps this too"
   pub rules : (f : File) → Read r f → all_hold (rules_of f (r.values ac2) (r.values f) (r.axles f)) ≡ true
   -- values are those of files that are read
   pub unread : (f : File) → NotRead r f → r.values f ≡ []

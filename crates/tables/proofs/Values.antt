@@ -3,7 +3,10 @@ use Prim.Native.Nat.{ℕ, zero, suc, ◌+◌, ◌*◌, ◌≤◌, ◌<◌}
 use native.Mathlib.Omega.{arith}
 use native.Mathlib.Nat.{add-zero}
 use mathlib.Core.Path.{◌≡◌, refl, ap, sym, ◌∙◌}
+use mathlib.Core.Bool.{true}
 use mathlib.Core.List.{List, [], ◌∷◌, map}
+use Prim.Native.String.{String}
+use borrow.Author.Tests.{ltb-true}
 use lib.ListN.{length, get_or}
 use Rattle.lines.specs.Bytes.{same_bytes}
 use Rattle.kinds.specs.Value.{word_index}
@@ -12,7 +15,7 @@ use Rattle.places.proofs.Values.{within-at}
 use Rattle.tables.specs.Section.{entries_of}
 use Rattle.tables.specs.Entries.{new_booking, old_booking, tester, protocol, measurement, sixteen, drift_axle, suspension_axle, analyser, counter, speed_test, all_key_dates, all_key_bodies, analysis, fuel_analysis, opacimeter, opacity_test, opacity_keys, opacity_analysis}
 use Rattle.tables.specs.File.{File, ac2, acc, drift, suspension, gas, opacity, fixed_sections, axle_entries, axles_from, axle_sections, sections, entries, room, rooms, first_pair, least_places, file_number, of_number, most_axles}
-use Rattle.tables.specs.Value.{place_of, axle_place_of, values_of, pair_of, Held, NumberHeld, PairHeld}
+use Rattle.tables.specs.Value.{place_of, is_entry, of, axle_place_of, values_of, pair_of, Held, NumberHeld, PairHeld}
 use Rattle.tables.proofs.Numbers.{first-pairs, room_in}
 use Rattle.tables.proofs.Axles.{entries-length, entries-most}
 use Rattle.tables.proofs.Files.{of_number_lem, of-any, of_map}
@@ -51,6 +54,15 @@ opacity-pairs = refl
 
 pub opacity-code : pair_of opacity "CodErrore" ≡ 189
 opacity-code = ap (λ (l : List ℕ). get_or l 4 0) opacity-pairs
+
+-- DataMisura, and behind it InizioMisura and FineMisura
+abbrev pub measure_names : List String
+measure_names = "DataMisura" ∷ "InizioMisura" ∷ "FineMisura" ∷ []
+
+pub measure-pairs : map (λ (f : File). map (pair_of f) measure_names) (drift ∷ suspension ∷ gas ∷ opacity ∷ [])
+    ≡ (30 ∷ 31 ∷ 32 ∷ []) ∷ (55 ∷ 56 ∷ 57 ∷ []) ∷ (128 ∷ 129 ∷ 130 ∷ []) ∷ (190 ∷ 191 ∷ 192 ∷ []) ∷ []
+unfolding place_of word_index same_bytes entries sections fixed_sections axle_sections axles_from axle_entries entries_of new_booking old_booking sixteen tester protocol measurement drift_axle suspension_axle analysis analyser counter speed_test all_key_dates all_key_bodies fuel_analysis opacimeter opacity_test opacity_keys opacity_analysis first_pair rooms room
+measure-pairs = refl
 
 -- ---- how many entries a file has
 
@@ -113,6 +125,17 @@ module _ (t p : List ℕ) where
 
   pub axle-held : (n : ℕ) → n ≤ most_axles → Held suspension n t p → (k m : ℕ) → k < 16 + 3 * n → 43 + k ≡ m → PairHeld t p m
   axle-held n s h k m l e = pair_held suspension n t p k m s h (rw (suspension-count n) l) (rw first-pairs.3 e)
+
+-- a name of the fixed sections, by the computed test: its value stands at its pair
+module _ (f : File) (name : String) (e : is_entry f name ≡ true) where
+  named-place : (n : ℕ) → place_of f name < length (entries f n)
+  named-place n = omega (arith, ltb-true (place_of f name) (length (entries f 0)) e, entries-length f n)
+
+  pub named-value : (n : ℕ) (t p : List ℕ) → of f (values_of f n t p) name ≡ value_of t p (pair_of f name)
+  named-value n t p = value-held f n t p (place_of f name) (pair_of f name) (named-place n) refl
+
+  pub named-held : (n : ℕ) (t p : List ℕ) → n ≤ most_axles → Held f n t p → PairHeld t p (pair_of f name)
+  named-held n t p l h = pair_held f n t p (place_of f name) (pair_of f name) l h (named-place n) refl
 
 -- the pairs of a file's first entries lie within its text where all do
 within-few : (t p : List ℕ) (a m n : ℕ) → m ≤ n → Within t (pairs_at p a n) → Within t (pairs_at p a m)

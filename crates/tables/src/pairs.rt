@@ -1,5 +1,6 @@
 // The pairs of the entries that conditions and rules look at (01, Judging), named by file and entry. An entry's place in
-// its file is its pair less the file's first. What each stands for is proved in proofs/Values.
+// its file is its pair less the file's first. What each stands for is proved in proofs/Values,
+// of the due dates in `rules` Names.
 
 pub const AC2_FIRST: usize = 0;
 
@@ -39,11 +40,19 @@ pub const ACC_FRENO_STAZIONAMENTO: usize = 16;
 
 pub const ACC_NUM_ASSI_STAZIONAMENTO: usize = 17;
 
+pub const DRIFT_DATA_SCADENZA: usize = 22;
+
 pub const DRIFT_COD_ERRORE: usize = 29;
+
+pub const DRIFT_DATA_MISURA: usize = 30;
 
 pub const SUSPENSION_FIRST: usize = 43;
 
+pub const SUSPENSION_DATA_SCADENZA: usize = 47;
+
 pub const SUSPENSION_COD_ERRORE: usize = 54;
+
+pub const SUSPENSION_DATA_MISURA: usize = 55;
 
 // Of axle 1; each axle after it has its own so many pairs further on.
 pub const SUSPENSION_ADERENZA_SX: usize = 59;
@@ -68,11 +77,15 @@ pub const GAS_NUM_VERS_SOFTWARE_ANALIZZATORE: usize = 90;
 
 pub const GAS_DATA_SCADENZA_ANALIZZATORE: usize = 91;
 
+pub const GAS_DATA_SCADENZA_CONTAGIRI: usize = 97;
+
 pub const GAS_TIPO_COLLEGAMENTO_CONTAGIRI: usize = 98;
 
 pub const GAS_NUM_VERSIONE_PROTOCOLLO_CONTAGIRI: usize = 99;
 
 pub const GAS_NUM_VERSIONE_PROTOCOLLO_PROVA_VELOCITA: usize = 105;
+
+pub const GAS_DATA_SCADENZA_PROVA_VELOCITA: usize = 106;
 
 pub const GAS_NUM_VERSIONE_PROTOCOLLO: usize = 108;
 
@@ -80,9 +93,15 @@ pub const GAS_TIPO_COLLEGAMENTO: usize = 110;
 
 pub const GAS_COD_ERRORE: usize = 127;
 
+pub const GAS_DATA_MISURA: usize = 128;
+
 pub const GAS_NUM_GIRI_MOTORE_MIN: usize = 137;
 
 pub const OPACITY_FIRST: usize = 139;
+
+pub const OPACITY_DATA_SCADENZA_OPACIMETRO: usize = 144;
+
+pub const OPACITY_DATA_SCADENZA_CONTAGIRI: usize = 150;
 
 pub const OPACITY_TIPO_COLLEGAMENTO_CONTAGIRI: usize = 151;
 
@@ -93,3 +112,10 @@ pub const OPACITY_NUM_VERSIONE_PROTOCOLLO: usize = 175;
 pub const OPACITY_TIPO_COLLEGAMENTO: usize = 177;
 
 pub const OPACITY_COD_ERRORE: usize = 189;
+
+pub const OPACITY_DATA_MISURA: usize = 190;
+
+// How many pairs behind DataMisura's these stand.
+pub const INIZIO_MISURA_BEHIND: usize = 1;
+
+pub const FINE_MISURA_BEHIND: usize = 2;

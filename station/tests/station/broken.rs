@@ -162,7 +162,7 @@ pub fn identification(inner: &[u8]) -> Vec<u8> {
 }
 
 /// How many sets there are.
-const COUNT: usize = 102;
+const COUNT: usize = 107;
 
 /// All of them, in a new folder of this name.
 pub fn broken_sets(name: &str) -> Folder {
@@ -178,6 +178,7 @@ pub fn broken_sets(name: &str) -> Folder {
     opacity_values(&broken);
     names_and_marks(&broken);
     unknown_days(&broken);
+    days_and_times(&broken);
     broken.folder
 }
 
@@ -457,6 +458,27 @@ fn unknown_days(broken: &Broken) {
         &[("AC2", "=00101986", "=00072002"), ("ACC", "=1986", "=2002")],
     );
     broken.unknown_day("102-month-00", &[("AC2", "=00101986", "=00001986")]);
+}
+
+/// Due dates, and when the measure was: before 02, 5/14 all of them passed but the analyser's.
+fn days_and_times(broken: &Broken) {
+    broken.replace("103-tester-overdue", "DER", b"=30062027", b"=30062025");
+    let exchanged = |text: Vec<u8>| {
+        let text = replaced(&text, b"InizioMisura=091500", b"InizioMisura=091742");
+        replaced(&text, b"FineMisura=091742", b"FineMisura=091500")
+    };
+    broken.edit("104-times-exchanged", "DER", exchanged);
+    broken.edit("105-times-exchanged-last-day", "DER", |text| {
+        replaced(&exchanged(text), b"=30062027", b"=12052026")
+    });
+    // The identification answer has it right.
+    broken.replace(
+        "106-analyser-year",
+        "GAS",
+        b"Analizzatore=30062027",
+        b"Analizzatore=30062007",
+    );
+    broken.replace("107-measure-year", "DER", b"=12052026", b"=12052062");
 }
 
 #[test]

@@ -4,6 +4,7 @@ mod broken;
 mod causes;
 mod common;
 mod idle;
+mod in_date;
 mod look_up;
 mod obeyed;
 mod readme;

@@ -13,7 +13,7 @@ const GENERATED: u64 = 1000;
 const FIRST_SEED: u64 = 9 << 40;
 
 /// The members of the JSON that are numbers of the answer, and which.
-const MEMBERS: [(&str, usize); 11] = [
+const MEMBERS: [(&str, usize); 15] = [
     ("number", 0),
     ("file", 1),
     ("line", 2),
@@ -25,6 +25,10 @@ const MEMBERS: [(&str, usize); 11] = [
     ("opacity_mark", 8),
     ("idle_by_hand", 9),
     ("names_compared", 10),
+    ("drift_seconds", 11),
+    ("suspension_seconds", 12),
+    ("gas_seconds", 13),
+    ("opacity_seconds", 14),
 ];
 
 /// Those numbers, in this order.
@@ -105,7 +109,7 @@ fn samples() {
             numbers.push(right[0]);
         }
     }
-    for number in [0].into_iter().chain(2..=15) {
+    for number in [0].into_iter().chain(2..=15).chain([19]) {
         assert!(numbers.contains(&number), "no sample for number {number}");
     }
 }
@@ -144,7 +148,7 @@ fn generated_sets() {
         .iter()
         .map(|(_, answer)| u64::from(answer[NAMES_COMPARED]));
     assert_eq!(sum_found(&text), compared.sum::<u64>());
-    for number in [0].into_iter().chain(3..=15) {
+    for number in [0].into_iter().chain(3..=15).chain([19]) {
         let mut numbers = answers.iter().map(|(_, answer)| answer[0]);
         assert!(
             numbers.any(|other| other == number),

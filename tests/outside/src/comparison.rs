@@ -1,17 +1,19 @@
 //! Generated calls, made by a judge and by the reference and compared: the answer, every
 //! place, every number of a column, every output byte.
 
+use crate::devices;
 use crate::generator::{self, Record};
 use crate::judge::{
     answer_before, column_before, make, make_with_answer, places_before, Call, Judge, Outcome,
-    Reference, ANSWER, BY_HAND, NAMES_COMPARED, OUTPUT_BEFORE, SHORT_ANSWER,
+    Reference, ANSWER, BY_HAND, NAMES_COMPARED, OUTPUT_BEFORE, SECONDS, SHORT_ANSWER,
 };
 use crate::look_ups;
 use crate::met::{JUDGED_AGAIN, READ_BACK};
 use crate::mutator;
 use crate::random::Random;
 use crate::reference::tables::{
-    entry_name, entry_word, heading_name, table, DRIFT, FILES, GAS, OPACITY, SUSPENSION,
+    entry_name, entry_word, heading_name, table, DRIFT, FILES, GAS, OPACITY, RESULT_FILES,
+    SUSPENSION,
 };
 use crate::reference::PLACES;
 use crate::replay::to_text;
@@ -89,12 +91,14 @@ fn places_after(before: &[u32], first: &[u32]) -> Vec<u32> {
 
 fn known_of_record(record: &Record, before: &[u32]) -> Outcome {
     let mut values = vec![record.axles(DRIFT), record.axles(SUSPENSION)];
-    let marks = [DRIFT, SUSPENSION, GAS, OPACITY].map(|file| record.mark(file));
+    let marks = RESULT_FILES.map(|file| record.mark(file));
     values.extend(marks.map(u32::from));
     let places = places_after(before, &record.places);
     let mut known = accepted(&values, places, Vec::new());
     known.answer[BY_HAND] = u32::from(record.by_hand());
     known.answer[NAMES_COMPARED] = record.names_compared();
+    let seconds = RESULT_FILES.map(|file| record.seconds(file));
+    known.answer[SECONDS..SECONDS + seconds.len()].copy_from_slice(&seconds);
     known
 }
 
@@ -488,21 +492,22 @@ fn compare_rewritten(
     Ok(())
 }
 
-/// The names compared in an accepted set are as many as 02, 4/14 says that its sections add, and within its bound.
-fn check_names_compared(case: &Case, outcome: &Outcome) -> Result<(), String> {
+/// What is said of a set apart from the reference: of an accepted one, the names compared are as many as 02, 4/14 says that
+/// its sections add, and within its bound; of an accepted one, and of one refused by 19, devices and lengths are those of
+/// its dates and times.
+fn check_set(case: &Case, outcome: &Outcome) -> Result<(), String> {
     let Call::Judge { set, .. } = &case.call else {
         return Ok(());
     };
-    if look_ups::is_right(set, outcome) {
+    let wrong = if outcome.accepted() && !look_ups::is_right(set, outcome) {
+        "the names compared are not the sum over the sections, or above the bound"
+    } else if !devices::is_right(set, outcome) {
+        "devices out of date or lengths are not those of the dates and times"
+    } else {
         return Ok(());
-    }
+    };
     let both = (Reference.name(), outcome);
-    Err(difference(
-        "the names compared are not the sum over the sections, or above the bound",
-        case,
-        both,
-        both,
-    ))
+    Err(difference(wrong, case, both, both))
 }
 
 /// In a lawful file each entry is filled or empty as the column says.
@@ -552,11 +557,9 @@ pub fn run_of(subject: &dyn Judge, amounts: Amounts) -> Result<Report, String> {
     let sets = (0..amounts.sets).map(|at| set_case(FIRST_SET + at));
     let mut at = 0;
     run_sort(subject, &mut report, sets, |report, case, outcome| {
-        if outcome.accepted() {
-            check_names_compared(case, outcome)?;
-            if at % REWRITTEN == 0 {
-                compare_rewritten(subject, report, case, outcome)?;
-            }
+        check_set(case, outcome)?;
+        if outcome.accepted() && at % REWRITTEN == 0 {
+            compare_rewritten(subject, report, case, outcome)?;
         }
         at += 1;
         Ok(())

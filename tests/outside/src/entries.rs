@@ -1,6 +1,6 @@
 //! What the papers ask of entries by their names alone, said apart from the reference's judging of it.
 
-use crate::reference::tables::{AC2, ACC, GAS, OPACITY};
+use crate::reference::tables::{AC2, ACC, DRIFT, GAS, OPACITY, SUSPENSION};
 
 /// The entries of a file that may be filled or empty. 01, Due entries: "Note and CodErrore may be filled or empty", and in
 /// ACC Alimentazione_1; 02, 2/14: what "hangs on data outside the set", and TempMinOlioMotore, printed `(*)`.
@@ -22,6 +22,23 @@ pub fn free_entries(file: u32) -> &'static [&'static str] {
         _ => &["Note", "CodErrore"],
     }
 }
+
+/// 02, 5/14: the due dates of a result file's devices, in entry order.
+pub fn due_dates(file: u32) -> &'static [&'static str] {
+    match file {
+        DRIFT | SUSPENSION => &["DataScadenza"],
+        GAS => &[
+            "DataScadenzaAnalizzatore",
+            "DataScadenzaContagiri",
+            BENCH_DUE_DATE,
+        ],
+        OPACITY => &["DataScadenzaOpacimetro", "DataScadenzaContagiri"],
+        _ => &[],
+    }
+}
+
+/// The only due date that is not always filled.
+pub const BENCH_DUE_DATE: &str = "DataScadenzaProvaVelocita";
 
 /// 01, Due entries, and 02, 2/14: the entries that are "filled exactly when" something holds.
 pub fn is_conditional(file: u32, name: &str) -> bool {

@@ -2,8 +2,11 @@
 //!
 //! What is due is built here entry by entry, without the reference's judging of it.
 
-use crate::entries::free_entries;
+use crate::dates::{self, Date};
+use crate::devices;
+use crate::entries::{due_dates, free_entries};
 use crate::judge::Set;
+use crate::measures::{self, Measure};
 use crate::old_fuels;
 use crate::random::Random;
 use crate::reference::kinds::Kind;
@@ -62,26 +65,8 @@ pub fn printable(random: &mut Random, count: usize) -> Vec<u8> {
     bytes
 }
 
-fn days_in_month(month: usize, year: usize) -> usize {
-    let leap = (year.is_multiple_of(4) && !year.is_multiple_of(100)) || year.is_multiple_of(400);
-    [
-        31,
-        28 + usize::from(leap),
-        31,
-        30,
-        31,
-        30,
-        31,
-        31,
-        30,
-        31,
-        30,
-        31,
-    ][month - 1]
-}
-
 /// A day of kind D.
-pub fn date(random: &mut Random) -> Vec<u8> {
+fn day(random: &mut Random) -> Date {
     let year = match random.below(8) {
         0 => 1900,
         1 => 2000,
@@ -89,12 +74,16 @@ pub fn date(random: &mut Random) -> Vec<u8> {
         _ => random.between(1900, 2099),
     };
     let month = random.between(1, 12);
-    let last = days_in_month(month, year);
-    let day = match random.below(4) {
+    let last = Date::last_of_month(month, year);
+    match random.below(4) {
         0 => last,
-        _ => random.between(1, last),
-    };
-    format!("{day:02}{month:02}{year:04}").into_bytes()
+        _ => Date::new(random.between(1, last.day), month, year),
+    }
+}
+
+/// A value of kind D.
+pub fn date(random: &mut Random) -> Vec<u8> {
+    day(random).digits()
 }
 
 /// A first registration about the two fuel dates (02, 3/14).
@@ -383,6 +372,11 @@ impl Values {
         counts.iter().map(|count| (1..=*count).sum::<u32>()).sum()
     }
 
+    /// Of a result file, all of whose values that say it are filled.
+    pub fn measure(&self) -> Measure {
+        Measure::new(measures::ENTRIES.map(|name| self.get(name)))
+    }
+
     /// All values in entry order.
     pub fn all(&self) -> impl Iterator<Item = &Vec<u8>> {
         self.sections.iter().flatten()
@@ -459,6 +453,12 @@ impl Record {
 
     pub fn by_hand(&self) -> bool {
         self.file(GAS).is_some_and(Values::by_hand)
+    }
+
+    /// 02, 5/14: "the length for each result file, 0 for one not given".
+    pub fn seconds(&self, file: u32) -> u32 {
+        self.file(file)
+            .map_or(0, |values| values.measure().seconds())
     }
 
     /// 02, 4/14: "A file that is not read adds nothing."
@@ -660,10 +660,79 @@ fn unread_acc(random: &mut Random) -> Vec<u8> {
     }
 }
 
+/// A day on which a measure ends: often one about which calendars differ (02, 5/14).
+fn ending_day(random: &mut Random) -> Date {
+    if random.chance(40) {
+        random.pick(&devices::DAYS)
+    } else {
+        day(random)
+    }
+}
+
+/// Seconds since midnight at which a measure begins and ends: at the same time, a second less than a day later, about
+/// midnight, or any.
+fn times(random: &mut Random) -> (u32, u32) {
+    const LAST: u32 = 86_399;
+    let any = random.below(86_400) as u32;
+    let near = random.below(60) as u32;
+    match random.below(12) {
+        0 => (any, any),
+        1 => (0, LAST),
+        2 => (any.max(1), any.max(1) - 1),
+        3 => (LAST - near, near),
+        4 => (LAST, 0),
+        5 => (0, any),
+        6 => (any, LAST),
+        _ => (any, random.below(86_400) as u32),
+    }
+}
+
+/// When something was measured. It ends on a day of kind D.
+pub fn measure(random: &mut Random) -> Measure {
+    let (start, finish) = times(random);
+    let end = ending_day(random);
+    let mut measure = Measure {
+        day: end,
+        start,
+        finish,
+    };
+    if measure.is_over_midnight() {
+        // None before the first day, which a measure over midnight begins on.
+        measure.day = end.previous().unwrap_or(end);
+    }
+    measure
+}
+
+/// A due date that covers this day.
+pub fn covering(random: &mut Random, end: Date) -> Date {
+    match random.below(10) {
+        0..=4 => end,
+        5 => end.next().min(dates::LAST),
+        6 => Date::last_of_month(end.month, end.year),
+        7 => Date::last_of_month(12, end.year),
+        _ => day(random).max(end),
+    }
+}
+
+/// 02, 5/14: "A lawful record keeps this too": a measure, and due dates that cover the day on which it ends.
+fn set_measure_and_due_dates(random: &mut Random, values: &mut Values) {
+    let measure = measure(random);
+    for (name, value) in measure.entries() {
+        values.set(name, value);
+    }
+    for name in due_dates(values.file) {
+        // The bench's is empty where condition P does not hold.
+        if !values.get(name).is_empty() {
+            values.set(name, covering(random, measure.end()).digits());
+        }
+    }
+}
+
 fn drift(random: &mut Random, size: Size) -> Values {
     let axles = any_axles(random, DRIFT);
     let mut drift = Values::filled(random, DRIFT, axles, size);
     empty_free_entries(random, &mut drift);
+    set_measure_and_due_dates(random, &mut drift);
     drift
 }
 
@@ -671,6 +740,7 @@ fn suspension(random: &mut Random, size: Size) -> Values {
     let axles = any_axles(random, SUSPENSION);
     let mut suspension = Values::filled(random, SUSPENSION, axles, size);
     empty_free_entries(random, &mut suspension);
+    set_measure_and_due_dates(random, &mut suspension);
     for axle in &mut suspension.sections[1..] {
         if random.chance(15) {
             axle[1] = axle[0].clone();
@@ -754,6 +824,7 @@ fn gas(random: &mut Random, ac2: &Values, size: Size) -> Values {
     if directive != b"91/441/CEE" && directive != b"98/69/CE" {
         gas.empty(&["COMinAcc"]);
     }
+    set_measure_and_due_dates(random, &mut gas);
     gas
 }
 
@@ -763,6 +834,7 @@ pub fn opacity(random: &mut Random, size: Size) -> Values {
     empty_free_entries(random, &mut opacity);
     set_versions_and_link(random, &mut opacity, &["", "Contagiri"], size);
     keep_due_by_links(&mut opacity);
+    set_measure_and_due_dates(random, &mut opacity);
     opacity
 }
 

@@ -18,6 +18,10 @@ pub const BY_HAND: usize = 9;
 /// The number of the answer, from 0, that holds the names compared (02, 4/14): how often a name of a table was tried.
 pub const NAMES_COMPARED: usize = 10;
 
+/// The first of the four numbers of the answer, from 0, that hold the seconds of the measures of drift, suspension, gas
+/// and opacity (02, 5/14), in the order of `RESULT_FILES`.
+pub const SECONDS: usize = 11;
+
 /// The value of a call whose answer array is too short; it touches nothing.
 pub const SHORT_ANSWER: u32 = u32::MAX;
 
@@ -70,7 +74,8 @@ pub trait Judge {
     /// suspension, gas and opacity (judge), the axle count (read), the length (write), the axle
     /// count and the number of entries (due), the length and the number of the section (names,
     /// words), form, most bytes, decimals and words (kind); in [9] whether gas's idle speed was
-    /// entered by hand (judge, read); in [10] how often a name of a table was tried (judge); else 0.
+    /// entered by hand (judge, read); in [10] how often a name of a table was tried, and in [11] to
+    /// [14] the seconds of the measures of drift, suspension, gas and opacity (judge); else 0.
     /// What comes back is the number.
     fn answer(&self, call: &Call, lent: Arrays) -> u32;
 }
@@ -136,11 +141,18 @@ fn reference_result(
             ];
             let by_hand = (BY_HAND, u32::from(acceptance.by_hand));
             let names_compared = (NAMES_COMPARED, acceptance.names_compared);
-            with_numbers(&values, &[by_hand, names_compared])
+            let seconds = [
+                acceptance.drift_seconds,
+                acceptance.suspension_seconds,
+                acceptance.gas_seconds,
+                acceptance.opacity_seconds,
+            ];
+            let numbers = [by_hand, names_compared].into_iter();
+            with_numbers(&values, numbers.chain((SECONDS..).zip(seconds)))
         }),
         Call::Read { file, text, .. } => read_alone(*file, text, places).map(|read| {
             let by_hand = (BY_HAND, u32::from(read.by_hand));
-            with_numbers(&[read.axles], &[by_hand])
+            with_numbers(&[read.axles], [by_hand])
         }),
         Call::Write {
             text, file, axles, ..
@@ -164,11 +176,11 @@ fn reference_result(
 }
 
 /// The values from [3] on, and others at their numbers of the answer.
-fn with_numbers(values: &[u32], others: &[(usize, u32)]) -> Vec<u32> {
+fn with_numbers(values: &[u32], others: impl IntoIterator<Item = (usize, u32)>) -> Vec<u32> {
     let mut values = values.to_vec();
     values.resize(ANSWER - 3, 0);
     for (number, value) in others {
-        values[number - 3] = *value;
+        values[number - 3] = value;
     }
     values
 }

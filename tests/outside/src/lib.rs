@@ -4,6 +4,8 @@
 //! requests, cited by their number; "001" is source document 001, the Italian original.
 
 pub mod comparison;
+pub mod dates;
+pub mod devices;
 pub mod entries;
 pub mod generator;
 pub mod hex;
@@ -11,6 +13,7 @@ pub mod judge;
 #[cfg(feature = "library")]
 pub mod library;
 pub mod look_ups;
+pub mod measures;
 pub mod met;
 pub mod mutator;
 pub mod old_fuels;

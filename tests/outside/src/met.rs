@@ -12,8 +12,10 @@ pub const READ_BACK: &str = "read back";
 
 /// Sets and files refused by a number.
 pub const JUDGE_9: &str = "judge 9";
+pub const JUDGE_10: &str = "judge 10";
 pub const JUDGE_11: &str = "judge 11";
 pub const JUDGE_12: &str = "judge 12";
+pub const JUDGE_19: &str = "judge 19";
 pub const READ_9: &str = "read 9";
 
 /// What must be met, and by which call.
@@ -22,9 +24,8 @@ pub type Wanted = (&'static str, String);
 /// The value of an entry in a text of one section that passed 3 to 8.
 pub fn value_in<'a>(text: &'a [u8], name: &str) -> &'a str {
     let text = std::str::from_utf8(text).expect("bytes of 20 to 7E hex");
-    let mut lines = text.lines().filter_map(|line| line.split_once('='));
-    let found = lines.find(|(other, _)| *other == name);
-    found.expect("every entry is there").1
+    let value = |line: &'a str| line.strip_prefix(name)?.strip_prefix('=');
+    text.lines().find_map(value).expect("every entry is there")
 }
 
 /// How many of these were reached, and the one that was reached least how often.

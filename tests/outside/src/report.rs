@@ -2,10 +2,13 @@
 
 use std::collections::BTreeMap;
 
-use crate::entries::{free_entries, is_conditional};
+use crate::devices;
+use crate::entries::{due_dates, free_entries, is_conditional};
 use crate::judge::{Call, Outcome, Set, BY_HAND};
 use crate::look_ups;
-use crate::met::{summary, Met, Wanted, JUDGED, JUDGE_12, JUDGE_9, READ, READ_9, REWRITTEN};
+use crate::met::{
+    summary, Met, Wanted, JUDGED, JUDGE_12, JUDGE_19, JUDGE_9, READ, READ_9, REWRITTEN,
+};
 use crate::old_fuels;
 use crate::opacities;
 use crate::reference::kinds::Kind;
@@ -15,13 +18,13 @@ use crate::reference::tables::{
 use crate::reference::Refusal;
 use crate::speeds;
 
-/// Numbers 0 (acceptance) to 18.
-const NUMBERS: usize = 19;
+/// Numbers 0 (acceptance) to 19.
+const NUMBERS: usize = 20;
 
 /// File, heading and name of an entry.
 type EntryOf = (u32, String, String);
 
-/// Refusals for which the entries are noted, besides judge 9, judge 12 and read 9.
+/// Refusals for which the entries are noted, besides judge 9, judge 12, judge 19 and read 9.
 const JUDGE_8: &str = "judge 8";
 const JUDGE_10_EMPTY: &str = "judge 10, due and empty";
 const JUDGE_10_FILLED: &str = "judge 10, filled and not due";
@@ -41,7 +44,7 @@ const READ_HASH: &str = "read 0, `#` first and no mark";
 const CALLS: [(&str, &[usize]); 8] = [
     (
         "judge",
-        &[0, 1, 2, 3, 4, 5, 6, 7, 8, 9, 10, 11, 12, 13, 14, 15],
+        &[0, 1, 2, 3, 4, 5, 6, 7, 8, 9, 10, 11, 12, 13, 14, 15, 19],
     ),
     ("read", &[0, 1, 3, 4, 5, 6, 7, 8, 9, 11, 16]),
     ("write", &[0, 1, 9, 16, 17, 18]),
@@ -77,9 +80,9 @@ fn numbers_of(file: u32) -> [Vec<u32>; 4] {
     let reading: Vec<u32> = reading.collect();
     let in_a_set: &[u32] = match file {
         AC2 | ACC => &[10, 11, 12],
-        DRIFT => &[10],
-        SUSPENSION => &[10, 13],
-        _ => &[10, 11],
+        DRIFT => &[10, 19],
+        SUSPENSION => &[10, 13, 19],
+        _ => &[10, 11, 19],
     };
     [
         [&reading, in_a_set].concat(),
@@ -109,7 +112,7 @@ pub struct Report {
     counts: [[u64; NUMBERS]; 8],
     /// How often each noted refusal was reached at each entry.
     reached: BTreeMap<&'static str, BTreeMap<EntryOf, u64>>,
-    /// Refused files, idle speeds, what opacity brought, old fuels and look-ups.
+    /// Refused files, idle speeds, what opacity brought, old fuels, look-ups and devices.
     met: Met,
     /// Written files that were read back.
     pub read_back: u64,
@@ -239,6 +242,10 @@ fn reachable() -> Vec<(&'static str, Vec<EntryOf>)> {
             JUDGE_13,
             fitting(&|(file, _, name)| *file == SUSPENSION && name == "Differenza%"),
         ),
+        (
+            JUDGE_19,
+            fitting(&|(file, _, name)| due_dates(*file).contains(&name.as_str())),
+        ),
         (READ_9, fitting(&|_| true)),
         (WRITE_9, fitting(&|_| true)),
         (WRITE_17, fitting(&|_| true)),
@@ -257,13 +264,14 @@ fn entry_of(call: &Call, refusal: Refusal) -> Option<(&'static str, EntryOf)> {
     let Refusal { number, file, line } = refusal;
     match (call, number) {
         (Call::Judge { set, .. }, 8) => Some((JUDGE_8, absent_at(file, set.slice(file), line)?)),
-        (Call::Judge { set, .. }, 9 | 10 | 12 | 13) => {
+        (Call::Judge { set, .. }, 9 | 10 | 12 | 13 | 19) => {
             let (entry, value) = entry_at(file, set.slice(file), line)?;
             let what = match (number, value.is_empty()) {
                 (9, _) => JUDGE_9,
                 (10, true) => JUDGE_10_EMPTY,
                 (10, false) => JUDGE_10_FILLED,
                 (12, _) => JUDGE_12,
+                (19, _) => JUDGE_19,
                 _ => JUDGE_13,
             };
             Some((what, entry))
@@ -276,13 +284,14 @@ fn entry_of(call: &Call, refusal: Refusal) -> Option<(&'static str, EntryOf)> {
 }
 
 /// What a run must meet besides numbers and entries.
-fn wanted() -> [(&'static str, Vec<Wanted>); 5] {
+fn wanted() -> [(&'static str, Vec<Wanted>); 6] {
     [
         ("refused files", refused_files()),
         ("idle speeds", speeds::wanted()),
         ("opacity", opacities::wanted()),
         ("old fuels", old_fuels::wanted()),
         ("look-ups", look_ups::wanted()),
+        ("devices", devices::wanted()),
     ]
 }
 
@@ -317,10 +326,14 @@ impl Report {
                 self.note_refused(JUDGE_9, set.slice(refusal.file), refusal);
             }
             (Call::Read { text, .. }, 9) => self.note_refused(READ_9, text, refusal),
+            (Call::Judge { set, .. }, 10) => {
+                devices::note_refused_by_10(&mut self.met, set, refusal)
+            }
             (Call::Judge { set, .. }, 11) => {
                 opacities::note_not_as_due(&mut self.met, set, refusal)
             }
             (Call::Judge { set, .. }, 12) => self.note_old_fuel(set, refusal),
+            (Call::Judge { set, .. }, 19) => devices::note_refused(&mut self.met, set, refusal),
             _ => {}
         }
     }
@@ -329,6 +342,7 @@ impl Report {
     pub fn meet(&mut self, what: &'static str, call: &Call, outcome: &Outcome) {
         speeds::note(&mut self.met, what, call, outcome);
         opacities::note(&mut self.met, what, call, outcome);
+        devices::note(&mut self.met, what, call, outcome);
         if let Call::Judge { set, .. } = call {
             old_fuels::note(&mut self.met, what, set);
             look_ups::note(&mut self.met, what, set, outcome);

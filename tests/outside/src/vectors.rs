@@ -16,9 +16,10 @@ macro_rules! vectors_in {
     };
 }
 
-/// Those after 02, 4/14, which landed last, and those after 3/14 and 2/14: all files read alone and writings, and all sets
-/// but one. In the accepted sets of these, number 10 was put in for 4/14.
-const FILES: [File; 5] = [
+/// Those after 02, 5/14, which landed last, and those after 4/14, 3/14 and 2/14: all files read alone and writings, and the
+/// sets that hold on. In the accepted ones of these, number 10 was put in for 4/14, and 11 to 14 for 5/14.
+const FILES: [File; 6] = [
+    vectors_in!("02/5/sets.txt", set_vector),
     vectors_in!("02/4/sets.txt", set_vector),
     vectors_in!("02/3/sets.txt", set_vector),
     vectors_in!("02/2/sets.txt", set_vector),

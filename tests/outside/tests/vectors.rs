@@ -6,7 +6,7 @@ use outside::vectors::run_vectors;
 fn assert_agrees(judge: &dyn Judge) {
     match run_vectors(judge) {
         // Sets, files read alone and writings.
-        Ok(count) => assert_eq!(count, 120 + 120 + 199 + 60 + 60),
+        Ok(count) => assert_eq!(count, 200 + 49 + 60 + 61 + 60 + 60),
         Err(difference) => panic!("{difference}"),
     }
 }

@@ -1,7 +1,7 @@
--- `judge::judge_values` meets its contract: 10 over all entries, then 12 or 13, then what is kept. Assumes nothing.
+-- `judge::judge_values` meets its contract: 10 over all entries, then 19, 12 or 13, then what is kept. Assumes nothing.
 use mathlib.Core.Path.{sym}
 use lib.Seq.{length-take-le}
-use Rattle.judge.proofs.Values.{conditions-ready, sections-in, count_fits, pairs-ready, fixed-few, figures-ready, broken-ready, values-due, values-broken, values-pass}
+use Rattle.judge.proofs.Values.{conditions-ready, sections-in, count_fits, pairs-ready, fixed-few, measure-ready, figures-ready, broken-ready, values-due, values-broken, values-pass}
 use Rattle.judge.proofs.judge_values.Goals as goal
 
 pub conditions_of-conditions-requires : goal.conditions_of-conditions-requires
@@ -23,14 +23,17 @@ returns-in-Some c =
 pub overflow_sub-axles : goal.overflow_sub-axles
 overflow_sub-axles c = fixed-few c.requires c.fixed_section_count.ensures
 
+pub measure_of-measure-requires : goal.measure_of-measure-requires
+measure_of-measure-requires c = measure-ready c.requires c.fixed_section_count.ensures
+
 pub first_broken-requires : goal.first_broken-requires
-first_broken-requires c = broken-ready c.requires c.fixed_section_count.ensures
+first_broken-requires c = broken-ready c.requires c.fixed_section_count.ensures c.measure_of-measure.ensures
 
 pub slice_bounds-line_of-end-in-Err : goal.slice_bounds-line_of-end-in-Err
 slice_bounds-line_of-end-in-Err c = sym (length-take-le _ c.args.lines.now (count_fits c.requires c.entries_before-count.ensures))
 
 pub figures_of-requires : goal.figures_of-requires
-figures_of-requires c = figures-ready c.requires c.fixed_section_count.ensures
+figures_of-requires c = figures-ready c.requires c.fixed_section_count.ensures c.measure_of-measure.ensures
 
 pub returns-in-Err : goal.returns-in-Err
 returns-in-Err c =

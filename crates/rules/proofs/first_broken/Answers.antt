@@ -1,37 +1,18 @@
--- `rules::first_broken` meets its contract: each file by its number; drift, gas and opacity have no rule. Assumes nothing.
+-- `rules::first_broken` meets its contract: devices first, then the other rules of the file. Assumes nothing.
 use mathlib.Core.Path.{sym, ◌∙◌}
-use mathlib.Core.List.{[]}
-use Rattle.tables.specs.File.{File, ac2, acc, suspension}
-use Rattle.tables.proofs.Files.{of_number_lem, of_others}
-use Rattle.tables.proofs.Values.{number-held}
-use Rattle.rules.specs.Rules.{first_broken_at}
-use Rattle.std.specs.Prelude.{Ok}
-use Rattle.rules.proofs.Rules.{new-rules, old-rules, axle-rules, drift-rules, gas-rules, opacity-rules, old-any}
+use Rattle.std.proofs.lemmas.Result.{err_from_is_err_and}
+use Rattle.rules.proofs.DueDates.{device-broken, devices-kept}
 use Rattle.rules.proofs.first_broken.Goals as goal
 
-pub check_old_booking-requires : goal.check_old_booking-requires
-check_old_booking-requires c = (c.requires.1, old-any _ _ [] _ (number-held acc _ _ _ _ c.in-2.is c.requires.2))
-
-pub check_differences-requires : goal.check_differences-requires
-check_differences-requires c = (c.requires.0, number-held suspension _ _ _ _ c.in-4.is c.requires.2)
-
-pub returns-in-1 : goal.returns-in-1
-returns-in-1 c =
+pub returns-in_err-check_devices : goal.returns-in_err-check_devices
+returns-in_err-check_devices c =
     let x = c.args in
-    c.check_new_booking.ensures ∙ sym (of_number_lem (Ok tt) (λ (f : File). first_broken_at f x.axles x.new.now.text.now x.own.text.now x.own.places.now) ac2 _ c.in-1.is ∙ new-rules _ _ _ _)
+    let w = err_from_is_err_and c.from_residual.result c.from_residual.ensures.1 in
+    let e = sym c.check_devices.ensures ∙ c.in_err-check_devices.was in
+    rw (w.1, w.2) (sym (device-broken x.file x.axles x.new.now.text.now x.own.text.now x.own.places.now _ e))
 
-pub returns-in-2 : goal.returns-in-2
-returns-in-2 c =
+pub returns : goal.returns
+returns c =
     let x = c.args in
-    c.check_old_booking.ensures ∙ sym (of_number_lem (Ok tt) (λ (f : File). first_broken_at f x.axles x.new.now.text.now x.own.text.now x.own.places.now) acc _ c.in-2.is ∙ old-rules _ _ _ _)
-
-pub returns-in-4 : goal.returns-in-4
-returns-in-4 c =
-    let x = c.args in
-    c.check_differences.ensures ∙ sym (of_number_lem (Ok tt) (λ (f : File). first_broken_at f x.axles x.new.now.text.now x.own.text.now x.own.places.now) suspension _ c.in-4.is ∙ axle-rules _ _ _ _)
-
-pub returns-in_default : goal.returns-in_default
-returns-in_default c =
-    let x = c.args in
-    let n = c.in_default.in_default-own.rest in
-    sym (of_others (Ok tt) (λ (f : File). first_broken_at f x.axles x.new.now.text.now x.own.text.now x.own.places.now) _ (λ e. absurd (n.0.0.1 e)) (λ e. absurd (n.0.1 e)) (λ e. drift-rules _ _ _ _) (λ e. absurd (n.1 e)) (λ e. gas-rules _ _ _ _) (λ e. opacity-rules _ _ _ _))
+    let e = sym c.check_devices.ensures ∙ c.in_ok-check_devices.was in
+    c.check_other_rules.ensures ∙ sym (devices-kept x.file x.axles x.new.now.text.now x.own.text.now x.own.places.now e)

@@ -92,7 +92,7 @@ fn kind_of(file: u32, line: &[u8]) -> Option<Kind> {
 type ChangeBytes = fn(&mut Random, u32, &mut Vec<u8>);
 
 /// A change to the lines of a file; None where it does not apply.
-type ChangeLines = fn(&mut Random, u32, &mut Lines) -> Option<()>;
+pub type ChangeLines = fn(&mut Random, u32, &mut Lines) -> Option<()>;
 
 enum Change {
     Bytes(ChangeBytes),
@@ -149,15 +149,24 @@ pub fn change_file(random: &mut Random, file: u32, text: &mut Vec<u8>) -> Option
         }
         match change {
             Bytes(change) => change(random, file, text),
-            ByLines(change) => {
-                let mut lines = lines_of(text);
-                change(random, file, &mut lines)?;
-                *text = join_lines(&lines);
-            }
+            ByLines(change) => change_lines(random, file, text, *change)?,
         }
         return Some(name);
     }
     unreachable!("the weights sum to {all}")
+}
+
+/// Changes the lines of a file once; None where the change does not apply.
+pub fn change_lines(
+    random: &mut Random,
+    file: u32,
+    text: &mut Vec<u8>,
+    change: ChangeLines,
+) -> Option<()> {
+    let mut lines = lines_of(text);
+    change(random, file, &mut lines)?;
+    *text = join_lines(&lines);
+    Some(())
 }
 
 fn change_byte(random: &mut Random, _file: u32, text: &mut Vec<u8>) {
@@ -461,7 +470,7 @@ fn fill_empty(random: &mut Random, file: u32, lines: &mut Lines) -> Option<()> {
 }
 
 /// One to three filled values emptied.
-fn empty_filled(random: &mut Random, _file: u32, lines: &mut Lines) -> Option<()> {
+pub fn empty_filled(random: &mut Random, _file: u32, lines: &mut Lines) -> Option<()> {
     for _ in 0..random.pick(&[1, 1, 1, 2, 3]) {
         let at = pick_line(random, lines, |line| {
             !is_heading(line) && !value_of(line).is_empty()
@@ -565,9 +574,7 @@ pub fn alone(random: &mut Random) -> Alone {
             changes.push("any bytes");
         }
         35..=54 => {
-            let mut lines = lines_of(&text);
-            values_at_edges(random, file, &mut lines);
-            text = join_lines(&lines);
+            change_lines(random, file, &mut text, values_at_edges);
             changes.push("values at their edges");
         }
         _ => {

@@ -1,18 +1,21 @@
 //! Changes to a set.
 
 use super::files::{
-    change_file, lines_of, name_of, pick_line, set_value, value_of, with_value, CHANGES_OF_ENTRIES,
+    change_file, change_lines, empty_filled, lines_of, name_of, pick_line, set_value, value_of,
+    with_value, CHANGES_OF_ENTRIES,
 };
 use super::one_of;
-use crate::entries::is_conditional;
+use crate::dates::{self, Date};
+use crate::entries::{due_dates, is_conditional};
 use crate::generator::{
     self, fuel_day, identification, join_lines, printable, Record, Size, Values,
 };
 use crate::judge::Set;
+use crate::measures::Measure;
 use crate::random::Random;
 use crate::reference::lines::LONGEST_FILE;
 use crate::reference::tables::{
-    table, AC2, ACC, DRIFT, FILES, GAS, IDENTIFICATION, OPACITY, SUSPENSION,
+    table, AC2, ACC, DRIFT, FILES, GAS, IDENTIFICATION, OPACITY, RESULT_FILES, SUSPENSION,
 };
 
 type Change = fn(&mut Random, &Record, &mut Set);
@@ -29,7 +32,7 @@ const CHANGES: &[Weighted] = &[
     ("ACC with L", 4, acc_with_l),
     ("AC2 entry", 10, change_ac2),
     ("ACC entries", 20, change_acc),
-    ("old fuel", 24, change_old_fuel),
+    ("old fuel", 32, change_old_fuel),
     ("differences", 8, change_differences),
     ("axle entry emptied or dropped", 12, change_axle),
     ("gas link or version", 8, |random, _, set| {
@@ -40,6 +43,8 @@ const CHANGES: &[Weighted] = &[
     }),
     ("identification", 26, change_identification),
     ("opacity given or not", 6, give_opacity),
+    ("due dates", 48, change_due_dates),
+    ("measure moved", 10, move_measure),
 ];
 
 /// Those to a set with opacity besides, which is seldom given and has the most entries.
@@ -96,21 +101,21 @@ fn change_once(random: &mut Random, record: &Record, set: &mut Set) -> Option<&'
     unreachable!("the weights sum to {all}")
 }
 
-/// One of the files given; gas more often, which has many entries, and opacity, which besides is seldom given.
+/// One of the files given, AC2 if none is.
 fn pick_file(random: &mut Random, set: &Set) -> u32 {
+    pick_given(random, set, &FILES).unwrap_or(AC2)
+}
+
+/// One of these files, if one is given; gas more often, which has many entries, and opacity, which besides is seldom given.
+fn pick_given(random: &mut Random, set: &Set, files: &[u32]) -> Option<u32> {
     let weight = |file: u32| match file {
         GAS => 3,
         OPACITY => 9,
         _ => 1,
     };
-    let given = FILES
-        .into_iter()
-        .filter(|file| !set.slice(*file).is_empty());
-    let weighted: Vec<u32> = given.flat_map(|file| vec![file; weight(file)]).collect();
-    match weighted.as_slice() {
-        [] => AC2,
-        weighted => random.pick(weighted),
-    }
+    let given = files.iter().filter(|file| !set.slice(**file).is_empty());
+    let weighted: Vec<u32> = given.flat_map(|file| vec![*file; weight(*file)]).collect();
+    (!weighted.is_empty()).then(|| random.pick(&weighted))
 }
 
 fn change_stem(random: &mut Random, _record: &Record, set: &mut Set) {
@@ -317,6 +322,89 @@ fn change_differences(random: &mut Random, _record: &Record, set: &mut Set) {
     *text = join_lines(&lines);
 }
 
+/// A due date that does not cover this day, most often by one day.
+fn expired(random: &mut Random, end: Date) -> Option<Date> {
+    let before = end.previous()?;
+    Some(match random.below(10) {
+        0..=4 => before,
+        5..=7 => before.previous().unwrap_or(before),
+        8 => dates::FIRST,
+        _ => Date::from_digits(&generator::date(random)).min(before),
+    })
+}
+
+/// When something was measured, seldom over the midnight behind the last day.
+fn any_measure(random: &mut Random) -> Measure {
+    let measure = generator::measure(random);
+    if measure.is_over_midnight() && random.chance(12) {
+        let day = dates::LAST;
+        return Measure { day, ..measure };
+    }
+    measure
+}
+
+/// A result file's measure anew, and its due dates about the day on which it ends, some or all of them too early. Seldom
+/// with a wrong Differenza%, which comes behind, or with an empty entry, which comes before.
+fn change_due_dates(random: &mut Random, record: &Record, set: &mut Set) {
+    let Some(file) = pick_given(random, set, &RESULT_FILES) else {
+        return;
+    };
+    let measure = any_measure(random);
+    let text = set.slice_mut(file);
+    for (name, value) in measure.entries() {
+        set_value(text, name, &value);
+    }
+    let too_early = random.pick(&[20, 50, 100]);
+    for name in due_dates(file) {
+        let early = random.chance(too_early);
+        let due = match expired(random, measure.end()).filter(|_| early) {
+            Some(due) => due,
+            None => generator::covering(random, measure.end()).min(dates::LAST),
+        };
+        set_filled(text, name, &due.digits());
+    }
+    match random.below(8) {
+        0 => {
+            change_lines(random, file, text, empty_filled);
+        }
+        1..=3 if file == SUSPENSION => change_differences(random, record, set),
+        _ => {}
+    }
+}
+
+/// Sets the value of an entry that is not empty, as the bench's is where it is not due.
+fn set_filled(text: &mut Vec<u8>, name: &str, value: &[u8]) {
+    let empty = [name.as_bytes(), b"="].concat();
+    if !lines_of(text).contains(&empty) {
+        set_value(text, name, value);
+    }
+}
+
+/// A lawful file's measure a day later, or with its times swapped.
+fn move_measure(random: &mut Random, record: &Record, set: &mut Set) {
+    let Some(file) = pick_given(random, set, &RESULT_FILES) else {
+        return;
+    };
+    let Some(values) = record.file(file) else {
+        return;
+    };
+    let measure = values.measure();
+    let (start, finish) = (measure.finish, measure.start);
+    let moved = if random.chance(50) {
+        let day = measure.day.next().min(dates::LAST);
+        Measure { day, ..measure }
+    } else {
+        Measure {
+            start,
+            finish,
+            ..measure
+        }
+    };
+    for (name, value) in moved.entries() {
+        set_value(set.slice_mut(file), name, &value);
+    }
+}
+
 /// An entry of one of the axles of drift or suspension emptied or dropped.
 fn change_axle(random: &mut Random, _record: &Record, set: &mut Set) {
     let file = random.pick(&[DRIFT, SUSPENSION, SUSPENSION]);
@@ -349,12 +437,8 @@ fn give_opacity(random: &mut Random, _record: &Record, set: &mut Set) {
 
 /// Some of opacity's many entries absent, of another kind or empty.
 fn change_opacity_entries(random: &mut Random, _record: &Record, set: &mut Set) {
-    let text = set.slice_mut(OPACITY);
-    let mut lines = lines_of(text);
     let change = random.pick(&CHANGES_OF_ENTRIES);
-    if change(random, OPACITY, &mut lines).is_some() {
-        *text = join_lines(&lines);
-    }
+    change_lines(random, OPACITY, set.slice_mut(OPACITY), change);
 }
 
 /// Link or version of one of the devices of a file changed, the rest as it was.

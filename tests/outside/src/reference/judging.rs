@@ -1,6 +1,7 @@
 //! 01, Judging: a whole set, and one file alone.
 
 use super::bookings::{judge_ac2, judge_acc};
+use super::devices::{self, judge_devices};
 use super::due::{due_column, is_gas_due, is_l, is_opacity_due, judge_due};
 use super::files::{read_file, FileRead};
 use super::identification::judge_identification;
@@ -52,6 +53,7 @@ pub fn judge_set(set: Slices, places: &mut [u32]) -> Result<Acceptance, Refusal>
     }
     let axles = |file: &Option<FileRead>| file.as_ref().map_or(0, |f| f.axles as u32);
     let mark = |file: &Option<FileRead>| file.as_ref().is_some_and(|f| f.is_filled("CodErrore"));
+    let seconds = |file: &Option<FileRead>| file.as_ref().map_or(0, devices::length);
     Ok(Acceptance {
         drift_axles: axles(&read.drift),
         suspension_axles: axles(&read.suspension),
@@ -61,6 +63,10 @@ pub fn judge_set(set: Slices, places: &mut [u32]) -> Result<Acceptance, Refusal>
         opacity_mark: mark(&read.opacity),
         by_hand: read.gas.as_ref().is_some_and(speed_by_hand),
         names_compared,
+        drift_seconds: seconds(&read.drift),
+        suspension_seconds: seconds(&read.suspension),
+        gas_seconds: seconds(&read.gas),
+        opacity_seconds: seconds(&read.opacity),
     })
 }
 
@@ -138,23 +144,25 @@ fn judge_slice_2<'a>(
     Ok(Some(acc))
 }
 
-/// Drift: optional.
+/// Drift: optional; 19 at its end.
 fn judge_slice_3<'a>(text: &'a [u8], ac2: &FileRead) -> Result<Option<FileRead<'a>>, Refusal> {
     if text.is_empty() {
         return Ok(None);
     }
     let drift = read_file(DRIFT, text)?;
     judge_due(&drift, ac2)?;
+    judge_devices(&drift)?;
     Ok(Some(drift))
 }
 
-/// Suspension: optional; 13 at its end.
+/// Suspension: optional; 19 "after 10 and before 12 or 13 of that file" (02, 5/14), 13 at its end.
 fn judge_slice_4<'a>(text: &'a [u8], ac2: &FileRead) -> Result<Option<FileRead<'a>>, Refusal> {
     if text.is_empty() {
         return Ok(None);
     }
     let suspension = read_file(SUSPENSION, text)?;
     judge_due(&suspension, ac2)?;
+    judge_devices(&suspension)?;
     judge_differences(&suspension)?;
     Ok(Some(suspension))
 }
@@ -182,7 +190,7 @@ fn judge_slice_7<'a>(text: &'a [u8], ac2: &FileRead) -> Result<Option<FileRead<'
     judge_when_due(OPACITY, text, is_opacity_due(ac2), ac2)
 }
 
-/// A file that is given exactly when it is due: 11, then 3 to 10.
+/// A file that is given exactly when it is due: 11, then 3 to 10, then 19.
 fn judge_when_due<'a>(
     file: u32,
     text: &'a [u8],
@@ -195,6 +203,7 @@ fn judge_when_due<'a>(
     }
     let read = read_file(file, text)?;
     judge_due(&read, ac2)?;
+    judge_devices(&read)?;
     Ok(Some(read))
 }
 

@@ -1,13 +1,14 @@
-//! Document 01 as a program, in the order of the paper, with the requests of document 02 that have landed: 1/14 to 4/14.
+//! Document 01 as a program, in the order of the paper, with the requests of document 02 that have landed: 1/14 to 5/14.
 //!
 //! - `lines`: line form. - `kinds`: kinds of value. - `tables`: headings and entries.
 //! - `files`: one file, 3 to 9. - `due`: due entries. - `bookings`: rules of AC2 and ACC.
-//! - `identification`: the identification answer. - `judging`: a whole set, or one file alone.
-//! - `writing`: one file written.
+//! - `identification`: the identification answer. - `devices`: day numbers, measures and due dates.
+//! - `judging`: a whole set, or one file alone. - `writing`: one file written.
 
 #![forbid(unsafe_code)]
 
 pub mod bookings;
+pub mod devices;
 pub mod due;
 pub mod files;
 pub mod identification;
@@ -49,6 +50,11 @@ pub struct Acceptance {
     pub by_hand: bool,
     /// 02, 4/14: "Acceptance carries the number of entry names compared".
     pub names_compared: u32,
+    /// 02, 5/14: "Acceptance gives the length for each result file, 0 for one not given."
+    pub drift_seconds: u32,
+    pub suspension_seconds: u32,
+    pub gas_seconds: u32,
+    pub opacity_seconds: u32,
 }
 
 /// 01, Writing: a file read alone has an axle count.

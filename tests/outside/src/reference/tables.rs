@@ -15,6 +15,9 @@ pub const OPACITY: u32 = 7;
 /// The files that have a table: all but the identification answer.
 pub const FILES: [u32; 6] = [AC2, ACC, DRIFT, SUSPENSION, GAS, OPACITY];
 
+/// The result files: with CodErrore and a measure.
+pub const RESULT_FILES: [u32; 4] = [DRIFT, SUSPENSION, GAS, OPACITY];
+
 /// 01, Results: "1 to 9 axles, as in suspension".
 pub const MOST_AXLES: usize = 9;
 

@@ -1,5 +1,6 @@
 //! The runner itself: it finds the faults of wrong judges, and its calls can be made again.
 
+mod devices;
 mod look_up;
 mod old_fuel;
 mod opacity;
@@ -8,13 +9,15 @@ use outside::comparison::{
     column_case, kind_cases, name_cases, read_case, run_of, set_case, word_cases, write_case,
     Amounts, ONE_RUN,
 };
-use outside::judge::{make, Arrays, Call, Judge, Reference, BY_HAND, NAMES_COMPARED};
+use outside::devices as met_devices;
+use outside::judge::{make, Arrays, Call, Judge, Reference, BY_HAND, NAMES_COMPARED, SECONDS};
 use outside::look_ups;
 use outside::old_fuels;
 use outside::reference::tables::{table, GAS, OPACITY};
 use outside::reference::PLACES;
 use outside::replay;
 
+use devices::Devices;
 use look_up::LookUp;
 use old_fuel::OldFuel;
 use opacity::Opacity;
@@ -42,6 +45,7 @@ enum Fault {
     Opacity(Opacity),
     OldFuel(OldFuel),
     LookUp(LookUp),
+    Devices(Devices),
 }
 
 /// A fault in the mark of the idle speed (02, 1/14): where it is set, or whence it is taken.
@@ -138,7 +142,7 @@ const NONE: Amounts = Amounts {
     columns: 0,
 };
 
-/// Old fuels are judged in sets alone; a day that a fault hangs on is seldom in them.
+/// Old fuels and due dates are judged in sets alone; a day that a fault hangs on is seldom in them.
 const SETS: Amounts = Amounts {
     sets: ONE_RUN.sets,
     ..NONE
@@ -209,6 +213,7 @@ impl Judge for Wrong {
             (Fault::Mark(mark), call) => mark.spoil(call, answer),
             (Fault::Opacity(fault), call) => fault.spoil(call, places, column, answer),
             (Fault::LookUp(fault), call) => fault.spoil(call, places, answer),
+            (Fault::Devices(fault), call) => fault.spoil(call, answer),
             _ => {}
         }
         answer[0]
@@ -294,6 +299,41 @@ fn what_was_not_reached_of_look_ups_is_missing() {
 }
 
 #[test]
+fn what_was_not_reached_of_devices_is_missing() {
+    let report = run_of(&Reference, NONE).expect("no difference");
+    let missing = report.missing();
+    for line in [
+        "judge 19: never at file 5, [AnalisiGas], DataScadenzaProvaVelocita",
+        "judge: never file 7 refused by 19",
+        "judge 0: never file 7, DataScadenzaContagiri: ends over midnight, due that day",
+        "judge 19: never file 4, DataScadenza: ends within a day, due the day before",
+        "judge 0: never ends on 29022000 over midnight, due that day",
+        "judge 19: never ends on 01032000 within a day, due two days before",
+        "judge 19: never file 3 ends past the last day",
+        "judge 19: never file 5, DataScadenzaContagiri and DataScadenzaProvaVelocita out of date",
+        "judge 19: never a wrong Differenza%",
+        "judge 19: never file 7, rev counter INTEGRATO",
+        "judge 19: never file 5, CodErrore filled",
+        "judge 10: never file 4 with a device out of date",
+        "read 0: never file 3 with a device out of date",
+        "judged again: never file 5, 86399 seconds over midnight",
+        "judged again: never ends on 01011900 within a day, due that day",
+        "judge 0: never file 7 not given, 0 seconds",
+        "judge 0: never due date of the bench empty",
+    ] {
+        assert!(missing.contains(&line.to_string()), "{line}");
+    }
+    let wanted = met_devices::wanted();
+    let never = |(call, what): &(&str, String)| missing.contains(&format!("{call}: never {what}"));
+    // Seven due dates and 14 days in two ways, the first day in one; four files with six lengths each, and the bench. Of
+    // refusals besides: three days between, a wrong difference, three and once more two of files, and several devices.
+    let accepted = 2 * 7 + 2 * 14 + 1 + 4 * 6 + 2;
+    let refused = 2 * 7 + 2 * 14 + 2 * 3 + 1 + 4 * 3 + 2 * 2 + 5;
+    assert_eq!(wanted.len(), 2 * accepted + refused + 3 * 4);
+    assert!(wanted.iter().all(never));
+}
+
+#[test]
 fn names_compared_are_held_to_the_sum_over_the_sections() {
     let mut accepted = 0;
     for case in (0..50).map(set_case) {
@@ -311,6 +351,37 @@ fn names_compared_are_held_to_the_sum_over_the_sections() {
         }
     }
     assert!(accepted > 5);
+}
+
+#[test]
+fn devices_and_lengths_are_held_to_dates_and_times() {
+    let (mut accepted, mut refused) = (0, 0);
+    for case in (0..500).map(set_case) {
+        let Call::Judge { set, .. } = &case.call else {
+            panic!("a set");
+        };
+        let mut outcome = make(&Reference, &case.call);
+        assert!(met_devices::is_right(set, &outcome));
+        match outcome.answer[0] {
+            0 => {
+                accepted += 1;
+                for number in SECONDS..SECONDS + 4 {
+                    outcome.answer[number] += 1;
+                    assert!(!met_devices::is_right(set, &outcome), "{number}");
+                    outcome.answer[number] -= 1;
+                }
+            }
+            19 => {
+                refused += 1;
+                outcome.answer[2] += 1;
+                assert!(!met_devices::is_right(set, &outcome));
+                outcome.answer[..3].fill(0);
+                assert!(!met_devices::is_right(set, &outcome));
+            }
+            _ => {}
+        }
+    }
+    assert!(accepted > 50 && refused > 5);
 }
 
 #[cfg(feature = "library")]
@@ -381,6 +452,51 @@ fn faults_of_look_ups_are_found() {
         assert_eq!(right.answer[..BY_HAND], found.answer[..BY_HAND]);
         assert_ne!(right.answer[NAMES_COMPARED], found.answer[NAMES_COMPARED]);
     }
+}
+
+#[test]
+fn faults_of_devices_are_found() {
+    let faults = devices::FAULTS
+        .into_iter()
+        .chain(devices::faults_of_files());
+    for fault in faults {
+        assert_found_by_19_or_length(fault, SETS);
+    }
+    for fault in devices::FAULTS_OF_OTHER_CALLS {
+        assert_found_by_19_or_length(fault, FEW);
+    }
+}
+
+#[test]
+fn what_gives_the_right_answers_is_no_fault() {
+    let amounts = Amounts {
+        sets: 3_000,
+        ..NONE
+    };
+    for right in [
+        // The rule and the lengths as they are.
+        Devices::Grace(0),
+        Devices::Length(devices::Length::InBits(17)),
+        // A number left out: which of two days is the later one stays, and no answer carries a day's number.
+        Devices::FromYear(1901, 1),
+    ] {
+        if let Err(difference) = run_of(&Wrong(Fault::Devices(right)), amounts) {
+            panic!("{right:?}: {difference}");
+        }
+    }
+}
+
+/// One of both refuses by 19, or nothing before the lengths differs.
+fn assert_found_by_19_or_length(fault: Devices, amounts: Amounts) {
+    let fault = Fault::Devices(fault);
+    let call = assert_found(fault, amounts);
+    let [right, found] = [make(&Reference, &call), make(&Wrong(fault), &call)];
+    assert_ne!(right.answer, found.answer);
+    let by_19 = right.answer[0] == 19 || found.answer[0] == 19;
+    assert!(
+        by_19 || right.answer[..SECONDS] == found.answer[..SECONDS],
+        "{fault:?}"
+    );
 }
 
 /// The call at which a fault is found.

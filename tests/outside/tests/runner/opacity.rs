@@ -71,7 +71,7 @@ fn has_plate_of_3(text: &[u8]) -> bool {
     plate.is_some_and(|plate| plate.len() == 3)
 }
 
-fn refuse(answer: &mut [u32], refusal: [u32; 3]) {
+pub fn refuse(answer: &mut [u32], refusal: [u32; 3]) {
     answer.fill(0);
     answer[..3].copy_from_slice(&refusal);
 }

@@ -1,6 +1,7 @@
 //! The reference against the samples of document 01: the table's rows, the established
 //! samples, the misreadings and the settled readings; then those of document 02.
 
+mod devices;
 mod look_up;
 mod old_fuel;
 mod opacity;
@@ -185,7 +186,15 @@ fn judged_with(set: &Set, places: Vec<u32>) -> Outcome {
         set: set.clone(),
         places,
     };
-    make(&Reference, &call)
+    made(&call)
+}
+
+/// What comes of a call, by the reference and, with the feature `library`, the library alike.
+fn made(call: &Call) -> Outcome {
+    let outcome = make(&Reference, call);
+    #[cfg(feature = "library")]
+    assert_eq!(make(&outside::library::Library, call), outcome);
+    outcome
 }
 
 fn judged(set: &Set) -> Outcome {
@@ -215,7 +224,7 @@ fn read(file: u32, text: &[u8], places: usize) -> Outcome {
         text: text.to_vec(),
         places: places_before(places),
     };
-    make(&Reference, &call)
+    made(&call)
 }
 
 fn written(text: &[u8], places: &[u32], file: u32, axles: u32, output: usize) -> Outcome {
@@ -226,15 +235,15 @@ fn written(text: &[u8], places: &[u32], file: u32, axles: u32, output: usize) ->
         axles,
         output: vec![0xAA; output],
     };
-    make(&Reference, &call)
+    made(&call)
 }
 
 #[test]
 fn the_sample_is_accepted() {
     let outcome = judged_with(&sample(), places_before(PLACES + 22));
     assert_eq!(outcome.returned, 0);
-    // Axle counts 2 and 1, drift marked, the idle speed entered by hand, the names compared.
-    let right = [0, 0, 0, 2, 1, 1, 0, 0, 0, 1, 1488, 0, 0, 0, 0, 0];
+    // Axle counts 2 and 1, drift marked, the idle speed entered by hand, the names compared, the lengths.
+    let right = [0, 0, 0, 2, 1, 1, 0, 0, 0, 1, 1488, 900, 900, 900, 0, 0];
     assert_eq!(outcome.answer, right);
     assert_eq!(
         outcome.places[PLACES..],
@@ -674,31 +683,31 @@ fn readings_of_kinds() {
     all(Kind::Exact(5), &["12345"], &["1234", "123456"]);
 }
 
-#[test]
-fn the_version_binds_the_whole_condition_p() {
-    // L1e with bench version 200: checksum due, key not.
+/// A category of condition P, with its bench of this version, and neither key nor checksum.
+fn moped(version: &str) -> Set {
     let mut set = motorcycle();
     set.slices[1].clear();
     replace(&mut set, 1, "=L3e\n", "=L1e\n");
     replace(&mut set, 1, "97/24/CE", "");
-    for name in [
-        "Marca",
-        "Tipo",
-        "NumOmologa",
-        "NumSerie",
-        "NumVersioneSoftware",
+    for (name, value) in [
+        ("Marca", "x"),
+        ("Tipo", "x"),
+        ("NumOmologa", "x"),
+        ("NumSerie", "x"),
+        ("NumVersioneSoftware", "x"),
+        ("DataScadenza", "01012030"),
+        ("NumVersioneProtocollo", version),
     ] {
         let entry = format!("\n{name}ProvaVelocita=");
-        replace(&mut set, 5, &entry, &format!("{entry}x"));
+        replace(&mut set, 5, &entry, &format!("{entry}{value}"));
     }
-    replace(
-        &mut set,
-        5,
-        "DataScadenzaProvaVelocita=",
-        "DataScadenzaProvaVelocita=01012030",
-    );
-    let version = "NumVersioneProtocolloProvaVelocita=";
-    replace(&mut set, 5, version, &format!("{version}200"));
+    set
+}
+
+#[test]
+fn the_version_binds_the_whole_condition_p() {
+    // L1e with bench version 200: checksum due, key not.
+    let set = moped("200");
     assert_refused(&set, (10, 5, 40));
     let mut checksum = set.clone();
     replace(
@@ -716,13 +725,7 @@ fn the_version_binds_the_whole_condition_p() {
     );
     assert_refused(&checksum, (10, 5, 32));
     // With 201 neither is due.
-    replace(
-        &mut set,
-        5,
-        &format!("{version}200"),
-        &format!("{version}201"),
-    );
-    assert_accepted(&set);
+    assert_accepted(&moped("201"));
 }
 
 #[test]

@@ -112,8 +112,8 @@ fn without(mut set: Set) -> Set {
 #[test]
 fn a_diesel_with_opacity_is_accepted() {
     let outcome = judged_with(&diesel(), places_before(PLACES + 1));
-    // Axle counts 2 and 1, drift marked; opacity's revs by hand set no mark. The names compared.
-    let right = [0, 0, 0, 2, 1, 1, 0, 0, 0, 0, 1919, 0, 0, 0, 0, 0];
+    // Axle counts 2 and 1, drift marked; opacity's revs by hand set no mark. The names compared, the lengths.
+    let right = [0, 0, 0, 2, 1, 1, 0, 0, 0, 0, 1919, 900, 900, 0, 900, 0];
     assert_eq!(outcome.answer, right);
     // Pairs 139 to 193: the first and the last entry.
     assert_eq!(outcome.places[278..280], [34, 2]);
