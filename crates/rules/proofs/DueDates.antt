@@ -32,7 +32,7 @@ use Rattle.rules.specs.Devices.{measure_in, due_dates, covers, device_rule, devi
 
 -- ---- the rules at pairs
 
--- which due dates cover the day: those at these pairs, of a file whose first pair is `first`
+-- the first of the due dates at these pairs that does not cover the day, in a file whose first pair is `first`
 unfoldable pub checked : (first : ℕ) (t p : List ℕ) (lastday : ℕ) → List ℕ → RuleCheck
 checked first t p lastday [] = Ok tt
 checked first t p lastday (k ∷ ks) = cond (covers (value_of t p k) lastday) (checked first t p lastday ks) (broken (k - first) DeviceOutOfDate)
@@ -105,20 +105,17 @@ module _ (f : File) (k : ℕ) (e : IsMeasure f k) (n : ℕ) (t p : List ℕ) whe
       let held : (name : String) → is_entry f name ≡ true → PairHeld t p (pair_of f name) = (λ name e. named-held f name e n t p l h) in
       (subst (PairHeld t p) x (held "DataMisura" date), subst (PairHeld t p) y (held "InizioMisura" start), subst (PairHeld t p) z (held "FineMisura" finish))
 
-pairs-of : (i : ℕ) → get_or (map (λ (f : File). map (pair_of f) measure_names) (drift ∷ suspension ∷ gas ∷ opacity ∷ [])) i [] ≡ get_or ((30 ∷ 31 ∷ 32 ∷ []) ∷ (55 ∷ 56 ∷ 57 ∷ []) ∷ (128 ∷ 129 ∷ 130 ∷ []) ∷ (190 ∷ 191 ∷ 192 ∷ []) ∷ []) i []
-pairs-of i = ap (λ (l : List (List ℕ)). get_or l i []) measure-pairs
-
 pub drift-measure : IsMeasure drift 30
-drift-measure = (measure-entries.0, pairs-of 0)
+drift-measure = (measure-entries.0, ap (λ (l : List (List ℕ)). get_or l 0 []) measure-pairs)
 
 pub suspension-measure : IsMeasure suspension 55
-suspension-measure = (measure-entries.1, pairs-of 1)
+suspension-measure = (measure-entries.1, ap (λ (l : List (List ℕ)). get_or l 1 []) measure-pairs)
 
 pub gas-measure : IsMeasure gas 128
-gas-measure = (measure-entries.2, pairs-of 2)
+gas-measure = (measure-entries.2, ap (λ (l : List (List ℕ)). get_or l 2 []) measure-pairs)
 
 pub opacity-measure : IsMeasure opacity 190
-opacity-measure = (measure-entries.3, pairs-of 3)
+opacity-measure = (measure-entries.3, ap (λ (l : List (List ℕ)). get_or l 3 []) measure-pairs)
 
 -- bookings have no measure
 pub booking-measure : (n : ℕ) (t p : List ℕ) → (measure_in ac2 (values_of ac2 n t p) ≡ record { lastday = 0; seconds = 0 }) × (measure_in acc (values_of acc n t p) ≡ record { lastday = 0; seconds = 0 })
