@@ -3,6 +3,8 @@ pub mod Bytes
 pub mod Loops
 pub mod Lanes
 pub mod Words
+pub mod Pieces
+pub mod Steps
 pub mod Reading
 pub mod Lines
 pub mod Layouts

@@ -6,17 +6,17 @@ use native.Mathlib.Nat.{zero-add, add-zero, suc-add, mul-one, add-div_left, mul-
 use native.Mathlib.Omega.{arith}
 use mathlib.Core.Path.{◌≡◌, refl, sym, ap, ap₂, ◌∙◌}
 use mathlib.Core.List.{List}
-use mathlib.Core.Bool.{Bool, true, false, cond, not, false≢true}
+use mathlib.Core.Bool.{Bool, true, false, cond, not, ◌&&◌, false≢true}
 use lib.Dec.{eqb}
-use borrow.Author.Tests.{eq-eqb, eqb-true, eqb-false}
+use borrow.Author.Tests.{eq-eqb, ne_eqb, eqb-true, eqb-false}
 use lib.ListN.{length, get_or, take, drop}
-use lib.Seq.{get_or-take, get_or-drop}
+use lib.Seq.{drop-cons, get_or-take, get_or-drop}
 use Rattle.std.specs.Int.{w64, from_le_bytes}
 use Rattle.lines.proofs.Lanes.{lanes-moved, lacks-is}
 use lib.Count.{count_trailing_zeros, under}
 use lib.Bits.{shifted_half, shifted_even}
 use Rattle.lines.specs.Bytes.{same_bytes, without, other_run}
-use Rattle.lines.proofs.Loops.{same_more, same_stop}
+use Rattle.lines.proofs.Bools.{by-test}
 use Rattle.lines.specs.Words.{lanes, word_at, stops_at}
 use Rattle.std.specs.List.{prefix_len}
 use Rattle.std.proofs.lemmas.List.Sums.{prefix_len-drop_yes, prefix_len-drop_no}
@@ -81,33 +81,26 @@ pub other-found : (b : ℕ) (s : List ℕ) (i : ℕ) → i + 8 ≤ length s → 
 other-found b s i h e =
     found (λ (y : ℕ). not (eqb y b)) s 8 i h (λ z. false≢true (sym e ∙ sym (lacks-is b s 8 i h) ∙ eq-eqb _ 0 z))
 
--- blocks of n bytes that are compared at once
+-- bytes by one number each: the lowest byte and the others
+by-lowest : (a b x y : ℕ) → x < 256 → y < 256 → eqb (a * 256 + x) (b * 256 + y) ≡ (eqb x y && eqb a b)
+by-lowest a b x y h k =
+    by-test (eqb x y)
+    (λ q.
+    let same = eqb-true x y q in
+    by-test (eqb a b)
+    (λ r. eq-eqb _ _ (ap₂ (λ (m n : ℕ). m * 256 + n) (eqb-true a b r) same) ∙ simp (q, r))
+    (λ r. ne_eqb _ _ (λ z. eqb-false a b r (omega arith)) ∙ simp (q, r)))
+    (λ q. ne_eqb _ _ (λ z. eqb-false x y q (omega arith)) ∙ simp q)
+
+-- n bytes of each are the same exactly when their numbers are
 module _ (s t : List ℕ) (small : (k : ℕ) → get_or s k 0 < 256) (narrow : (k : ℕ) → get_or t k 0 < 256) where
-  pub words_same : (n i : ℕ) → i + n ≤ length s → i + n ≤ length t → word_at s n i ≡ word_at t n i
-      → same_bytes (drop i s) (drop i t) ≡ same_bytes (drop (i + n) s) (drop (i + n) t)
-  unfolding lanes
-  words_same zero i h k e = ap (λ (j : ℕ). same_bytes (drop j s) (drop j t)) (sym (add-zero i))
-  words_same (suc n) i h k e =
-      let next : suc i + n ≡ i + suc n = omega arith in
-      same_more s t i (omega arith) (omega arith) (omega (arith, small i, narrow i))
-      ∙ ap (λ (j : ℕ). same_bytes (drop j s) (drop j t)) (add-one i)
-      ∙ words_same n (suc i) (omega arith) (omega arith) (omega (arith, small i, narrow i))
-      ∙ ap (λ (j : ℕ). same_bytes (drop j s) (drop j t)) next
-
-  differ-first : (n i : ℕ) → ((j : ℕ) → j + n ≤ length s → j + n ≤ length t → (word_at s n j ≡ word_at t n j → ⊥) → same_bytes (drop j s) (drop j t) ≡ false)
-      → i + suc n ≤ length s → i + suc n ≤ length t → (q : Bool) → eqb (get_or s i 0) (get_or t i 0) ≡ q
-      → (word_at s n (suc i) * 256 + get_or s i 0 ≡ word_at t n (suc i) * 256 + get_or t i 0 → ⊥) → same_bytes (drop i s) (drop i t) ≡ false
-  differ-first n i all h k true q e =
-      let same = eqb-true (get_or s i 0) (get_or t i 0) q in
-      same_more s t i (omega arith) (omega arith) same
-      ∙ ap (λ (j : ℕ). same_bytes (drop j s) (drop j t)) (add-one i)
-      ∙ all (suc i) (omega arith) (omega arith) (λ z. e (ap₂ (λ (x y : ℕ). x * 256 + y) z same))
-  differ-first n i all h k false q e = same_stop s t i (omega arith) (omega arith) (eqb-false (get_or s i 0) (get_or t i 0) q)
-
-  pub words-differ : (n i : ℕ) → i + n ≤ length s → i + n ≤ length t → (word_at s n i ≡ word_at t n i → ⊥) → same_bytes (drop i s) (drop i t) ≡ false
-  unfolding lanes
-  words-differ zero i h k e = absurd (e refl)
-  words-differ (suc n) i h k e = differ-first n i (words-differ n) h k (eqb (get_or s i 0) (get_or t i 0)) refl e
+  pub word-exactly : (n i : ℕ) → i + n ≤ length s → i + n ≤ length t → same_bytes (take n (drop i s)) (take n (drop i t)) ≡ eqb (word_at s n i) (word_at t n i)
+  unfolding lanes same_bytes
+  word-exactly zero i h k = refl
+  word-exactly (suc n) i h k =
+      rw (drop-cons s i 0 (omega arith), drop-cons t i 0 (omega arith))
+      (ap (λ (q : Bool). eqb (get_or s i 0) (get_or t i 0) && q) (word-exactly n (suc i) (omega arith) (omega arith))
+      ∙ sym (by-lowest (word_at s n (suc i)) (word_at t n (suc i)) (get_or s i 0) (get_or t i 0) (small i) (narrow i)))
 
 -- eight bytes by their worth
 pub word-is : (s : List ℕ) (i : ℕ)

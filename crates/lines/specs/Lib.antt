@@ -1,5 +1,6 @@
 pub mod Bytes
 pub mod Words
+pub mod Comparison
 pub mod Text
 pub mod Line
 pub mod Reading

@@ -6,6 +6,7 @@ ghost use Rattle.std.specs.List.{prefix_len};
 ghost use Rattle.std.specs.Int.Count.{count_trailing_zeros};
 ghost use Rattle.lines.specs.Bytes.{is_printable, is_name, all_printable, same_bytes, without, other_run};
 ghost use Rattle.lines.specs.Words.{word_at, stops_at};
+ghost use Rattle.lines.specs.Comparison.{pieces, steps_over, comparison};
 ghost use Rattle.lines.specs.Line.{heading, entry, written_line, written_length};
 ghost use Rattle.lines.specs.Reading.{start, is_line, line_at};
 ghost use Rattle.lines.specs.Writing.{Wrote};
@@ -235,45 +236,64 @@ pub fn all_printable(part: &[u8]) -> bool
     run_end::<Printable>(part, 0) == part.len()
 }
 
-// Whether two parts of one length hold the same bytes from `at` on, byte by byte: the few that `equal` leaves, by hand for its
-// reason.
-#[tactic(auto, using(crate::proofs::Loops::same_more, crate::proofs::Loops::same_stop, crate::proofs::Loops::same_end))]
-fn equal_rest(a: &[u8], b: &[u8], at: usize) -> bool
+// What a comparison comes to: whether the parts are equal, and its steps (02, 6/14).
+#[derive(Debug, Clone, Copy, PartialEq, Eq)]
+pub struct Comparison {
+    pub equal: bool,
+    pub steps: usize,
+}
+
+// Goes on from `at` on byte by byte, of two parts of one length; up to there each eight bytes were a step.
+#[tactic(auto, using(crate::proofs::Loops::same_more, crate::proofs::Loops::same_stop, crate::proofs::Loops::same_end, crate::proofs::Pieces::bytes))]
+fn compare_rest(a: &[u8], b: &[u8], at: usize) -> Comparison
     requires { (at ≤ length a.now) × (length a.now ≡ length b.now) }
-    ensures { result ≡ same_bytes (drop at a.now) (drop at b.now) }
+    ensures { result ≡ record { equal = same_bytes (drop at a.now) (drop at b.now); steps = at / 8 + steps_over (pieces 0 (drop at a.now)) (pieces 0 (drop at b.now)) } }
 {
     for i in at..a.len() {
         if a[i] != b[i] {
-            return false;
+            return Comparison {
+                equal: false,
+                steps: at / 8 + (i - at) + 1,
+            };
         }
     }
-    true
+    Comparison {
+        equal: true,
+        steps: at / 8 + (a.len() - at),
+    }
 }
 
-// Whether two parts hold the same bytes, capitals included.
-// Eight bytes at a time: `a == b` was tried, and takes 7 % more instructions to read lines and find their names, so that the
-// shortest diesel set would pass the 0.27 of what inih takes (02, 2/14; docs/BENCH.md).
-pub fn equal(a: &[u8], b: &[u8]) -> bool
-    ensures { result ≡ same_bytes a.now b.now }
+// Compares two parts, capitals included, eight bytes at a time while eight remain: `a == b` was tried, and takes 7 % more instructions to
+// read lines and find their names (docs/BENCH.md). The steps are worked out where it ends and not counted on the way: so they cost nothing where
+// nobody asks for them.
+pub fn compare(a: &[u8], b: &[u8]) -> Comparison
+    ensures { result ≡ comparison a.now b.now }
 {
     if a.len() != b.len() {
-        return false;
+        return Comparison {
+            equal: false,
+            steps: 0,
+        };
     }
     let mut i = 0;
     while 8 <= a.len() - i {
         if word(a, i) != word(b, i) {
-            return false;
+            return Comparison {
+                equal: false,
+                steps: i / 8 + 1,
+            };
         }
         i += 8;
     }
-    equal_rest(a, b, i)
+    compare_rest(a, b, i)
 }
 
-// The comparison of entry names, apart from the others: a later request (02, 6/14) gives it a count of its steps.
-pub fn same_name(a: &[u8], b: &[u8]) -> bool
+// Whether two parts hold the same bytes, capitals included.
+#[tactic(auto, unfolding(crate::specs::Comparison::comparison))]
+pub fn equal(a: &[u8], b: &[u8]) -> bool
     ensures { result ≡ same_bytes a.now b.now }
 {
-    equal(a, b)
+    compare(a, b).equal
 }
 
 // The bytes of `part` at the beginning of `out`; how many.

@@ -1,5 +1,7 @@
-// Reads the lines of stored texts and prints what each is, its number and its places.
-// Standard input: for each text a title and the text, each ended by a byte 00.
+// Reads the lines of stored texts and prints what each is, its number and its places; compares stored names and prints whether they are
+// equal, and the steps (02, 6/14).
+// Standard input: for each text a title and the text, for each two names a title that begins with `names`, and the names; each ended by a
+// byte 00.
 #![tactic(auto)]
 
 ghost use Rattle.std.specs.Prelude.{◌-◌, ◌≤◌, length};
@@ -46,6 +48,12 @@ fn show_text(out: &mut impl Write, text: &[u8]) -> io::Result<()> {
     }
 }
 
+fn show_names(out: &mut impl Write, first: &[u8], second: &[u8]) -> io::Result<()> {
+    let found = lines::compare(first, second);
+    let answer = if found.equal { "equal" } else { "not equal" };
+    writeln!(out, "{answer}, steps: {}", found.steps)
+}
+
 fn show_all(out: &mut impl Write, input: &[u8]) -> io::Result<()> {
     let mut rest = input;
     while !rest.is_empty() {
@@ -54,8 +62,14 @@ fn show_all(out: &mut impl Write, input: &[u8]) -> io::Result<()> {
         out.write_all(b"-- ")?;
         out.write_all(title)?;
         out.write_all(b"\n")?;
-        show_text(out, text)?;
-        rest = others;
+        if title.starts_with(b"names") {
+            let (second, further) = split_part(others);
+            show_names(out, text, second)?;
+            rest = further;
+        } else {
+            show_text(out, text)?;
+            rest = others;
+        }
     }
     Ok(())
 }

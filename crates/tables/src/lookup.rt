@@ -46,7 +46,7 @@ impl<'a> Group<'a> {
         let mut at = pass_over(self.tags, first, tag);
         while at.row < self.names.len() {
             at.compared += 1;
-            if lines::same_name(part, self.names[at.row]) {
+            if lines::compare(part, self.names[at.row]).equal {
                 return Some(at);
             }
             at.row += 1;

@@ -1,6 +1,6 @@
-//! Document 01 as a program, in the order of the paper, with the requests of document 02 that have landed: 1/14 to 5/14.
+//! Document 01 as a program, in the order of the paper, with the requests of document 02 that have landed: 1/14 to 6/14.
 //!
-//! - `lines`: line form. - `kinds`: kinds of value. - `tables`: headings and entries.
+//! - `lines`: line form. - `names`: two names compared. - `kinds`: kinds of value. - `tables`: headings and entries.
 //! - `files`: one file, 3 to 9. - `due`: due entries. - `bookings`: rules of AC2 and ACC.
 //! - `identification`: the identification answer. - `devices`: day numbers, measures and due dates.
 //! - `judging`: a whole set, or one file alone. - `writing`: one file written.
@@ -15,6 +15,7 @@ pub mod identification;
 pub mod judging;
 pub mod kinds;
 pub mod lines;
+pub mod names;
 pub mod tables;
 pub mod writing;
 

@@ -2,7 +2,8 @@
 -- before it has been compared. Assumes nothing.
 use native.Mathlib.Omega.{arith}
 use Prim.Native.Nat.{◌+◌}
-use mathlib.Core.Path.{◌∙◌}
+use mathlib.Core.Path.{ap, ◌∙◌}
+use Rattle.lines.proofs.Steps.{equal-is}
 use Rattle.tables.proofs.Listed.{look-here, look-next, look-end, look-pass, size, tags-many, found-at, none-at}
 use Rattle.tables.proofs.lookup.Group.find.Goals as goal
 
@@ -16,11 +17,11 @@ loop-at-init c =
       omega (arith, look-pass (λ n. n.now) g.names.now c.args.part.now g.tagged c.tag_of-tag.ensures 0 _ w),
     )
 
-pub returns-then-same_name : goal.returns-then-same_name
-returns-then-same_name c =
+pub returns-then-compare : goal.returns-then-compare
+returns-then-compare c =
     let g = c.args.self in
     let i = c.loop-at.invariant in
-    let f = i.2 ∙ look-here (λ n. n.now) g.names.now c.args.part.now c.loop-at.at.row _ c.loop-at-test.true c.same_name.ensures c.if-same_name.true in
+    let f = i.2 ∙ look-here (λ n. n.now) g.names.now c.args.part.now c.loop-at.at.row _ c.loop-at-test.true (ap (λ r. r.equal) c.compare.ensures ∙ equal-is _ _) c.if-compare.true in
     found-at _ _ 0 _ (omega (arith, f, size (λ n. n.now) g.names.now c.args.part.now, c.loop-at-test.true)) (omega (arith, f)) (omega (arith, f, i.1))
 
 pub loop-at-preserved : goal.loop-at-preserved
@@ -33,7 +34,7 @@ loop-at-preserved c =
       omega (arith, w.within, tags-many (λ n. n.now) g.names.now g.tagged),
       omega (arith, v.counted, i.1),
       i.2
-          ∙ look-next (λ n. n.now) g.names.now c.args.part.now r _ c.loop-at-test.true c.same_name.ensures c.if-same_name.false
+          ∙ look-next (λ n. n.now) g.names.now c.args.part.now r _ c.loop-at-test.true (ap (λ r. r.equal) c.compare.ensures ∙ equal-is _ _) c.if-compare.false
           ∙ look-pass (λ n. n.now) g.names.now c.args.part.now g.tagged c.tag_of-tag.ensures (r + 1) _ w,
     )
 
