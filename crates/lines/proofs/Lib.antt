@@ -1,6 +1,5 @@
 pub mod Bools
 pub mod Bytes
-pub mod Loops
 pub mod Lanes
 pub mod Words
 pub mod Pieces

@@ -6,7 +6,7 @@ use native.Mathlib.Nat.{zero-add}
 use native.Mathlib.Omega.{arith}
 use mathlib.Core.Path.{◌≡◌, refl, sym, ap, ap₂, ◌∙◌}
 use mathlib.Core.List.{List, [], ◌∷◌}
-use mathlib.Core.Bool.{Bool, false, cond, ◌&&◌, and_assoc}
+use mathlib.Core.Bool.{Bool, true, false, cond, ◌&&◌, and_assoc}
 use lib.Dec.{eqb}
 use lib.ListN.{length, get_or, take, drop, drop_of_length-le, length-drop}
 use lib.Seq.{drop-cons, drop-drop}
@@ -19,7 +19,7 @@ use Rattle.lines.proofs.Bytes.{same_length}
 use Rattle.lines.proofs.Words.{word-exactly}
 
 -- steps from place i on, of eight bytes at a time while eight remain, and of single bytes
-abbrev pub steps_from : List ℕ → List ℕ → ℕ → ℕ
+abbrev steps_from : List ℕ → List ℕ → ℕ → ℕ
 steps_from s t i = steps_over (pieces_of (drop i s)) (pieces_of (drop i t))
 
 abbrev pub byte_steps_from : List ℕ → List ℕ → ℕ → ℕ
@@ -28,19 +28,32 @@ byte_steps_from s t i = steps_over (pieces 0 (drop i s)) (pieces 0 (drop i t))
 -- ---- single bytes
 
 module _ (s t : List ℕ) (i : ℕ) (h : i < length s) (k : i < length t) where
-  pub byte_same : get_or s i 0 ≡ get_or t i 0 → byte_steps_from s t i ≡ 1 + byte_steps_from s t (i + 1)
+  pub same_more : get_or s i 0 ≡ get_or t i 0 → same_bytes (drop i s) (drop i t) ≡ same_bytes (drop (i + 1) s) (drop (i + 1) t)
+  unfolding same_bytes
+  same_more e = rw (drop-cons s i 0 h, drop-cons t i 0 k) (simp (eq-eqb _ _ e, add-one))
+
+  pub same_stop : (get_or s i 0 ≡ get_or t i 0 → ⊥) → same_bytes (drop i s) (drop i t) ≡ false
+  unfolding same_bytes
+  same_stop e = rw (drop-cons s i 0 h, drop-cons t i 0 k) (simp (ne_eqb _ _ e))
+
+  pub step_more : get_or s i 0 ≡ get_or t i 0 → byte_steps_from s t i ≡ 1 + byte_steps_from s t (i + 1)
   unfolding pieces steps_over same_bytes
-  byte_same e = rw (drop-cons s i 0 h, drop-cons t i 0 k) (simp (eq-eqb _ _ e, add-one))
+  step_more e = rw (drop-cons s i 0 h, drop-cons t i 0 k) (simp (eq-eqb _ _ e, add-one))
 
-  pub byte_differs : (get_or s i 0 ≡ get_or t i 0 → ⊥) → byte_steps_from s t i ≡ 1
+  pub step_stop : (get_or s i 0 ≡ get_or t i 0 → ⊥) → byte_steps_from s t i ≡ 1
   unfolding pieces steps_over same_bytes
-  byte_differs e = rw (drop-cons s i 0 h, drop-cons t i 0 k) (simp (ne_eqb _ _ e))
+  step_stop e = rw (drop-cons s i 0 h, drop-cons t i 0 k) (simp (ne_eqb _ _ e))
 
-pub bytes_end : (s t : List ℕ) (i : ℕ) → length s ≤ i → byte_steps_from s t i ≡ 0
-unfolding pieces steps_over
-bytes_end s t i h = rw (drop_of_length-le s h) refl
+module _ (s t : List ℕ) (i : ℕ) (h : length s ≤ i) where
+  pub same_end : length t ≤ i → same_bytes (drop i s) (drop i t) ≡ true
+  unfolding same_bytes
+  same_end k = rw (drop_of_length-le s h, drop_of_length-le t k) refl
 
-pub ruleset bytes = (byte_same, byte_differs, bytes_end)
+  pub step_end : byte_steps_from s t i ≡ 0
+  unfolding pieces steps_over
+  step_end = rw (drop_of_length-le s h) refl
+
+pub ruleset bytes = (same_more, same_stop, same_end, step_more, step_stop, step_end)
 
 -- ---- eight bytes at once
 
@@ -50,12 +63,12 @@ pieces-eight s h =
     let n : length s / 8 ≡ suc (length (drop 8 s) / 8) = omega (arith, length-drop 8 s) in
     ap (λ (k : ℕ). pieces k s) n
 
-pub pieces-few : (s : List ℕ) → length s < 8 → pieces_of s ≡ pieces 0 s
+pieces-few : (s : List ℕ) → length s < 8 → pieces_of s ≡ pieces 0 s
 pieces-few s h =
     let n : length s / 8 ≡ 0 = omega arith in
     ap (λ (k : ℕ). pieces k s) n
 
-pub same_split : (n : ℕ) (s t : List ℕ) → n ≤ length s → n ≤ length t → same_bytes s t ≡ (same_bytes (take n s) (take n t) && same_bytes (drop n s) (drop n t))
+same_split : (n : ℕ) (s t : List ℕ) → n ≤ length s → n ≤ length t → same_bytes s t ≡ (same_bytes (take n s) (take n t) && same_bytes (drop n s) (drop n t))
 unfolding same_bytes
 same_split zero s t h k = refl
 same_split (suc n) [] t h k = absurd (omega arith)

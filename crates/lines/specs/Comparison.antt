@@ -12,7 +12,7 @@ pieces (suc n) s = take 8 s ∷ pieces n (drop 8 s)
 abbrev pub pieces_of : List ℕ → List (List ℕ)
 pieces_of s = pieces (length s / 8) s
 
--- one for each piece, "up to and with the first that differs"
+-- one for each piece, "up to and with the first that differs"; names of one length have as many pieces, so that neither ends first
 unfoldable pub steps_over : List (List ℕ) → List (List ℕ) → ℕ
 steps_over [] ts = 0
 steps_over (s ∷ ss) [] = 0

@@ -244,7 +244,7 @@ pub struct Comparison {
 }
 
 // Goes on from `at` on byte by byte, of two parts of one length; up to there each eight bytes were a step.
-#[tactic(auto, using(crate::proofs::Loops::same_more, crate::proofs::Loops::same_stop, crate::proofs::Loops::same_end, crate::proofs::Pieces::bytes))]
+#[tactic(auto, using(crate::proofs::Pieces::bytes))]
 fn compare_rest(a: &[u8], b: &[u8], at: usize) -> Comparison
     requires { (at ≤ length a.now) × (length a.now ≡ length b.now) }
     ensures { result ≡ record { equal = same_bytes (drop at a.now) (drop at b.now); steps = at / 8 + steps_over (pieces 0 (drop at a.now)) (pieces 0 (drop at b.now)) } }
@@ -263,9 +263,8 @@ fn compare_rest(a: &[u8], b: &[u8], at: usize) -> Comparison
     }
 }
 
-// Compares two parts, capitals included, eight bytes at a time while eight remain: `a == b` was tried, and takes 7 % more instructions to
-// read lines and find their names (docs/BENCH.md). The steps are worked out where it ends and not counted on the way: so they cost nothing where
-// nobody asks for them.
+// Compares two parts, capitals included, eight bytes at a time while eight remain. The steps are worked out from the place at which the
+// comparison ends: counted on the way they cost instructions even where nobody asks for them (docs/BENCH.md).
 pub fn compare(a: &[u8], b: &[u8]) -> Comparison
     ensures { result ≡ comparison a.now b.now }
 {
@@ -288,7 +287,8 @@ pub fn compare(a: &[u8], b: &[u8]) -> Comparison
     compare_rest(a, b, i)
 }
 
-// Whether two parts hold the same bytes, capitals included.
+// Whether two parts hold the same bytes, capitals included, by the same loop: `a == b` was tried, and takes 7 % more instructions to read
+// lines and find their names (docs/BENCH.md).
 #[tactic(auto, unfolding(crate::specs::Comparison::comparison))]
 pub fn equal(a: &[u8], b: &[u8]) -> bool
     ensures { result ≡ same_bytes a.now b.now }

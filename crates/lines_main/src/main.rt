@@ -1,7 +1,7 @@
 // Reads the lines of stored texts and prints what each is, its number and its places; compares stored names and prints whether they are
 // equal, and the steps (02, 6/14).
-// Standard input: for each text a title and the text, for each two names a title that begins with `names`, and the names; each ended by a
-// byte 00.
+// Standard input: for each text a title and the text, for each two names a title that begins with `names: ` and the names; each ended by
+// a byte 00.
 #![tactic(auto)]
 
 ghost use Rattle.std.specs.Prelude.{◌-◌, ◌≤◌, length};
@@ -58,16 +58,16 @@ fn show_all(out: &mut impl Write, input: &[u8]) -> io::Result<()> {
     let mut rest = input;
     while !rest.is_empty() {
         let (title, behind) = split_part(rest);
-        let (text, others) = split_part(behind);
+        let (first, others) = split_part(behind);
         out.write_all(b"-- ")?;
         out.write_all(title)?;
         out.write_all(b"\n")?;
-        if title.starts_with(b"names") {
+        if title.starts_with(b"names: ") {
             let (second, further) = split_part(others);
-            show_names(out, text, second)?;
+            show_names(out, first, second)?;
             rest = further;
         } else {
-            show_text(out, text)?;
+            show_text(out, first)?;
             rest = others;
         }
     }

@@ -14,9 +14,7 @@ use Rattle.std.proofs.lemmas.List.Sums.{fails_before_first, passes_at_first}
 use Rattle.lines.specs.Bytes.{same_bytes, without, other_run}
 use Rattle.lines.proofs.Bools.{and_left, and_right}
 use Rattle.lines.proofs.Bytes.{same-is}
-use Rattle.lines.specs.Comparison.{comparison}
-use Rattle.lines.proofs.Steps.{equal-is}
-use Rattle.kinds.specs.Value.{word_index, is_word_at}
+use Rattle.kinds.specs.Value.{is_word_at}
 use Rattle.kinds.proofs.Laws.{index-here, index-later, index-end, by-test}
 use Rattle.tables.specs.Row.{index_of}
 use Rattle.tables.specs.Tags.{PassesTo}
@@ -121,10 +119,3 @@ module _ (s : List ℕ) (ns : List (List ℕ)) where
       → a + index_of s (drop a ns) ≡ r + index_of s (drop r ns)
   find-passed zero a r e h n = ap (λ (i : ℕ). i + index_of s (drop i ns)) (sym (omega arith))
   find-passed (suc d) a r e h n = find-next s ns a (omega arith) (n a (omega arith) (omega arith)) ∙ find-passed d (a + 1) r (omega arith) h (λ k b l. n k (omega arith) l)
-
--- 02, 6/14: a look-up comes to the first name that the comparison calls equal, whatever steps each takes; so its answer, and how many
--- names it has compared (`looked_up`), are as before
-pub by-comparison : (s : List ℕ) (ns : List (List ℕ)) → position_or_len (λ n. (comparison s n).equal) ns ≡ index_of s ns
-unfolding word_index
-by-comparison s [] = refl
-by-comparison s (n ∷ ns) = rw (equal-is s n, by-comparison s ns) (by-test (same_bytes s n) (λ q. simp q) (λ q. simp q (omega arith)))

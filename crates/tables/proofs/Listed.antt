@@ -10,11 +10,15 @@ use Rattle.lines.proofs.Bools.{clash}
 use Rattle.kinds.proofs.Laws.{by-test}
 use Rattle.tables.specs.LookUps.{looked_up}
 use Rattle.tables.specs.declared.lookup.LookUp.{LookUp}
-use mathlib.Core.Bool.{Bool, true, false}
-use mathlib.Core.List.{List, [], map}
+use mathlib.Core.Bool.{Bool, true, false, cond}
+use mathlib.Core.List.{List, [], ◌∷◌, map}
 use lib.ListN.{length, get_or, take, drop, length-map, get_or-map}
 use Rattle.std.proofs.lemmas.List.{drop-map, take-map}
+use Rattle.std.specs.List.{position_or_len}
 use Rattle.lines.specs.Bytes.{same_bytes}
+use Rattle.lines.specs.Comparison.{comparison}
+use Rattle.lines.proofs.Steps.{equal-is}
+use Rattle.kinds.specs.Value.{word_index}
 use Rattle.kinds.proofs.ByKind.{map_at}
 use Rattle.tables.specs.Row.{index_of}
 use Rattle.tables.specs.Tags.{tag_of, PassesTo}
@@ -89,3 +93,20 @@ module _ (s : List ℕ) (ns : List (List ℕ)) (a : ℕ) where
       by-test (ltb (index_of s ns) (length ns))
       (λ q. let w : Some (record { row = a + index_of s ns; compared = index_of s ns + 1 }) ≡ Some x = rw q at e in (ltb-true _ _ q, cc, cc))
       (λ q. let w : ◌≡◌ {A = Option LookUp} None (Some x) = rw q at e in clash (cc))
+
+-- ---- by the comparison of two names (02, 6/14)
+
+-- the place of the first name that the comparison calls equal; how many there are where it calls none so
+abbrev pub first_equal : List ℕ → List (List ℕ) → ℕ
+first_equal s ns = position_or_len (λ n. (comparison s n).equal) ns
+
+first-equal : (s : List ℕ) (ns : List (List ℕ)) → first_equal s ns ≡ index_of s ns
+unfolding word_index
+first-equal s [] = refl
+first-equal s (n ∷ ns) = rw (equal-is s n, first-equal s ns) (by-test (same_bytes s n) (λ q. simp q) (λ q. simp q (omega arith)))
+
+-- "Answers and the figure of 4/14 are the same": a look-up comes to that name, and has compared it and each before it, whatever steps each took
+pub look-up-by-comparison : (s : List ℕ) (ns : List (List ℕ)) (a : ℕ)
+    → looked_up s ns a ≡ cond (ltb (first_equal s ns) (length ns)) (Some (record { row = a + first_equal s ns; compared = first_equal s ns + 1 })) None
+unfolding looked_up
+look-up-by-comparison s ns a = rw (first-equal s ns) refl

@@ -1,5 +1,5 @@
-//! The names that the stored program of the crate `lines` compares (02, 6/14): its input ends with the
-//! cases made here, and its output with what the reference says of them.
+//! The names that the stored program `lines_main` compares (02, 6/14): its input ends with the cases made
+//! here, and its output with what the reference says of them. That the program prints this, `rt ci` tries.
 //!
 //! Where the stored files end otherwise, the right ends are left in cargo's folder for tests.
 
@@ -10,7 +10,7 @@ use std::path::Path;
 use outside::reference::names::{compare, Comparison};
 use outside::reference::tables::{table, Section, FILES};
 
-/// Names as the samples have them, whether they are equal, and the steps.
+/// Samples: two names, whether they are equal, and the steps.
 const SAMPLES: [(&str, &str, bool, usize); 8] = [
     ("Note", "Note", true, 4),
     ("NumOmologa", "NumOmologa", true, 3),
@@ -22,7 +22,7 @@ const SAMPLES: [(&str, &str, bool, usize); 8] = [
     ("", "", true, 0),
 ];
 
-/// Twice eight bytes and two more, so that each kind of piece stands behind each other.
+/// Twice eight bytes and two more: eight bytes stand behind eight, a byte behind eight bytes, a byte behind a byte.
 const LETTERS: &[u8] = b"abcdefghijklmnopqr";
 
 struct Case {
@@ -75,11 +75,13 @@ fn of_one_length() -> Vec<Case> {
     cases
 }
 
-/// Each length and the next, both ways: the one is the beginning of the other.
+/// Two lengths, both ways: the one name is the beginning of the other. Each length with the next, and lengths of which
+/// the bytes left over are as many, or of which the eights are.
 fn of_two_lengths() -> Vec<Case> {
+    let next = (0..LETTERS.len()).map(|length| (length, length + 1));
     let mut cases = Vec::new();
-    for length in 0..LETTERS.len() {
-        for (one, other) in [(length, length + 1), (length + 1, length)] {
+    for (less, more) in next.chain([(0, 8), (8, 16), (1, 9), (9, 17), (8, 15)]) {
+        for (one, other) in [(less, more), (more, less)] {
             let title = format!("{one} and {other} bytes");
             cases.push(Case::new(title, &LETTERS[..one], &LETTERS[..other]));
         }
@@ -87,7 +89,7 @@ fn of_two_lengths() -> Vec<Case> {
     cases
 }
 
-/// Bytes that no name has, of which eight are a number above half of the greatest.
+/// Bytes that no name has; the numbers of the first eight differ in their highest bit alone.
 fn of_other_bytes() -> Vec<Case> {
     let one: Vec<u8> = (0xF7..=0xFF).collect();
     let mut other = one.clone();
@@ -109,28 +111,27 @@ fn names_of(section: &Section) -> Vec<Case> {
     cases
 }
 
-/// Those of all sections, each once.
+/// Those of all sections.
 fn names_of_tables() -> Vec<Case> {
     let axles = |file| usize::from(table(file).has_axles());
     let sections = FILES
         .iter()
         .flat_map(|file| table(*file).sections(axles(*file)));
-    let mut met = HashSet::new();
-    sections
-        .flat_map(names_of)
-        .filter(|case| met.insert(case.title.clone()))
-        .collect()
+    sections.flat_map(names_of).collect()
 }
 
+/// All, each once.
 fn cases() -> Vec<Case> {
     let samples = SAMPLES
         .iter()
         .map(|(one, other, ..)| Case::of_names(one, other));
+    let mut met = HashSet::new();
     samples
         .chain(of_one_length())
         .chain(of_two_lengths())
         .chain(of_other_bytes())
         .chain(names_of_tables())
+        .filter(|case| met.insert((case.one.clone(), case.other.clone())))
         .collect()
 }
 
