@@ -2,9 +2,9 @@
 use Prim.Native.Nat.{ℕ, zero, suc, ◌+◌, ◌-◌, ◌*◌, ◌/◌, ◌%◌, ◌<◌, ◌≤◌}
 use native.Mathlib.Nat.{zero-add}
 use native.Mathlib.Omega.{arith}
-use mathlib.Core.Path.{◌≡◌, refl, sym, ap, subst, ◌∙◌}
+use mathlib.Core.Path.{◌≡◌, refl, sym, ap, ap₂, subst, ◌∙◌}
 use mathlib.Core.List.{List, [], ◌∷◌}
-use mathlib.Core.Bool.{Bool, true, false, cond}
+use mathlib.Core.Bool.{Bool, true, false, cond, ◌&&◌, false≢true}
 use lib.Dec.{eqb, ltb}
 use lib.ListN.{length, get_or, take, drop, length-drop, length-map}
 use lib.Seq.{get_or-take, get_or-drop, take-take}
@@ -78,6 +78,19 @@ pub record DifferFirst (s t : List ℕ) (p : ℕ) : Type 0 where
   pub within : p < length s
   pub before : take p s ≡ take p t
   pub here : get_or s p 0 ≡ get_or t p 0 → ⊥
+
+-- parts of one length that are not equal differ at some first place
+pub first-difference : (s t : List ℕ) → length s ≡ length t → same_bytes s t ≡ false → (p : ℕ) × DifferFirst s t p
+unfolding same_bytes
+first-difference [] [] l e = absurd (false≢true (sym e))
+first-difference [] (b ∷ t) l e = absurd (omega arith)
+first-difference (a ∷ s) [] l e = absurd (omega arith)
+first-difference (a ∷ s) (b ∷ t) l e =
+    by-test (eqb a b)
+    (λ q.
+    let r = first-difference s t (omega (arith, l)) (sym (ap (λ (x : Bool). x && same_bytes s t) q) ∙ e) in
+    (suc r.0, record { lengths = l; within = omega (arith, r.1.within); before = ap₂ (λ (x : ℕ) (u : List ℕ). x ∷ u) (eqb-true a b q) r.1.before; here = r.1.here }))
+    (λ q. (0, record { lengths = l; within = omega arith; before = refl; here = eqb-false a b q }))
 
 head-of : {a b : ℕ} {s t : List ℕ} → a ∷ s ≡ b ∷ t → a ≡ b
 head-of e = ap (λ (l : List ℕ). get_or l 0 0) e
