@@ -1,5 +1,5 @@
 -- A block of n bytes at once: what a definition says from `i` on, it says from `i + n` on, or it is decided within the
--- block. Assumes nothing.
+-- block; n bytes are the same exactly when their numbers are. Assumes nothing.
 use Prim.Native.Nat.{ℕ, zero, suc, ◌+◌, ◌*◌, ◌/◌, ◌^◌, ◌<◌, ◌≤◌}
 use native.Mathlib.Numerals.{add-one}
 use native.Mathlib.Nat.{zero-add, add-zero, suc-add, mul-one, add-div_left, mul-add-mod_self_right}
@@ -81,7 +81,7 @@ pub other-found : (b : ℕ) (s : List ℕ) (i : ℕ) → i + 8 ≤ length s → 
 other-found b s i h e =
     found (λ (y : ℕ). not (eqb y b)) s 8 i h (λ z. false≢true (sym e ∙ sym (lacks-is b s 8 i h) ∙ eq-eqb _ 0 z))
 
--- bytes by one number each: the lowest byte and the others
+-- two numbers are equal exactly when their lowest bytes are, and what stands above these
 by-lowest : (a b x y : ℕ) → x < 256 → y < 256 → eqb (a * 256 + x) (b * 256 + y) ≡ (eqb x y && eqb a b)
 by-lowest a b x y h k =
     by-test (eqb x y)

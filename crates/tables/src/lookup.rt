@@ -33,8 +33,8 @@ impl<'a> Group<'a> {
         }
     }
 
-    // The row of a name among the group's, looked for in their order. A name is compared with the part only where its tag is the
-    // part's. No `for`: a row is not followed by the next, but by the next of that tag.
+    // The row of a name among the group's, looked for in their order. A name's bytes are compared only where its tag is the part's;
+    // one that is passed over counts as compared all the same. No `for`: a row is not followed by the next, but by the next of that tag.
     pub(crate) fn find(self, part: &[u8]) -> Option<LookUp>
         ensures { result ≡ looked_up part.now (map (λ n. n.now) self.entry.names.now) 0 }
     {

@@ -10,7 +10,7 @@ use std::path::Path;
 use outside::reference::names::{compare, Comparison};
 use outside::reference::tables::{table, Section, FILES};
 
-/// Samples: two names, whether they are equal, and the steps.
+/// Chosen by hand: two names, whether they are equal, and the steps.
 const SAMPLES: [(&str, &str, bool, usize); 8] = [
     ("Note", "Note", true, 4),
     ("NumOmologa", "NumOmologa", true, 3),
