@@ -11,23 +11,36 @@
  * Files: 1 new booking (AC2), 2 old booking (ACC), 3 drift, 4 suspension, 5 gas, 6 the analyser's identification answer,
  * 7 opacity. All but 6 have entries.
  *
- * Places: at least 388 numbers, that is 194 pairs. Numbers 2 k and 2 k + 1 are pair k: start and length of one value in
- * its file, both counted in bytes, the start from 0 and for an empty value too the place after `=`. Pairs stand in the
- * order of the file's table, axles by number. A file's first pair:
+ * Places: at least 582 numbers, three for each of the 194 entries. Numbers 3 k, 3 k + 1 and 3 k + 2 are triple k:
  *
- *     file   first pair   pairs
- *     1      0            12
- *     2      12           6
- *     3      18           16, then 1 for each axle
- *     4      43           16, then 3 for each axle
- *     5      86           53
- *     7      139          55
+ *     number    of an entry
+ *     3 k       start: the place of its value in its file, in bytes from 0; of an empty value the place after `=`
+ *     3 k + 1   length of its value in bytes
+ *     3 k + 2   line on which it stands in its file, from 1: one more than the lines before it, so at least 2
  *
- * Pairs of a file that is not read, and of an axle that is not there, are 0. After a refusal but 1 all pairs are 0. With
- * refusal 1 the places stay. Numbers past the first 388 stay.
+ * The first two are the entry's pair. Triples stand in the order of the file's table, axles by number. A file's first
+ * triple, and the number that it begins at:
  *
- * Names: a file's entries are numbered from 0 in the order of its pairs, all nine axles counted, so that entry k has
- * the pair k past the file's first. Its headings are numbered from 0 in the order of its table; axle n has heading n.
+ *     file   first triple   first number   triples
+ *     1      0              0              12
+ *     2      12             36             6
+ *     3      18             54             16, then 1 for each axle
+ *     4      43             129            16, then 3 for each axle
+ *     5      86             258            53
+ *     7      139            417            55
+ *
+ * Triples of a file that is not read, and of an axle that is not there, are 0 0 0. After a refusal but 1 all triples are
+ * 0 0 0. With refusal 1 the places stay. Numbers past the first 582 stay. Two files with the same lines in another order
+ * have the same values; starts and lines may differ.
+ *
+ * A program that was written for 388 places, two numbers for each entry, has to lend 582; to take start and length, and
+ * for mctc_write to put them, at 3 k and 3 k + 1 where that was 2 k and 2 k + 1; and to begin a file at its first number
+ * in the table above. One that lends 582 or more and still counts by two is not refused with 1: it takes other numbers
+ * for start and length, and mctc_write takes others than it put, and may accept, and write, a file with every value
+ * empty.
+ *
+ * Names: a file's entries are numbered from 0 in the order of its triples, all nine axles counted, so that entry k has
+ * the triple k past the file's first. Its headings are numbered from 0 in the order of its table; axle n has heading n.
  *
  *     file   entries                        headings
  *     1      12                             1
@@ -121,7 +134,7 @@ extern "C" {
 #endif
 
 /* How many numbers places and answer have at least. */
-#define MCTC_PLACES_SIZE 388
+#define MCTC_PLACES_SIZE 582
 #define MCTC_ANSWER_SIZE 16
 
 /* How many bytes the longest name of an entry, the longest heading and the longest word have: room for any of them. */
@@ -188,8 +201,8 @@ extern "C" {
  * where gas is given and its idle speed was entered by hand, 0 where it was measured or gas is not given; 10 is the names
  * compared; 11, 12, 13 and 14 are the seconds that the measures of drift, suspension, gas and opacity lasted, 0 for a
  * file that is not given. Which sets pass does not hang on the numbers 9 to 14: no length is refused. That FineMisura is
- * below InizioMisura counts all the same, as the measure then ends on the next day (19). The places have the pairs of all
- * files that were read. */
+ * below InizioMisura counts all the same, as the measure then ends on the next day (19). The places have the triples of
+ * all files that were read. */
 uint32_t mctc_judge(const uint8_t *stem, size_t stem_length,
                     const uint8_t *ac2, size_t ac2_length,
                     const uint8_t *acc, size_t acc_length,
@@ -205,16 +218,17 @@ uint32_t mctc_judge(const uint8_t *stem, size_t stem_length,
  * the text is empty, then 3 to 9. A refusal carries the file as handed in, 0 with 1.
  *
  * Accepted: answer 3 is the axle count, 0 for all files but 3 and 4; 9 is 1 for file 5 with an idle speed that was
- * entered by hand, 0 for one that was measured or is empty, and for every other file. The places have the pairs of this
- * file; all others are 0. */
+ * entered by hand, 0 for one that was measured or is empty, and for every other file. The places have the triples of this
+ * file; all others are 0 0 0. */
 uint32_t mctc_read(uint32_t file,
                    const uint8_t *text, size_t text_length,
                    uint32_t *places, size_t places_length,
                    uint32_t *answer, size_t answer_length);
 
 /* Writes one file from a text and the pairs of its values, with so many axles: 1 to 9 for files 3 and 4, 0 for the
- * others. Lines stand in the order of the file's table, axles by number. Refuses, in this order, with 1, 16, 17, 9, 18.
- * A refusal carries the file as handed in, 0 with 1.
+ * others. Of each triple only the pair is looked at: its third number may be any, and changes neither answer nor output.
+ * Lines stand in the order of the file's table, axles by number. Refuses, in this order, with 1, 16, 17, 9, 18. A refusal
+ * carries the file as handed in, 0 with 1.
  *
  * Accepted: answer 3 is the length of the written file; output bytes past it stay. Refused: the output stays. The places
  * are read only. */
@@ -300,7 +314,7 @@ uint32_t mctc_word(uint32_t file, uint32_t entry, uint32_t word,
 #define MCTC_NOT_DUE 2
 #define MCTC_FREE 3
 
-/* Gives the due column of one file, by its number: for each of its entries, in the order of its pairs, MCTC_DUE,
+/* Gives the due column of one file, by its number: for each of its entries, in the order of its triples, MCTC_DUE,
  * MCTC_NOT_DUE or MCTC_FREE. AC2's values decide, and for gas and opacity their own too. No entry is held to its column,
  * so that it serves sets that mctc_judge refuses, where AC2 and this file pass 3 to 9. For file 1 the text is AC2 once
  * more.
@@ -310,8 +324,8 @@ uint32_t mctc_word(uint32_t file, uint32_t entry, uint32_t word,
  * has entries. A refusal carries the file as handed in, 1 where it is AC2's, 0 with 1. Refused: the column stays.
  *
  * Accepted: answer 3 is the axle count, 0 for all files but 3 and 4; answer 4 is how many entries the column has, at
- * most 55. Column numbers past them stay. The places have the pairs of this file; all others are 0. With a category L,
- * ACC is not read, whatever its text: its column has no entries. */
+ * most 55. Column numbers past them stay. The places have the triples of this file; all others are 0 0 0. With a category
+ * L, ACC is not read, whatever its text: its column has no entries. */
 uint32_t mctc_due(uint32_t file,
                   const uint8_t *ac2, size_t ac2_length,
                   const uint8_t *text, size_t text_length,

@@ -4,6 +4,7 @@ use std::ffi::{OsStr, OsString};
 use std::os::unix::ffi::OsStrExt;
 use std::path::PathBuf;
 
+use crate::due;
 use crate::entries;
 use crate::file_types::{by_number, FileType, FILE_TYPES};
 use crate::help::{self, Help};
@@ -30,12 +31,15 @@ pub enum Command {
     Due {
         folder: PathBuf,
         stem: OsString,
-        only_marked: bool,
+        wish: due::Wish,
     },
     /// What is said of a refusal or an entry.
     Explain(String),
     Rules,
-    Read(Input),
+    Read {
+        input: Input,
+        json: bool,
+    },
     Format {
         input: Input,
         new: Option<PathBuf>,
@@ -98,9 +102,8 @@ const JUDGE: Grammar = Grammar {
 const DUE: Grammar = Grammar {
     name: "due",
     help: help::DUE,
-    json: false,
     flag: Some("--only-marked"),
-    make: due,
+    make: due_of_set,
     ..JUDGE
 };
 
@@ -123,7 +126,6 @@ const RULES: Grammar = Grammar {
 const READ: Grammar = Grammar {
     name: "read",
     help: help::READ,
-    json: false,
     file: true,
     flag: None,
     make: read,
@@ -133,6 +135,7 @@ const READ: Grammar = Grammar {
 const FORMAT: Grammar = Grammar {
     name: "format",
     help: help::FORMAT,
+    json: false,
     output: true,
     flag: Some("--mend"),
     make: format,
@@ -242,13 +245,13 @@ fn judge(given: Given) -> Result<Command, Trouble> {
     Ok(Command::JudgeSet { folder, stem, wish })
 }
 
-fn due(given: Given) -> Result<Command, Trouble> {
-    let (folder, stem) = folder_and_stem(given.words, "a folder and a stem")?;
-    Ok(Command::Due {
-        folder,
-        stem,
+fn due_of_set(given: Given) -> Result<Command, Trouble> {
+    let wish = due::Wish {
+        json: given.json,
         only_marked: given.flag,
-    })
+    };
+    let (folder, stem) = folder_and_stem(given.words, "a folder and a stem")?;
+    Ok(Command::Due { folder, stem, wish })
 }
 
 fn explain(given: Given) -> Result<Command, Trouble> {
@@ -283,7 +286,8 @@ fn rules(given: Given) -> Result<Command, Trouble> {
 
 fn read(given: Given) -> Result<Command, Trouble> {
     let input = input(given.words, given.file.as_deref(), |_| true)?;
-    Ok(Command::Read(input))
+    let json = given.json;
+    Ok(Command::Read { input, json })
 }
 
 fn format(given: Given) -> Result<Command, Trouble> {

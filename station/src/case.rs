@@ -5,6 +5,7 @@ use mctc::{Column, Places, Refusal};
 use crate::disk::SetOnDisk;
 use crate::edit::{Action, Edit};
 use crate::file_types::{by_number, place, FileType, AC2, COUNT, FILE_TYPES, IDENTIFICATION};
+use crate::placed;
 use crate::shown;
 use crate::table;
 
@@ -149,14 +150,9 @@ impl<'a> Case<'a> {
         }
     }
 
-    /// The value of an entry and its line, where the library reads the file.
+    /// Line and value of an entry, where the library reads the file.
     pub fn value(&self, file: u32, entry: u32) -> Option<(u32, &'a [u8])> {
-        let mut places = Places::default();
-        let text = self.text(file);
-        mctc::read(file, text, &mut places).ok()?;
-        let place = places.value(file, usize::try_from(entry).ok()?)?;
-        let line = shown::line_at(text, place.start);
-        Some((line, text.get(place)?))
+        placed::value(file, usize::try_from(entry).ok()?, self.text(file))
     }
 
     /// What the library refuses this for, where that is due and not there.
@@ -264,7 +260,7 @@ impl<'a> Refused<'a> {
     fn rank(&self) -> (u32, u32, usize) {
         let Refusal { number, file, line } = self.refusal;
         let text = self.text();
-        let entry = || table::entry_at(file, text, line).unwrap_or_default();
+        let entry = || placed::entry_at(file, text, line).unwrap_or_default();
         let (step, place) = match number {
             11 => (0, 0),
             3 => (1, 0),
@@ -272,7 +268,8 @@ impl<'a> Refused<'a> {
             4..=6 => (2, usize::MAX - shown::lines_behind(text, line)),
             7 => (3, table::missing_section(file, text).map_or(0, |at| at.0)),
             8 => (4, table::first_missing_entry(file, text, line)),
-            9 => (5, entry()),
+            // The file is not read, so it has no places.
+            9 => (5, table::entry_at(file, text, line).unwrap_or_default()),
             10 => (6, entry()),
             19 => (7, entry()),
             12 | 13 => (8, entry()),

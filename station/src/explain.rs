@@ -9,6 +9,7 @@ use crate::edit::{Action, Edit};
 use crate::file_types::by_number;
 use crate::finding::Finding;
 use crate::identification;
+use crate::json::Object;
 use crate::line_form;
 use crate::misnamed;
 use crate::not_as_due;
@@ -247,4 +248,45 @@ impl Explained {
             (line, _) => line.to_string(),
         }
     }
+
+    /// For programs.
+    pub fn json(&self) -> Object {
+        about_refusal(Object::default(), Some(self))
+    }
 }
+
+/// The members that say what is refused, where, and what is known of it; 0 and null where nothing is.
+pub fn about_refusal(object: Object, explained: Option<&Explained>) -> Object {
+    let refusal = explained.map_or(NO_REFUSAL, |explained| explained.refusal);
+    let name = explained.and_then(|explained| explained.name.as_deref());
+    let object = object
+        .number("number", refusal.number)
+        .number("file", refusal.file)
+        .number("line", refusal.line)
+        .optional("name", name);
+    known_of_refusal(object, explained)
+}
+
+/// Of these members those behind the place.
+pub fn known_of_refusal(object: Object, explained: Option<&Explained>) -> Object {
+    let said = |what: fn(&Explained) -> Option<&str>| explained.and_then(what);
+    let line = explained.and_then(|explained| explained.line.as_ref());
+    object
+        .optional("meaning", said(|explained| Some(&explained.meaning)))
+        .optional("text", line.map(|line| line.text.as_str()))
+        .optional("remark", line.and_then(|line| line.remark.as_deref()))
+        .optional("to_do", said(|explained| Some(&explained.advice)))
+        .optional("cause", said(|explained| explained.cause.as_deref()))
+        .optional("expected", said(|explained| explained.expected.as_deref()))
+        .object(
+            "mend",
+            explained.and_then(|explained| explained.mend.as_ref().map(Edit::json)),
+        )
+}
+
+/// The numbers of a refusal where there is none.
+const NO_REFUSAL: Refusal = Refusal {
+    number: 0,
+    file: 0,
+    line: 0,
+};

@@ -5,15 +5,15 @@
 //! values of the wrong kind the entries whose condition looks at none of these. Where a file and the new booking pass
 //! all of that, its devices that are out of date (19).
 
-use mctc::{Due, Places, Refusal};
+use mctc::{Places, Refusal};
 
 use crate::case::{Case, Refused};
+use crate::columns::DueAndFound;
 use crate::disk::SetOnDisk;
 use crate::edit::Action;
 use crate::explain::{explain, Explained, Subject};
 use crate::file_types::{AC2, ACC, FILE_TYPES};
 use crate::out_of_date::{covering, uncovered, OUT_OF_DATE};
-use crate::shown;
 
 const WRONG_KIND: u32 = 9;
 const NOT_AS_DUE: u32 = 10;
@@ -109,22 +109,15 @@ impl Alone {
         let Ok(column) = mctc::due(number, set.text(AC2), &self.text, &mut places) else {
             return Vec::new();
         };
-        let line = |entry: usize| {
-            let value = places.value(number, entry)?;
-            Some(shown::line_at(&self.text, value.start))
-        };
+        let line = |entry: usize| places.line(number, entry);
         let is_emptied =
             |entry: usize| line(entry).is_some_and(|line| self.emptied.contains(&line));
         let disagreeing = column.entries.iter().enumerate().filter(|(entry, due)| {
             let is_filled = places
                 .value(number, *entry)
                 .is_some_and(|value| !value.is_empty());
-            let agrees = match due {
-                Due::Due => is_filled,
-                Due::NotDue => !is_filled,
-                Due::Free => true,
-            };
-            !agrees && !is_emptied(*entry) && !looks_at(number, *entry, is_emptied)
+            let disagrees = DueAndFound::entry(**due, is_filled).disagrees();
+            disagrees && !is_emptied(*entry) && !looks_at(number, *entry, is_emptied)
         });
         let case = Case::set(set);
         let case = case.with_text(number, &self.text);

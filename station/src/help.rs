@@ -52,12 +52,14 @@ mctc: judges MCTCNet2 test sets with the proved library
                                     judge one set
   mctc judge FOLDER [--all] [--json]
                                     judge all sets of a folder
-  mctc due FOLDER STEM [--only-marked]
-                                    entry by entry: what is due, what is found
+  mctc due FOLDER STEM [--only-marked] [--json]
+                                    entry by entry: what is due, what is found,
+                                    on which line
   mctc explain NUMBER               what a refusal means, and what to do
   mctc explain ENTRY                what an entry looks like, when it is filled
   mctc rules                        all rules of a set, as Markdown
-  mctc read FILE [--file N]         one file alone, with its values
+  mctc read FILE [--file N] [--json]
+                                    one file alone, with its lines and values
   mctc format FILE [--file N] [--output NEW]
                                     one file written in table order
   mctc format --mend FILE [--output NEW]
@@ -153,16 +155,42 @@ folder, no file of that stem, or a file cannot be read.
 
 pub const DUE: Help = Help::plain(
     "\
-mctc due FOLDER STEM [--only-marked]
+mctc due FOLDER STEM [--only-marked] [--json]
 
 Prints the verdict, for each file whether it is due and whether it is given, and
-for every given file, entry by entry in table order, whether the entry is due
-and whether it is filled; marks what disagrees, and says why. A file that cannot
-be read by its form (refusals 3 to 9) has no column, and where the new booking
-cannot, no file has one. Whether a file is due is unknown where the new booking,
-or gas for the identification answer, is refused.
+for every given file, entry by entry in table order, whether the entry is due,
+whether it is filled, and the line on which it stands in that file; marks what
+disagrees, and says why. The marks are `due, absent` and `given, not due` of a
+file, `due, empty` and `filled, not due` of an entry. A file that cannot be read
+by its form (refusals 3 to 9) has no column, and where the new booking cannot,
+no file has one. Whether a file is due is unknown where the new booking, or gas
+for the identification answer, is refused.
 
   --only-marked  only what disagrees or is refused
+  --json         the same for programs, with the values
+
+With --json one object: stem, accepted, number, file, line, name, meaning, text,
+remark, to_do, cause, expected and mend as from `mctc judge --json`, and files,
+an array of objects, one for each file in the order of their numbers; or stem
+and error where a file cannot be read. The object of a file has:
+
+  file       its number
+  title      what it is
+  name       its name in the folder, null where it is absent
+  due        `due`, `not due` or `free`, null where that is unknown
+  found      `given`, or `absent`, also of an empty file
+  disagrees  true where it is due and absent, or given and not due, else false
+  why        why it is due or not where it disagrees, else null
+  no_column  why its entries are not told, null where they are
+  refusal    where the file by itself is refused (3 to 9, or 11 for the new
+             booking) an object with number, file, line, name, meaning, text,
+             remark, to_do, cause, expected, mend, else null
+  entries    an array of objects, one for each entry in table order: heading,
+             entry (its name), line, value (empty where nothing stands there),
+             due, found (`filled` or `empty`), disagrees, why
+
+With --only-marked files has only those that disagree, are refused or have an
+entry that disagrees, and entries only those that disagree.
 
 Exit status: 0 accepted, and nothing disagrees; 1 something disagrees or is
 refused; 2 bad usage, no file of that stem, or a file cannot be read.
@@ -198,17 +226,29 @@ Exit status: 0 printed; 2 bad usage.
 pub const READ: Help = Help {
     row: |file| Some(numbered(file)),
     text: "\
-mctc read FILE [--file N]
+mctc read FILE [--file N] [--json]
 
 Reads one file alone and prints its axle count, of gas also that the idle speed
-was entered by hand where it was, and each entry with its value, in table order;
-of an identification answer its ten fields. Or the refusal (3 to 9, 11 for an
-empty file, 14 of an identification answer). What is due and the rules between
-files are left to `mctc judge`.
+was entered by hand where it was, and each entry with the line on which it
+stands and its value, in table order; of an identification answer, which has no
+lines, its ten fields. Or the refusal (3 to 9, 11 for an empty file, 14 of an
+identification answer). What is due and the rules between files are left to
+`mctc judge`.
 
   --file N   the file's number; without it the ending of FILE says it
+  --json     the same for programs
 
 FILES
+
+With --json one object: name (FILE), file (its number), title, accepted, number,
+line (0 for none), meaning, text, remark, to_do, cause, expected and mend as
+from `mctc judge --json`, axles, idle_by_hand, entries and fields; or name and
+error where FILE cannot be read. entries is an array of objects, one for each
+entry in table order: heading, entry (its name), line, value (empty where
+nothing stands there). fields is an array of objects, one for each field of an
+identification answer: field (its name), value. entries is empty for an
+identification answer, fields for the other files, and both where FILE is
+refused. axles is 0 and idle_by_hand false where they say nothing of the file.
 
 Exit status: 0 read; 1 refused; 2 bad usage, or FILE cannot be read.
 ",

@@ -1,11 +1,12 @@
 //! The identification answer: its fields, and what is off about it where it is refused (14, 15), found by trial.
 
-use std::ops::Range;
+use mctc::Refusal;
 
 use crate::case::{Case, Refused};
 use crate::edit::{Action, Edit};
 use crate::file_types::{by_number, GAS, IDENTIFICATION};
 use crate::finding::Finding;
+use crate::json::Object;
 use crate::shown::{self, counted};
 
 /// The first byte, the last byte, and the one between fields.
@@ -54,15 +55,39 @@ pub fn fields() -> Vec<Field> {
     own.chain(shared).collect()
 }
 
-/// The fields of an answer that has the form, with their names.
-pub fn page(text: &[u8], places: &[Range<usize>]) -> String {
-    let fields = fields();
+/// A field of an answer that has the form.
+pub struct FieldRead<'a> {
+    name: String,
+    value: &'a [u8],
+}
+
+impl FieldRead<'_> {
+    /// For programs.
+    pub fn json(&self) -> Object {
+        Object::default()
+            .string("field", &self.name)
+            .string("value", &shown::bytes(self.value))
+    }
+}
+
+/// The fields of an answer that has the form, or the refusal.
+pub fn fields_read(text: &[u8]) -> Result<Vec<FieldRead<'_>>, Refusal> {
+    let places = mctc::identification(text)?;
+    let fields = fields().into_iter().zip(places);
+    let read = fields.map(|(field, place)| FieldRead {
+        name: field.name,
+        value: text.get(place).unwrap_or_default(),
+    });
+    Ok(read.collect())
+}
+
+/// A row for each field.
+pub fn page(fields: &[FieldRead]) -> String {
     let width = fields.iter().map(|field| field.name.len()).max();
     let width = width.unwrap_or_default();
-    let rows = fields.iter().zip(places).map(|(field, place)| {
-        let value = text.get(place.clone()).unwrap_or_default();
-        format!("  {:width$} = {}\n", field.name, shown::bytes(value))
-    });
+    let rows = fields
+        .iter()
+        .map(|FieldRead { name, value }| format!("  {name:width$} = {}\n", shown::bytes(value)));
     rows.collect()
 }
 

@@ -4,12 +4,11 @@ use std::ffi::OsStr;
 use std::os::unix::ffi::OsStrExt;
 use std::path::Path;
 
-use mctc::{Acceptance, Places, Refusal};
+use mctc::{Acceptance, Places};
 
 use crate::case::Case;
 use crate::disk::{stem_shown, Folder, SetOnDisk};
-use crate::edit::Edit;
-use crate::explain::{explain, Explained, Subject};
+use crate::explain::{about_refusal, explain, Explained, Subject};
 use crate::file_types::{ACC, DRIFT, FILE_TYPES, GAS, OPACITY, SUSPENSION};
 use crate::further::further;
 use crate::json::Object;
@@ -30,25 +29,29 @@ pub struct Wish {
 }
 
 pub fn run(folder: &Path, stem: &OsStr, wish: Wish, out: &mut Output) -> Result<Status, Trouble> {
-    let json = wish.json;
-    let set = Folder::list(folder).and_then(|folder| folder.named_set(stem.as_bytes()));
-    match set.map(|set| Judged::new(set, wish.all)) {
-        Ok(judged) => {
-            let text = if json {
-                judged.json() + "\n"
-            } else {
-                judged.page()
-            };
-            out.text(&text)?;
-            Ok(judged.status())
-        }
-        Err(trouble) => {
-            if json {
-                out.text(&(not_judged_json(stem.as_bytes(), &trouble) + "\n"))?;
-            }
-            Err(trouble)
-        }
+    let set = named_set(folder, stem, wish.json, out)?;
+    let judged = Judged::new(set, wish.all);
+    let text = match wish.json {
+        true => judged.json() + "\n",
+        false => judged.page(),
+    };
+    out.text(&text)?;
+    Ok(judged.status())
+}
+
+/// The set of this stem. That its files cannot be read is printed for programs too.
+pub fn named_set(
+    folder: &Path,
+    stem: &OsStr,
+    json: bool,
+    out: &mut Output,
+) -> Result<SetOnDisk, Trouble> {
+    let stem = stem.as_bytes();
+    let set = Folder::list(folder).and_then(|folder| folder.named_set(stem));
+    if let (Err(trouble), true) = (&set, json) {
+        out.text(&(not_judged_json(stem, trouble) + "\n"))?;
     }
+    set
 }
 
 /// What is printed for programs where the files of a stem cannot be read.
@@ -249,17 +252,20 @@ impl Judged {
         }
     }
 
-    /// One object; the same members for acceptance and refusal.
-    pub fn json(&self) -> String {
-        let (refusal, acceptance) = match &self.verdict {
-            Ok(acceptance) => (NO_REFUSAL, *acceptance),
-            Err(explained) => (explained.refusal, Acceptance::default()),
-        };
+    /// The first members of an object: the stem, and what is refused.
+    pub fn verdict_json(&self) -> Object {
         let explained = self.verdict.as_ref().err();
         let object = Object::default()
             .string("stem", &self.set.stem_shown())
             .truth("accepted", explained.is_none());
-        let object = about_refusal(object, refusal, explained)
+        about_refusal(object, explained)
+    }
+
+    /// One object; the same members for acceptance and refusal.
+    pub fn json(&self) -> String {
+        let acceptance = self.verdict.as_ref().copied().unwrap_or_default();
+        let object = self
+            .verdict_json()
             .number("drift_axles", acceptance.drift_axles)
             .number("suspension_axles", acceptance.suspension_axles)
             .truth("drift_mark", acceptance.drift_mark)
@@ -276,36 +282,10 @@ impl Judged {
             .strings("notes", self.noted.iter().map(String::as_str));
         let object = match &self.further {
             None => object,
-            Some(findings) => object.objects(
-                "further",
-                findings.iter().map(|finding| {
-                    about_refusal(Object::default(), finding.refusal, Some(finding))
-                }),
-            ),
+            Some(findings) => object.objects("further", findings.iter().map(Explained::json)),
         };
         object.text()
     }
-}
-
-/// The members that say what is refused and what is known of it.
-fn about_refusal(object: Object, refusal: Refusal, explained: Option<&Explained>) -> Object {
-    let said = |what: fn(&Explained) -> Option<&str>| explained.and_then(what);
-    let line = explained.and_then(|explained| explained.line.as_ref());
-    object
-        .number("number", refusal.number)
-        .number("file", refusal.file)
-        .number("line", refusal.line)
-        .optional("name", said(|explained| explained.name.as_deref()))
-        .optional("meaning", said(|explained| Some(&explained.meaning)))
-        .optional("text", line.map(|line| line.text.as_str()))
-        .optional("remark", line.and_then(|line| line.remark.as_deref()))
-        .optional("to_do", said(|explained| Some(&explained.advice)))
-        .optional("cause", said(|explained| explained.cause.as_deref()))
-        .optional("expected", said(|explained| explained.expected.as_deref()))
-        .object(
-            "mend",
-            explained.and_then(|explained| explained.mend.as_ref().map(Edit::json)),
-        )
 }
 
 /// Of drift and suspension with different counts of axles, where both are given.
@@ -398,10 +378,3 @@ fn idle_in_short(acceptance: &Acceptance) -> String {
         false => String::new(),
     }
 }
-
-/// The numbers of a refusal where there is an acceptance.
-const NO_REFUSAL: Refusal = Refusal {
-    number: 0,
-    file: 0,
-    line: 0,
-};

@@ -10,6 +10,7 @@ mod arguments;
 mod booking_tables;
 mod candidates;
 mod case;
+mod columns;
 mod disk;
 mod due;
 mod edit;
@@ -38,6 +39,7 @@ mod other_type;
 mod out_of_date;
 mod output;
 mod page;
+mod placed;
 mod progress;
 mod read;
 mod reasons;
@@ -70,14 +72,10 @@ fn run(command: Command) -> Result<Status, Trouble> {
         Command::Print(text) => out.text(text).map(|()| Status::Accepted),
         Command::JudgeSet { folder, stem, wish } => judge::run(folder, stem, *wish, &mut out),
         Command::JudgeFolder { folder, wish } => folder::run(folder, *wish, &mut out),
-        Command::Due {
-            folder,
-            stem,
-            only_marked,
-        } => due::run(folder, stem, *only_marked, &mut out),
+        Command::Due { folder, stem, wish } => due::run(folder, stem, *wish, &mut out),
         Command::Explain(page) => out.text(page).map(|()| Status::Accepted),
         Command::Rules => out.text(&rulebook::text()).map(|()| Status::Accepted),
-        Command::Read(input) => read::run(input, &mut out),
+        Command::Read { input, json } => read::run(input, *json, &mut out),
         Command::Format { input, new } => format::run(input, new.as_deref(), &mut out),
         Command::Mend { path, new } => format::mend(path, new.as_deref(), &mut out),
     }?;

@@ -1,6 +1,7 @@
 //! When the measure of a result file was (02, 5/14): the entries that say so, and changes to them that are tried.
 
 use crate::edit::{Action, Edit};
+use crate::placed;
 use crate::table::{self, Given};
 
 /// The entries that say when a measure was.
@@ -57,8 +58,14 @@ impl<'a> Measure<'a> {
     }
 }
 
-/// An entry of a file's first section, as it stands in a text.
+/// The first entry of this name, where the library reads the text.
 pub fn given<'a>(file: u32, text: &'a [u8], name: &'static str) -> Option<Given<'a>> {
+    let (line, value) = placed::value(file, table::entry_named(file, name)?, text)?;
+    Some(Given { name, line, value })
+}
+
+/// An entry of a file's first section, as it stands in a text that the library may not read.
+pub fn written<'a>(file: u32, text: &'a [u8], name: &'static str) -> Option<Given<'a>> {
     let heading = mctc::heading_name(file, 0).ok()?;
     let (line, value) = table::line_of(text, &heading, name)?;
     Some(Given { name, line, value })

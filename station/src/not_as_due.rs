@@ -10,16 +10,16 @@ use crate::file_types::FILE_TYPES;
 use crate::finding::Finding;
 use crate::kinds;
 use crate::other_type;
+use crate::placed;
 use crate::reasons::{self, Looked, Why};
 use crate::shown;
-use crate::table;
 
 /// Refusal 10.
 pub fn entry(refused: &Refused) -> Option<Finding> {
     let (file, line) = (refused.refusal.file, refused.refusal.line);
     let (name, value) = refused.entry()?;
     let name = shown::bytes(name);
-    let entry = table::entry_at(file, refused.text(), line)?;
+    let entry = placed::entry_at(file, refused.text(), line)?;
     let entry = u32::try_from(entry).ok()?;
     let why = Why::entry(&refused.case, file, entry);
     if value.is_empty() {

@@ -9,7 +9,7 @@ use crate::edit::{Action, Edit};
 use crate::file_types::{by_number, DRIFT, FILE_TYPES, GAS, OPACITY, SUSPENSION};
 use crate::finding::Finding;
 use crate::identification;
-use crate::measure::{given, with_value, Measure, DAY, END, START};
+use crate::measure::{given, with_value, written, Measure, DAY, END, START};
 use crate::shown;
 use crate::table::Given;
 
@@ -289,10 +289,10 @@ impl OutOfDate<'_> {
         helps.then(|| format!("if line {line} is mistyped, correct that{others}"))
     }
 
-    /// The days of other files of the set that help here.
+    /// The days of other files of the set that help here, of files too that the library does not read.
     fn other_days(&self) -> Vec<String> {
         let days = FILE_TYPES.iter().filter_map(|file| {
-            let day = given(file.number, self.refused.case.beside(file.number), DAY)?;
+            let day = written(file.number, self.refused.case.beside(file.number), DAY)?;
             let helps = self.refused.helps(&self.measure.on_day(day.value));
             helps.then(|| format!("{} {}", file.ending, day.words()))
         });

@@ -7,14 +7,15 @@ use mctc::{FileAcceptance, Places, Refusal};
 
 use crate::case::Case;
 use crate::disk::{read_file, FileOnDisk};
-use crate::explain::{explain, Subject};
+use crate::explain::{explain, known_of_refusal, Explained, Subject};
 use crate::file_types::{
     by_number, endings, numbers_and_titles, split_name, FILE_TYPES, IDENTIFICATION,
 };
-use crate::identification;
+use crate::identification::{self, FieldRead};
+use crate::json::Object;
 use crate::output::{Output, Status, Trouble};
+use crate::placed::{self, under_headings, EntryRead};
 use crate::shown::{self, counted, IDLE_BY_HAND};
-use crate::table::{self, Section};
 
 /// The file to be read: its path, and its number where the command says it.
 #[derive(Debug, PartialEq, Eq)]
@@ -31,21 +32,20 @@ pub struct FileRead {
     pub verdict: Result<FileAcceptance, Refusal>,
 }
 
-pub fn run(input: &Input, out: &mut Output) -> Result<Status, Trouble> {
-    let read = input.read()?;
-    if read.number == IDENTIFICATION {
-        return read.identification(out);
+pub fn run(input: &Input, json: bool, out: &mut Output) -> Result<Status, Trouble> {
+    let read = input.read();
+    if let (Err(trouble), true) = (&read, json) {
+        let object = Object::default().string("name", &shown::name(&input.path));
+        out.text(&(object.string("error", &trouble.0).text() + "\n"))?;
     }
-    match read.verdict {
-        Ok(acceptance) => {
-            out.text(&read.page(acceptance))?;
-            Ok(Status::Accepted)
-        }
-        Err(refusal) => {
-            out.text(&read.refused(refusal))?;
-            Ok(Status::Refused)
-        }
-    }
+    let read = read?;
+    let contents = read.contents();
+    let text = match json {
+        true => contents.json() + "\n",
+        false => contents.page(),
+    };
+    out.text(&text)?;
+    Ok(contents.status())
 }
 
 impl Input {
@@ -81,27 +81,69 @@ fn number_of(path: &Path) -> Result<u32, Trouble> {
 }
 
 impl FileRead {
-    /// The fields of an identification answer, or the refusal.
-    fn identification(&self, out: &mut Output) -> Result<Status, Trouble> {
-        match mctc::identification(&self.file.text) {
-            Ok(places) => {
-                let fields = identification::page(&self.file.text, &places);
-                out.text(&(self.title() + "\n" + &fields))?;
-                Ok(Status::Accepted)
-            }
-            Err(refusal) => {
-                out.text(&self.refused(refusal))?;
-                Ok(Status::Refused)
-            }
+    fn contents(&self) -> Contents<'_> {
+        let found = match self.number {
+            IDENTIFICATION => identification::fields_read(&self.file.text).map(Found::Fields),
+            number => self.verdict.map(|acceptance| {
+                let entries = placed::entries(number, &self.file.text, &self.places);
+                Found::Entries(acceptance, entries)
+            }),
+        };
+        let found = found.map_err(|refusal| self.explained(refusal));
+        Contents { read: self, found }
+    }
+
+    fn explained(&self, refusal: Refusal) -> Explained {
+        let case = Case::file(self.number, &self.file.text);
+        explain(case, refusal, Some(Subject::alone(&self.file)))
+    }
+
+    /// The refusal in plain words.
+    pub fn refused(&self, refusal: Refusal) -> String {
+        refused(&self.file.name, &self.explained(refusal))
+    }
+}
+
+fn refused(name: &str, explained: &Explained) -> String {
+    let number = explained.refusal.number;
+    format!("{name}: refused, number {number}\n{}", explained.page())
+}
+
+/// What the library found in a file.
+enum Found<'a> {
+    Entries(FileAcceptance, Vec<EntryRead>),
+    /// Of an identification answer, which has no lines.
+    Fields(Vec<FieldRead<'a>>),
+}
+
+/// A file with what was found in it, or the refusal.
+struct Contents<'a> {
+    read: &'a FileRead,
+    found: Result<Found<'a>, Explained>,
+}
+
+impl Contents<'_> {
+    fn status(&self) -> Status {
+        match self.found {
+            Ok(_) => Status::Accepted,
+            Err(_) => Status::Refused,
+        }
+    }
+
+    fn page(&self) -> String {
+        match &self.found {
+            Ok(Found::Entries(acceptance, entries)) => self.entries_page(*acceptance, entries),
+            Ok(Found::Fields(fields)) => self.title() + "\n" + &identification::page(fields),
+            Err(explained) => refused(&self.read.file.name, explained),
         }
     }
 
     fn title(&self) -> String {
-        let title = by_number(self.number).map_or("", |file| file.title);
-        format!("{}: {title} (file {})", self.file.name, self.number)
+        let FileRead { file, number, .. } = self.read;
+        format!("{}: {} (file {number})", file.name, title(*number))
     }
 
-    fn page(&self, acceptance: FileAcceptance) -> String {
+    fn entries_page(&self, acceptance: FileAcceptance, entries: &[EntryRead]) -> String {
         let mut page = self.title();
         if acceptance.axles > 0 {
             page += &format!(", {}", counted(acceptance.axles as usize, "axle"));
@@ -109,42 +151,52 @@ impl FileRead {
         if acceptance.idle_by_hand {
             page += &format!(", {IDLE_BY_HAND}");
         }
-        page.push('\n');
-        let sections = table::sections(self.number);
-        let width = longest_name(&sections);
-        for section in &sections {
-            page += &self.section(section, width);
-        }
-        page
+        let width = entries.iter().map(|entry| entry.name.len()).max();
+        let rows = under_headings(
+            entries,
+            |entry| entry,
+            |entry| row(entry, width.unwrap_or_default()),
+        );
+        format!("{page}\n{:>6}\n{rows}", "line")
     }
 
-    /// A heading and its entries with their values; nothing for an axle that is not there.
-    fn section(&self, section: &Section, width: usize) -> String {
-        let mut rows = String::new();
-        for entry in &section.entries {
-            let place = self.places.value(self.number, entry.number);
-            rows += &match place.and_then(|place| self.file.text.get(place)) {
-                None => String::new(),
-                Some([]) => format!("  {:width$} =\n", entry.name),
-                Some(value) => format!("  {:width$} = {}\n", entry.name, shown::bytes(value)),
-            };
-        }
-        if rows.is_empty() {
-            return rows;
-        }
-        format!("{}\n{rows}", section.heading)
-    }
-
-    /// The refusal in plain words.
-    pub fn refused(&self, refusal: Refusal) -> String {
-        let case = Case::file(self.number, &self.file.text);
-        let explained = explain(case, refusal, Some(Subject::alone(&self.file)));
-        let (name, number) = (&self.file.name, refusal.number);
-        format!("{name}: refused, number {number}\n{}", explained.page())
+    /// One object; the same members for acceptance and refusal.
+    fn json(&self) -> String {
+        let FileRead { file, number, .. } = self.read;
+        let explained = self.found.as_ref().err();
+        let refusal = explained.map(|explained| explained.refusal);
+        let (acceptance, entries, fields): (_, &[EntryRead], &[FieldRead]) = match &self.found {
+            Ok(Found::Entries(acceptance, entries)) => (*acceptance, entries, &[]),
+            Ok(Found::Fields(fields)) => (FileAcceptance::default(), &[], fields),
+            Err(_) => (FileAcceptance::default(), &[], &[]),
+        };
+        let object = Object::default()
+            .string("name", &file.name)
+            .number("file", *number)
+            .string("title", title(*number))
+            .truth("accepted", explained.is_none())
+            .number("number", refusal.map_or(0, |refusal| refusal.number))
+            .number("line", refusal.map_or(0, |refusal| refusal.line));
+        let object = known_of_refusal(object, explained)
+            .number("axles", acceptance.axles)
+            .truth("idle_by_hand", acceptance.idle_by_hand)
+            .objects("entries", entries.iter().map(EntryRead::json))
+            .objects("fields", fields.iter().map(FieldRead::json));
+        object.text()
     }
 }
 
-fn longest_name(sections: &[Section]) -> usize {
-    let entries = sections.iter().flat_map(|section| &section.entries);
-    entries.map(|entry| entry.name.len()).max().unwrap_or(0)
+/// What a file is; nothing for a number that no file has.
+fn title(number: u32) -> &'static str {
+    by_number(number).map_or("", |file| file.title)
+}
+
+/// An entry with its value, behind its line.
+fn row(entry: &EntryRead, width: usize) -> String {
+    let EntryRead { name, line, .. } = entry;
+    let value = match entry.is_filled() {
+        true => format!(" {}", entry.value),
+        false => String::new(),
+    };
+    format!("{line:>6}  {name:width$} ={value}\n")
 }

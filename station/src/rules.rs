@@ -2,15 +2,18 @@
 
 use std::collections::BTreeSet;
 
+use mctc::Refusal;
+
 use crate::booking_tables;
 use crate::candidates;
-use crate::case::Refused;
+use crate::case::{Case, Refused};
 use crate::edit::{Action, Edit};
 use crate::file_types::AC2;
 use crate::finding::Finding;
 use crate::fuels;
 use crate::near::nearest;
 use crate::not_as_due::{correction, then_lacking, Correction};
+use crate::placed::{self, EntryRead};
 use crate::reasons::{doubtful, Looked};
 use crate::shown;
 use crate::table::{self, Given};
@@ -72,7 +75,7 @@ fn in_booking(given: &Given) -> String {
 /// Those of the new booking's entries that are filled and decide. Of those that the fuel hangs on, not all do.
 fn deciding<'a>(refused: &Refused<'a>, names: &[&'static str]) -> Vec<Given<'a>> {
     let given = names.iter().filter_map(|name| {
-        let (line, value) = filled(refused.case.text(AC2), AC2, name)?;
+        let (line, value) = filled(&refused.case, name)?;
         Some(Given { name, line, value })
     });
     let given: Vec<Given> = given.collect();
@@ -158,7 +161,7 @@ fn other_fuel(refused: &Refused, name: &[u8], value: &[u8]) -> Option<String> {
     if name != fuels::ENTRY.as_bytes() || value.is_empty() {
         return None;
     }
-    let (line, new) = filled(refused.case.text(AC2), AC2, fuels::ENTRY)?;
+    let (line, new) = filled(&refused.case, fuels::ENTRY)?;
     if fuels::agree(new, value) {
         return None;
     }
@@ -216,26 +219,22 @@ fn hangs_on(file: u32, name: &[u8]) -> &'static [&'static str] {
     }
 }
 
-/// The line and value of a filled entry, from any section of the file.
-fn filled<'a>(text: &'a [u8], file: u32, name: &str) -> Option<(u32, &'a [u8])> {
-    let sections = table::sections(file);
-    let mut found = sections
-        .iter()
-        .filter_map(|section| table::line_of(text, &section.heading, name));
-    found.find(|(_, value)| !value.is_empty())
+/// Line and value of a filled entry of the new booking.
+fn filled<'a>(case: &Case<'a>, name: &str) -> Option<(u32, &'a [u8])> {
+    let entry = table::entry_named(AC2, name)?;
+    let found = placed::value(AC2, entry, case.text(AC2));
+    found.filter(|(_, value)| !value.is_empty())
 }
 
 /// Refusal 13.
 pub fn difference(refused: &Refused) -> Option<Finding> {
-    let text = refused.text();
     let (_, value) = refused.entry()?;
-    let (start, heading) = table::heading_above(text, refused.refusal.line)?;
-    let others: Vec<String> = table::lines_below(text, start)
-        .filter(|(line, _)| *line != refused.refusal.line)
-        .filter_map(|(line, entry)| {
-            let (name, value) = shown::entry(entry)?;
-            Some(shown::entry_at(line, name, value))
-        })
+    let axle = axle(refused)?;
+    let heading = &axle.first()?.heading;
+    let others: Vec<String> = axle
+        .iter()
+        .filter(|entry| entry.line != refused.refusal.line)
+        .map(|entry| shown::entry_at(entry.line, entry.name.as_bytes(), entry.value.as_bytes()))
         .collect();
     let mut edits =
         candidates::numbers(100).filter_map(|number| refused.with_value(number.as_bytes()));
@@ -246,7 +245,7 @@ pub fn difference(refused: &Refused) -> Option<Finding> {
     }?;
     let cause = format!(
         "{}: found {}; this hangs on {}",
-        shown::value(heading),
+        shown::value(heading.as_bytes()),
         shown::value(value),
         others.join(", ")
     );
@@ -256,4 +255,19 @@ pub fn difference(refused: &Refused) -> Option<Finding> {
         mend: Some(mend),
         ..finding.advice(advice)
     })
+}
+
+/// The entries of the axle that the refusal is about, in the order of their lines.
+fn axle(refused: &Refused) -> Option<Vec<EntryRead>> {
+    let Refusal { file, line, .. } = refused.refusal;
+    let text = refused.text();
+    let mut entries = placed::entries(file, text, &placed::read(file, text)?);
+    let heading = entries
+        .iter()
+        .find(|entry| entry.line == line)?
+        .heading
+        .clone();
+    entries.retain(|entry| entry.heading == heading);
+    entries.sort_by_key(|entry| entry.line);
+    Some(entries)
 }

@@ -144,12 +144,6 @@ pub fn length(seconds: u32) -> String {
     }
 }
 
-/// The number of the line in which a byte stands.
-pub fn line_at(text: &[u8], place: usize) -> u32 {
-    let before = text.iter().take(place).filter(|byte| **byte == b'\n');
-    u32::try_from(before.count() + 1).unwrap_or_default()
-}
-
 /// Words in backticks, those that count up as one: `L3e` to `L5e`, `L7e`.
 pub fn word_list(words: &[String]) -> Vec<String> {
     let follows = |one: &String, other: &String| match (one.as_bytes(), other.as_bytes()) {

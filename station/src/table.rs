@@ -28,6 +28,12 @@ impl Given<'_> {
     }
 }
 
+/// The number of the first entry of this name.
+pub fn entry_named(file: u32, name: &str) -> Option<usize> {
+    let mut entries = (0..).map_while(|entry| mctc::entry_name(file, entry).ok());
+    entries.position(|entry| entry.name == name)
+}
+
 /// All sections of a file in table order, those of nine axles too. A file without a table has none.
 pub fn sections(file: u32) -> Vec<Section> {
     let mut sections: Vec<Section> = (0..)
@@ -94,7 +100,7 @@ pub fn lines_below(text: &[u8], heading: u32) -> impl Iterator<Item = (u32, &[u8
         .take_while(|(_, line)| !line.starts_with(b"["))
 }
 
-/// The number of the entry that stands on a line.
+/// The number of the entry that stands on a line, also of a text that the library does not read.
 pub fn entry_at(file: u32, text: &[u8], line: u32) -> Option<usize> {
     let (_, heading) = heading_above(text, line)?;
     let (name, _) = shown::entry_on_line(text, line)?;

@@ -22,11 +22,17 @@ pub mod lent;
 use std::fmt;
 use std::ops::Range;
 
-/// How many numbers places have at least.
-pub const PLACES: usize = 388;
+/// How many numbers places have at least: 582, three for each entry, those of opacity last.
+pub const PLACES: usize = TRIPLE * (FIRST_OF_OPACITY + MOST_ENTRIES);
+
+/// How many numbers an entry has among the places: start and length of its value, and its line (document 02, 7/14).
+const TRIPLE: usize = 3;
 
 /// How many numbers an answer has at least.
 pub const ANSWER: usize = 16;
+
+/// The first triple of opacity.
+const FIRST_OF_OPACITY: usize = 139;
 
 /// The most entries of a file: opacity has 55.
 const MOST_ENTRIES: usize = 55;
@@ -108,7 +114,21 @@ pub struct FileAcceptance {
     pub idle_by_hand: bool,
 }
 
-/// Start and length of each value in its file.
+/// A triple for each entry: start and length of its value in its file, which are its pair, and its line.
+///
+/// Of two sets whose files hold the same lines in another order, starts and lines may differ. [`write`] does not look at
+/// the lines.
+///
+/// ```
+/// let text = b"[DatiLibrettoVeicolo]\r\nTipoVeicolo=LEGGERO\r\nDescrizioneVeicolo=AUTOVETTURA\r\n\
+///     AnnoPrimaImm=2004\r\nAlimentazione_1=\r\nFrenoStazionamento=MANO\r\nNumAssiStazionamento=1\r\n";
+/// let mut places = mctc::Places::default();
+/// mctc::read(2, text, &mut places).unwrap();
+/// let year = places.value(2, 2).unwrap();
+/// assert_eq!((&text[year], places.line(2, 2)), (&b"2004"[..], Some(4)));
+/// let fuel = places.value(2, 3).unwrap();
+/// assert_eq!((&text[fuel], places.line(2, 3)), (&b""[..], Some(5)));
+/// ```
 #[derive(Clone, Debug, PartialEq, Eq)]
 pub struct Places([u32; PLACES]);
 
@@ -125,31 +145,38 @@ impl Places {
     }
 
     /// Where the value of an entry stands in its file, entries numbered from 0 in the order of the file's table. None
-    /// for a number that is no entry's, and for an entry that was not read: its pair is 0, and no value starts at 0.
+    /// for a number that is no entry's, and for an entry that was not read: its numbers are 0, and no value starts at 0.
     pub fn value(&self, file: u32, entry: usize) -> Option<Range<usize>> {
-        let [start, length] = self.pair(file, entry)?.map(|number| number as usize);
+        let [start, length, _] = self.triple(file, entry)?.map(|number| number as usize);
         (start > 0).then(|| start..start + length)
     }
 
-    fn pair(&self, file: u32, entry: usize) -> Option<[u32; 2]> {
-        let (first, count) = pairs_of(file)?;
+    /// The number, from 1, of the line in its file on which an entry stands, filled or empty, entries numbered as for
+    /// [`Places::value`]. Never 1, since a heading stands above every entry. None where there is no value either.
+    pub fn line(&self, file: u32, entry: usize) -> Option<u32> {
+        let [_, _, line] = self.triple(file, entry)?;
+        (line > 0).then_some(line)
+    }
+
+    fn triple(&self, file: u32, entry: usize) -> Option<[u32; TRIPLE]> {
+        let (first, count) = triples_of(file)?;
         if entry >= count {
             return None;
         }
-        let at = 2 * (first + entry);
-        self.0.get(at..at + 2)?.try_into().ok()
+        let at = TRIPLE * (first + entry);
+        self.0.get(at..at + TRIPLE)?.try_into().ok()
     }
 }
 
-/// A file's first pair, and how many it has.
-fn pairs_of(file: u32) -> Option<(usize, usize)> {
+/// A file's first triple, and how many it has.
+fn triples_of(file: u32) -> Option<(usize, usize)> {
     match file {
         1 => Some((0, 12)),
         2 => Some((12, 6)),
         3 => Some((18, 25)),
         4 => Some((43, 43)),
         5 => Some((86, 53)),
-        7 => Some((139, MOST_ENTRIES)),
+        7 => Some((FIRST_OF_OPACITY, MOST_ENTRIES)),
         _ => None,
     }
 }
@@ -413,7 +440,7 @@ fn group_at(groups: &mut Vec<Vec<Reason>>, number: usize) -> &mut Vec<Reason> {
     &mut groups[place]
 }
 
-/// Judges a whole set; the places have the pairs of all files that were read.
+/// Judges a whole set; the places have the triples of all files that were read.
 pub fn judge(set: &Set, places: &mut Places) -> Result<Acceptance, Refusal> {
     answered(|answer| lent::judge(set, &mut places.0, answer)).map(|values| {
         let [drift_axles, suspension_axles, drift, suspension, gas, opacity, rest @ ..] = values;
@@ -436,7 +463,7 @@ pub fn judge(set: &Set, places: &mut Places) -> Result<Acceptance, Refusal> {
     })
 }
 
-/// Reads one file alone; the places have the pairs of this file.
+/// Reads one file alone; the places have the triples of this file.
 ///
 /// ```
 /// let gas = include_bytes!(concat!(
@@ -457,6 +484,7 @@ pub fn read(file: u32, text: &[u8], places: &mut Places) -> Result<FileAcceptanc
 }
 
 /// Writes one file from a text and the pairs of its values, in the order of its table. The length of what is written.
+/// The lines in the places are not looked at.
 pub fn write(
     text: &[u8],
     places: &Places,
@@ -469,7 +497,7 @@ pub fn write(
 }
 
 /// What is due in one file, by the values of AC2 and of that file; AC2's own text is handed in twice for file 1. The
-/// places have the pairs of the file.
+/// places have the triples of the file.
 pub fn due(file: u32, ac2: &[u8], text: &[u8], places: &mut Places) -> Result<Column, Refusal> {
     let mut column = [0; MOST_ENTRIES];
     let [axles, count, ..] =
@@ -481,7 +509,7 @@ pub fn due(file: u32, ac2: &[u8], text: &[u8], places: &mut Places) -> Result<Co
     })
 }
 
-/// The name of an entry, numbered from 0 in the order of the file's pairs, nine axles counted.
+/// The name of an entry, numbered from 0 in the order of the file's triples, nine axles counted.
 pub fn entry_name(file: u32, entry: u32) -> Result<EntryName, Refusal> {
     let mut output = [0; LONGEST_NAME];
     let [length, section, ..] =
@@ -570,5 +598,50 @@ fn answered(call: impl FnOnce(&mut [u32]) -> u32) -> Result<Values, Refusal> {
         Ok(values)
     } else {
         Err(Refusal { number, file, line })
+    }
+}
+
+#[cfg(test)]
+mod tests {
+    use super::{Places, PLACES};
+
+    /// Each number is its place.
+    fn numbered() -> Places {
+        Places(std::array::from_fn(|at| at as u32))
+    }
+
+    #[test]
+    fn triples_stand_in_the_order_of_the_files() {
+        let places = numbered();
+        for (file, entries, first) in [
+            (1, 12, 0),
+            (2, 6, 36),
+            (3, 25, 54),
+            (4, 43, 129),
+            (5, 53, 258),
+            (7, 55, 417),
+        ] {
+            for entry in 0..entries {
+                let at = first + 3 * entry;
+                let value = Some(at..at + at + 1).filter(|_| at > 0);
+                assert_eq!(places.value(file, entry), value, "file {file}");
+                assert_eq!(places.line(file, entry), Some(at as u32 + 2));
+            }
+            assert_eq!(places.line(file, entries), None, "file {file}");
+        }
+        assert_eq!(places.line(7, 54), Some(PLACES as u32 - 1), "the last");
+        for file in [0, 6, 8] {
+            assert_eq!(places.value(file, 0), None, "file {file}");
+            assert_eq!(places.line(file, 0), None, "file {file}");
+        }
+    }
+
+    #[test]
+    fn unused_triples_have_no_value_and_no_line() {
+        let unused = Places::default();
+        assert_eq!((unused.value(1, 0), unused.line(1, 0)), (None, None));
+        let empty = Places(std::array::from_fn(|at| [37, 0, 2][at % 3]));
+        assert_eq!(empty.value(1, 0), Some(37..37), "an empty value");
+        assert_eq!(empty.line(1, 0), Some(2));
     }
 }

@@ -17,6 +17,22 @@ fn refusal(number: u32, file: u32, line: u32) -> Refusal {
     Refusal { number, file, line }
 }
 
+/// The number that the header defines under a name.
+fn defined(name: &str) -> usize {
+    let header = Path::new(env!("CARGO_MANIFEST_DIR")).join("../../include/mctc.h");
+    let header = fs::read_to_string(header).expect("the header");
+    let start = format!("#define {name} ");
+    let mut lines = header.lines();
+    let number = lines.find_map(|line| line.strip_prefix(&start));
+    number.expect(name).parse().expect("a number")
+}
+
+#[test]
+fn the_sizes_are_those_of_the_header() {
+    assert_eq!(mctc::PLACES, defined("MCTC_PLACES_SIZE"));
+    assert_eq!(mctc::ANSWER, defined("MCTC_ANSWER_SIZE"));
+}
+
 #[test]
 fn a_set_is_judged() {
     let ac2 = sample("accepted-trailer/AC204711.ac2");
@@ -45,13 +61,16 @@ fn a_set_is_judged() {
     assert_eq!(mctc::judge(&set, &mut places), Ok(acceptance));
     let third = places.value(3, 18).expect("the third axle");
     assert_eq!(&drift[third], b"12.34");
-    assert_eq!(places.value(3, 19), None, "there is no fourth axle");
-    assert_eq!(places.value(2, 0), None, "the old booking is not given");
-    assert_eq!(
-        places.value(3, usize::MAX),
-        None,
-        "no entry has this number"
-    );
+    assert_eq!(places.line(3, 18), Some(23));
+    for (file, entry, why) in [
+        (3, 19, "there is no fourth axle"),
+        (2, 0, "the old booking is not given"),
+        (3, 25, "no entry has this number"),
+        (3, usize::MAX, "nor this"),
+    ] {
+        assert_eq!(places.value(file, entry), None, "{why}");
+        assert_eq!(places.line(file, entry), None, "{why}");
+    }
 
     set.stem = b"AC20471";
     assert_eq!(mctc::judge(&set, &mut places), Err(refusal(2, 0, 0)));
@@ -113,11 +132,15 @@ fn a_diesel_is_judged_with_its_opacity() {
     assert_eq!(diesel(&opacity, &mut places), Ok(unmarked));
     let plate = places.value(7, 14).expect("Targa");
     assert_eq!(&opacity[plate], b"EZ518RM");
+    assert_eq!(places.line(7, 14), Some(33));
     let last = places.value(7, 54).expect("Operatore");
     assert_eq!(&opacity[last], b"LUCIA FERRI");
+    assert_eq!(places.line(7, 54), Some(32));
     assert_eq!(places.value(7, 55), None, "no entry has this number");
     assert_eq!(places.value(6, 0), None, "the answer has no entries");
-    assert!(places.numbers()[..278].iter().skip(24).all(|at| *at == 0));
+    assert_eq!(places.line(6, 0), None, "and so no lines of entries");
+    let between = &places.numbers()[3 * 12..3 * 139];
+    assert!(between.iter().all(|number| *number == 0));
 
     let text = String::from_utf8(opacity).expect("a text");
     let code = text.replace("CodErrore=", "CodErrore=E21");
@@ -224,23 +247,30 @@ fn a_file_says_whether_its_idle_speed_was_entered_by_hand() {
     }
 }
 
-/// A sample's set, whose files stand under this stem, with endings in capitals.
-fn judged(stem: &str) -> Result<Acceptance, Refusal> {
-    let [ac2, acc, drift, suspension, gas, identification, opacity] =
-        ["AC2", "ACC", "DER", "SOS", "GAS", "ID", "OPA"]
-            .map(|ending| fs::read(samples().join(format!("{stem}.{ending}"))).unwrap_or_default());
+/// The texts of a sample's set, whose files stand under this stem, with endings in capitals.
+fn texts(stem: &str) -> [Vec<u8>; 7] {
+    ["AC2", "ACC", "DER", "SOS", "GAS", "ID", "OPA"]
+        .map(|ending| fs::read(samples().join(format!("{stem}.{ending}"))).unwrap_or_default())
+}
+
+/// The set of these texts.
+fn set<'a>(stem: &'a str, texts: &'a [Vec<u8>; 7]) -> Set<'a> {
     let (_, name) = stem.split_once('/').expect("a folder");
-    let set = Set {
+    let [ac2, acc, drift, suspension, gas, identification, opacity] = texts;
+    Set {
         stem: name.as_bytes(),
-        ac2: &ac2,
-        acc: &acc,
-        drift: &drift,
-        suspension: &suspension,
-        gas: &gas,
-        identification: &identification,
-        opacity: &opacity,
-    };
-    mctc::judge(&set, &mut Places::default())
+        ac2,
+        acc,
+        drift,
+        suspension,
+        gas,
+        identification,
+        opacity,
+    }
+}
+
+fn judged(stem: &str) -> Result<Acceptance, Refusal> {
+    mctc::judge(&set(stem, &texts(stem)), &mut Places::default())
 }
 
 fn accepted(stem: &str) -> Acceptance {
@@ -298,6 +328,148 @@ fn a_device_out_of_date_is_refused_at_its_due_date() {
     ];
     for (stem, right) in right {
         assert_eq!(judged(stem), Err(right), "{stem}");
+    }
+}
+
+/// The line in which a byte of a text stands.
+fn line_at(text: &[u8], place: usize) -> u32 {
+    let ends = text[..place].iter().filter(|byte| **byte == b'\n');
+    ends.count() as u32 + 1
+}
+
+/// Value and line of each entry of a file that the places have.
+fn entries<'a>(file: u32, text: &'a [u8], places: &Places) -> Vec<(&'a [u8], u32)> {
+    let entries = (0..).take_while(|entry| mctc::entry_name(file, *entry).is_ok());
+    let entries = entries.filter_map(|entry| {
+        let value = places.value(file, entry as usize);
+        let line = places.line(file, entry as usize);
+        assert_eq!(value.is_some(), line.is_some(), "file {file}, {entry}");
+        let (value, line) = (value?, line?);
+        assert_eq!(line, line_at(text, value.start), "file {file}, {entry}");
+        Some((&text[value], line))
+    });
+    entries.collect()
+}
+
+#[test]
+fn each_entry_has_its_line() {
+    for (stem, right) in [
+        ("accepted-car/AA123456", [12, 6, 18, 22, 53, 0, 0]),
+        ("accepted-diesel/AE305518", [12, 6, 18, 22, 0, 0, 55]),
+        // Its old booking is not read.
+        ("accepted-moped/AD900123", [12, 0, 0, 0, 53, 0, 0]),
+        ("refused-12/AB120012", [0; 7]),
+    ] {
+        let texts = texts(stem);
+        let mut places = Places::default();
+        let accepted = mctc::judge(&set(stem, &texts), &mut places).is_ok();
+        let counts = [1, 2, 3, 4, 5, 6, 7].map(|file: u32| {
+            let text = &texts[file as usize - 1];
+            let of_set = entries(file, text, &places);
+            // Reading the file alone and its due column give the same.
+            if accepted && !of_set.is_empty() {
+                let mut alone = Places::default();
+                mctc::read(file, text, &mut alone).expect("it is read");
+                assert_eq!(entries(file, text, &alone), of_set, "{stem}, {file}");
+                let mut beside = Places::default();
+                mctc::due(file, &texts[0], text, &mut beside).expect("a column");
+                assert_eq!(beside, alone, "{stem}, {file}");
+            }
+            of_set.len()
+        });
+        assert_eq!(counts, right, "{stem}");
+    }
+}
+
+#[test]
+fn another_order_of_lines_has_the_same_values_on_other_lines() {
+    let text = sample("accepted-car/AA123456.GAS");
+    let mut places = Places::default();
+    mctc::read(5, &text, &mut places).expect("it is read");
+    // The analyser's make, its checksum, which is empty, and the idle speed: the second section stands first.
+    let lines = |places: &Places| [0, 32, 51].map(|entry| places.line(5, entry));
+    assert_eq!(lines(&places), [Some(37), Some(24), Some(2)]);
+
+    let mut in_order = vec![0; text.len()];
+    mctc::write(&text, &places, 5, 0, &mut in_order).expect("it is written");
+    let mut others = Places::default();
+    mctc::read(5, &in_order, &mut others).expect("it is read");
+    assert_eq!(lines(&others), [Some(2), Some(34), Some(54)]);
+    let values = |text, places| -> Vec<_> {
+        let entries = entries(5, text, places).into_iter();
+        entries.map(|(value, _)| value.to_vec()).collect()
+    };
+    assert_eq!(values(&text, &places), values(&in_order, &others));
+}
+
+/// Places as numbers, with others than the lines that reading gave.
+fn with_lines(places: &Places, line: impl Fn(u32) -> u32) -> Vec<u32> {
+    let mut numbers = places.numbers().to_vec();
+    for triple in numbers.chunks_exact_mut(3) {
+        triple[2] = line(triple[2]);
+    }
+    numbers
+}
+
+/// What `mctc_write` gives of a drift file: the answer and the output.
+fn written(text: &[u8], places: &[u32]) -> ([u32; mctc::ANSWER], Vec<u8>) {
+    let (mut answer, mut output) = ([7; mctc::ANSWER], vec![b'~'; text.len() + 8]);
+    let number = mctc::lent::write(text, places, 3, 3, &mut output, &mut answer);
+    assert_eq!(number, answer[0]);
+    (answer, output)
+}
+
+#[test]
+fn writing_looks_at_no_line() {
+    let text = sample("accepted-trailer/AC204711.der");
+    let mut places = Places::default();
+    mctc::read(3, &text, &mut places).expect("it is read");
+    // Written, refused at a value that is no number (9), and at one outside the text (17).
+    let no_number = [&text[..text.len() - 3], b"x\r\n"].concat();
+    let cut_off = &text[..text.len() - 4];
+    for (text, number) in [(&text[..], 0), (&no_number, 9), (cut_off, 17)] {
+        let right = written(text, places.numbers());
+        assert_eq!(right.0[0], number);
+        for line in [|_| 0, |_| u32::MAX, |line: u32| line.wrapping_sub(3)] {
+            assert_eq!(written(text, &with_lines(&places, line)), right);
+        }
+    }
+    let refused = written(cut_off, places.numbers()).0;
+    assert_eq!(refused[1..3], [3, 23], "the line that it would have");
+}
+
+/// A call that is lent places and an answer.
+type LentCall<'a> = &'a dyn Fn(&mut [u32], &mut [u32]) -> u32;
+
+#[test]
+fn places_have_at_least_582_numbers() {
+    let text = sample("accepted-trailer/AC204711.der");
+    let ac2 = sample("accepted-trailer/AC204711.ac2");
+    let set = Set {
+        stem: b"AC204711",
+        ac2: &ac2,
+        drift: &text,
+        ..Set::default()
+    };
+    let calls: [LentCall; 4] = [
+        &|places, answer| mctc::lent::judge(&set, places, answer),
+        &|places, answer| mctc::lent::read(3, &text, places, answer),
+        &|places, answer| mctc::lent::due(3, &ac2, &text, places, &mut [0; 25], answer),
+        // The output is too short (18), which comes after the places.
+        &|places, answer| mctc::lent::write(&text, places, 3, 3, &mut [], answer),
+    ];
+    for (call, right) in calls.into_iter().zip([0, 0, 0, 18]) {
+        let mut answer = [0; mctc::ANSWER];
+        let mut short = [9; 581];
+        assert_eq!(call(&mut short, &mut answer), 1);
+        assert_eq!(answer[..3], [1, 0, 0]);
+        assert_eq!(short, [9; 581], "they stay");
+
+        let mut read = Places::default();
+        mctc::read(3, &text, &mut read).expect("it is read");
+        let mut longer = [read.numbers(), &[9; 8][..]].concat();
+        assert_eq!(call(&mut longer, &mut answer), right);
+        assert_eq!(longer[582..], [9; 8], "those past the first 582 stay");
     }
 }
 

@@ -11,7 +11,7 @@ use Rattle.std.specs.Prelude.{Result, Err}
 use Rattle.refusals.specs.Refusals.{number_of}
 use Rattle.refusals.specs.Answer.{Answer, refusal, acceptance, followed}
 use Rattle.refusals.specs.declared.Refusal.{Refusal}
-use Rattle.places.specs.Places.{Pair, set_pairs, pairs_at, value_at, Within}
+use Rattle.places.specs.Places.{Pair, set_triples, pairs_at, value_at, Within}
 use Rattle.tables.specs.File.{File, ac2, first_pair, least_places, of_number}
 use Rattle.files.specs.declared.FileAcceptance.{FileAcceptance}
 use Rattle.files.specs.Alone.{ReadsAlone}
@@ -43,10 +43,10 @@ module _ {s p q : List ℕ} {n : ℕ} (x : AloneRead 1 s p q n) where
 
   -- ---- AC2 was read
 
-  -- its pairs are cleared again
+  -- its places are cleared again
   places_same : (file : ℕ) (o : Answer FileColumn) → places_of file o q ≡ places_of file o p
   places_same file (refusal k f l) = rw (le-leb least_places (length q) still-enough, le-leb least_places (length p) x.enough) (alone-cleared x)
-  places_same file (acceptance c) = ap (set_pairs (of_number 0 first_pair file) c.pairs) (alone-cleared x)
+  places_same file (acceptance c) = ap (set_triples (of_number 0 first_pair file) c.pairs c.lines) (alone-cleared x)
 
   abbrev beside : ℕ → List ℕ → ℕ → Answer FileColumn
   beside file t room = fitting file room (column_beside file (map (value_at s) x.pairs) t)

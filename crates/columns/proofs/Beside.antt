@@ -11,7 +11,7 @@ use Rattle.refusals.specs.Refusals.{number_of, refusal_with}
 use Rattle.refusals.specs.Answer.{refusal, acceptance}
 use Rattle.refusals.specs.declared.Refusal.{Refusal}
 use Rattle.refusals.specs.declared.RefusalKind.TheVariants.{OutputTooShort}
-use Rattle.places.specs.Places.{Pair, set_pairs, value_at, cleared, Within}
+use Rattle.places.specs.Places.{Pair, set_triples, value_at, cleared, Within}
 use Rattle.tables.specs.Section.{Section, entries_of}
 use Rattle.tables.specs.Row.{entries_before}
 use Rattle.tables.specs.File.{File, of_number, fixed_sections, entries, first_pair, least_places, table_of}
@@ -89,7 +89,7 @@ module _ {file : ℕ} {t p q : List ℕ} {n : ℕ} (x : AloneRead file t p q n) 
         ∙ ap (numbers_from (λ i. due_of f i (conditions_of f a own)) 0) (em ∙ ap (λ (j : ℕ). length (entries f j)) x.axles-are)
 
   abbrev whole : List (List ℕ) → FileColumn
-  whole a = column_read f a t x.count x.pairs
+  whole a = column_read f a t x.count x.pairs x.lines
 
   column-size : (a : List (List ℕ)) → length (whole a).numbers ≡ size
   unfolding column_of
@@ -99,7 +99,7 @@ module _ {file : ℕ} {t p q : List ℕ} {n : ℕ} (x : AloneRead file t p q n) 
 
   text-column : (a : List (List ℕ)) → column_of_text file a t ≡ acceptance (whole a)
   text-column a =
-      rw x.reading-is (by-alone x (refusal 16 file 0) (λ f. acceptance (column_read f a t x.count x.pairs)))
+      rw x.reading-is (by-alone x (refusal 16 file 0) (λ f. acceptance (column_read f a t x.count x.pairs x.lines)))
 
   -- ---- 18, or the column
 
@@ -121,7 +121,7 @@ module _ {file : ℕ} {t p q : List ℕ} {n : ℕ} (x : AloneRead file t p q n) 
     given l c ec =
         rw (text-column a, le-leb (length (whole a).numbers) (length out) (omega (arith, many, l))) (record {
           answer = ap₂ (λ (j y : ℕ). acceptance (record { axles = j; count = y })) x.axles-are (sym many);
-          places = x.places-are ∙ ap (λ (j : ℕ). set_pairs j x.pairs (cleared least_places p)) (sym (by-alone x 0 first_pair));
+          places = x.places-are ∙ ap (λ (j : ℕ). set_triples j x.pairs x.lines (cleared least_places p)) (sym (by-alone x 0 first_pair));
           column = ap₂ (λ (y : List ℕ) (j : ℕ). y ++ drop j out) ec (sym many);
         })
 
@@ -137,7 +137,7 @@ module _ (file : ℕ) (t p out : List ℕ) (b : Booking) (u : Bool) (eu : u ≡ 
       (ap (λ (y : Booking). of_number true (λ f. is_read f y true) file) (sym eb) ∙ sym eu ∙ e)
 
   pub beside-unread : u ≡ false → (k : ℕ) → k ≡ least_places → Left (cleared k p) out (Ok (record { axles = 0; count = 0 }))
-  unfolding set_pairs
+  unfolding set_triples
   beside-unread e k ek =
       rw (test false e, le-leb 0 (length out) (omega arith)) (record { answer = refl; places = ap (λ (j : ℕ). cleared j p) ek; column = refl })
 

@@ -2,7 +2,7 @@
 use Rattle.std.specs.Prelude.{ℕ, zero, suc, ◌+◌, ◌≡◌, Bool, true, cond, not, List, [], ◌∷◌, ◌++◌, map, eqb, leb, length, drop, Result}
 use Rattle.refusals.specs.Answer.{Answer, refusal, acceptance, answer_is, require, followed}
 use Rattle.refusals.specs.declared.Refusal.{Refusal}
-use Rattle.places.specs.Places.{Pair, value_at, set_pairs, cleared}
+use Rattle.places.specs.Places.{Pair, value_at, set_triples, cleared}
 use Rattle.tables.specs.File.{File, entries, first_pair, least_places, of_number}
 use Rattle.reading.specs.Reading.{Reading, refused, read}
 use Rattle.files.specs.Files.{axles_of}
@@ -47,31 +47,32 @@ first_not_as_numbered i (k ∷ ks) (x ∷ xs) = cond (as_numbered k x) (first_no
 
 -- ---- the answer with the column
 
--- what is given of a file: its axle count, a number for each entry, and the pairs of its values
+-- what is given of a file: its axle count, a number for each entry, and the pairs of its values with their lines (02, 7/14)
 pub record FileColumn : Type 0 where
   pub axles : ℕ
   pub numbers : List ℕ
   pub pairs : List Pair
+  pub lines : List ℕ
 
 -- of a file that is not read: no entry is there
 abbrev pub no_column : FileColumn
-no_column = record { axles = 0; numbers = []; pairs = [] }
+no_column = record { axles = 0; numbers = []; pairs = []; lines = [] }
 
--- of file f, whose text t was read: c sections, and the pairs of its values; a for AC2's values
-abbrev pub column_read : File → List (List ℕ) → List ℕ → ℕ → List Pair → FileColumn
-column_read f a t c ps =
-    record { axles = axles_of f c; numbers = column_of f (axles_of f c) a (map (value_at t) ps); pairs = ps }
+-- of file f, whose text t was read: c sections, and the pairs and lines of its values; a for AC2's values
+abbrev pub column_read : File → List (List ℕ) → List ℕ → ℕ → List Pair → List ℕ → FileColumn
+column_read f a t c ps ls =
+    record { axles = axles_of f c; numbers = column_of f (axles_of f c) a (map (value_at t) ps); pairs = ps; lines = ls }
 
--- the count of sections, and the pairs; 01, Writing: "a refusal's file is as in writing": the file as handed in
-abbrev pub read_as : ℕ → Reading → Answer (ℕ × List Pair)
+-- the count of sections, the pairs and the lines; 01, Writing: "a refusal's file is as in writing": the file as handed in
+abbrev pub read_as : ℕ → Reading → Answer (ℕ × List Pair × List ℕ)
 read_as file (refused k l) = refusal k file l
-read_as file (read c ps ls) = acceptance (c, ps)
+read_as file (read c ps ls) = acceptance (c, ps, ls)
 
 -- 16, 11, 3 to 9, then the column; what is read has the number of a file
 abbrev pub column_of_text : ℕ → List (List ℕ) → List ℕ → Answer FileColumn
 column_of_text file a t =
     followed (read_as file (read_alone file t))
-    (λ x. of_number (refusal 16 file 0) (λ f. acceptance (column_read f a t x.0 x.1)) file)
+    (λ x. of_number (refusal 16 file 0) (λ f. acceptance (column_read f a t x.0 x.1 x.2)) file)
 
 -- 01, Bookings, of ACC: "With category L it is not read"
 abbrev pub column_beside : ℕ → List (List ℕ) → List ℕ → Answer FileColumn
@@ -97,7 +98,7 @@ answer_of r = followed r (λ c. acceptance (record { axles = c.axles; count = le
 -- 01, Writing: "other files' pairs hold 0, after a refusal but 1 all pairs do", and with 1 the places stay
 abbrev pub places_of : ℕ → Answer FileColumn → List ℕ → List ℕ
 places_of file (refusal k f l) p = cond (leb least_places (length p)) (cleared least_places p) p
-places_of file (acceptance c) p = set_pairs (of_number 0 first_pair file) c.pairs (cleared least_places p)
+places_of file (acceptance c) p = set_triples (of_number 0 first_pair file) c.pairs c.lines (cleared least_places p)
 
 -- later numbers stay; refused, all do
 abbrev pub column_after : Answer FileColumn → List ℕ → List ℕ

@@ -78,7 +78,7 @@ fn column_beside(
 
 // The due column of the file of this number: 1 due, 2 not due, 3 free, for each of its entries. Refuses with 1; with 11
 // and 3 to 9 of AC2; with 16, 11 and 3 to 9 of the file; and with 18 where the column is too short. Not refused, the
-// places have the file's pairs, and all others are 0.
+// places have the file's pairs and lines, and all others are 0.
 pub fn due_column(
     file: u32,
     ac2: &[u8],

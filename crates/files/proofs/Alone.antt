@@ -30,17 +30,17 @@ module _ (n : ℕ) (s p : List ℕ) where
   unfolding read_given
   cleared-empty e = let b = eq-eqb (length s) 0 e in record { answer = rw b; places = rw b }
 
-  module _ (f : ¬ (length s ≡ 0)) (q ls : List ℕ) where
+  module _ (f : ¬ (length s ≡ 0)) (q : List ℕ) where
     filled : read_given n s ≡ read_numbered n s
     unfolding read_given
     filled = rw (ne_eqb (length s) 0 f)
 
-    pub cleared-faulty : (x : Refusal) → ReadsText n s (Err x) p q ls → ReadsCleared n s p q (Err x)
+    pub cleared-faulty : (x : Refusal) → ReadsText n s (Err x) p q → ReadsCleared n s p q (Err x)
     cleared-faulty x v =
         let g = filled ∙ v.0 in
         record { answer = rw (g, v.1); places = rw g v.2 }
 
-    module _ (enough : least_places ≤ length p) (is : is_file n ≡ true) (y : TextRead) (v : ReadsText n s (Ok y) p q ls) (a : ℕ) (k : a ≡ y.sections - of_number 0 (λ f. length (fixed_sections f)) n) where
+    module _ (enough : least_places ≤ length p) (is : is_file n ≡ true) (y : TextRead) (v : ReadsText n s (Ok y) p q) (a : ℕ) (k : a ≡ y.sections - of_number 0 (λ f. length (fixed_sections f)) n) where
       abbrev c : ℕ
       c = y.sections
 
@@ -54,21 +54,21 @@ module _ (n : ℕ) (s p : List ℕ) where
       axles-are = k ∙ ap (λ (m : ℕ). c - m) (of_number_lem 0 (λ f. length (fixed_sections f)) file n number)
 
       pub read_held : NumberHeld n a s q
-      read_held = held_number file n a s q number (subst (λ (m : ℕ). Held file m s q) (sym axles-are) (text-held file n number s p q ls y v enough))
+      read_held = held_number file n a s q number (subst (λ (m : ℕ). Held file m s q) (sym axles-are) (text-held file n number s p q y v enough))
 
       by_hand : by_hand_in n (λ f. values_of f a s q) ≡ by_hand_in n (λ f. map (value_at s) v.0)
       by_hand =
           of_number_lem false (λ f. is_by_hand f (values_of f a s q)) file n number
           ∙ ap (λ (m : ℕ). is_by_hand file (values_of file m s q)) axles-are
-          ∙ ap (is_by_hand file) (text-values file n number s p q ls y v enough)
+          ∙ ap (is_by_hand file) (text-values file n number s p q y v enough)
           ∙ sym (of_number_lem false (λ f. is_by_hand f (map (value_at s) v.0)) file n number)
 
       pub cleared-read : (h : Bool) → h ≡ by_hand_in n (λ f. values_of f a s q) → ReadsCleared n s p q (Ok (record { axles = a; byhand = h }))
       cleared-read h i =
-          let g = filled ∙ v.1 in
+          let g = filled ∙ v.2 in
           record {
             answer = rw (g, i ∙ by_hand, axles-are ∙ sym (of_number_lem c (λ f. axles_of f c) file n number));
-            places = rw g v.2;
+            places = rw g v.3;
           }
 
 pub fixed-least : (n : ℕ) → of_number 0 (λ f. length (fixed_sections f)) n ≤ of_number 0 least_sections n
@@ -96,10 +96,10 @@ few-sections (suc (suc (suc (suc (suc (suc (suc zero))))))) = omega arith
 few-sections (suc (suc (suc (suc (suc (suc (suc (suc n)))))))) = omega arith
 
 -- the count of a text that was read
-pub count-in : (n : ℕ) (s p q ls : List ℕ) (y : TextRead) → ReadsText n s (Ok y) p q ls → (of_number 0 (λ f. length (fixed_sections f)) n ≤ y.sections) × (y.sections ≤ 10)
-count-in n s p q ls y v =
+pub count-in : (n : ℕ) (s p q : List ℕ) (y : TextRead) → ReadsText n s (Ok y) p q → (of_number 0 (λ f. length (fixed_sections f)) n ≤ y.sections) × (y.sections ≤ 10)
+count-in n s p q y v =
     let c = y.sections in
-    let i = (sound (table_of n) (of_number 0 least_sections n) s (number-distinct n) c v.0 _ (by-inv (table_of n) (of_number 0 least_sections n) s c v.0 _ v.1).1).is in
+    let i = (sound (table_of n) (of_number 0 least_sections n) s (number-distinct n) c v.0 v.1 (by-inv (table_of n) (of_number 0 least_sections n) s c v.0 v.1 v.2).1).is in
     (omega (arith, fixed-least n, i.enough), omega (arith, few-sections n, i.most))
 
 module _ (n : ℕ) (s p : List ℕ) where

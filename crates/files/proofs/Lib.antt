@@ -8,3 +8,4 @@ pub mod Texts
 pub mod ByHand
 pub mod Alone
 pub mod Pairs
+pub mod Stand

@@ -1,4 +1,4 @@
--- The pairs of a file that was read stand in the places; and what an answer of reading alone says. Assumes nothing.
+-- The pairs and lines of a file that was read stand in the places; and what an answer of reading alone says. Assumes nothing.
 use Prim.Native.Nat.{ℕ, ◌≤◌, ◌<◌}
 use native.Mathlib.Omega.{arith}
 use mathlib.Core.Path.{◌≡◌, refl, ap, sym, subst, ◌∙◌}
@@ -13,8 +13,8 @@ use Rattle.refusals.specs.Refusals.{number_of}
 use Rattle.std.specs.Prelude.{Result, Ok, Err}
 use Rattle.refusals.specs.Answer.{Answer, refusal, acceptance, refusal_of, answer_is}
 use Rattle.refusals.specs.declared.Refusal.{Refusal}
-use Rattle.places.specs.Places.{Pair, set_pairs, pairs_at, value_at, values_at, cleared, Within}
-use Rattle.places.proofs.Laws.{set-length, drop-pairs, cleared-length, cleared-drop}
+use Rattle.places.specs.Places.{Pair, set_triples, pairs_at, lines_at, value_at, values_at, cleared, Within}
+use Rattle.places.proofs.Laws.{set-length, drop-triples, cleared-length, cleared-drop}
 use Rattle.tables.specs.File.{File, ac2, acc, drift, suspension, gas, opacity, file_number, file_of, is_file, of_number, has_axles, fixed_sections, sections, all_sections, least_sections, entries, first_pair, least_places, table_of, most_axles}
 use Rattle.tables.proofs.Files.{of-file, of_number_lem, table-of, file-of, is-file}
 use Rattle.reading.specs.Reading.{Reading, refused, read}
@@ -23,10 +23,10 @@ use Rattle.reading.proofs.Tables.{tables-distinct}
 use Rattle.reading.proofs.Formed.{text-length}
 use Rattle.reading.proofs.Theorem.{sound}
 use Rattle.files.specs.Files.{read_file, read_numbered, axles_of, IsFile, is_by_hand, by_hand_in}
-use Rattle.files.specs.Alone.{accepted, answer_of, pairs_set, read_given, read_alone, alone_answer, alone_places, ReadsAlone}
+use Rattle.files.specs.Alone.{accepted, answer_of, places_set, read_given, read_alone, alone_answer, alone_places, ReadsAlone}
 use Rattle.files.specs.declared.FileAcceptance.{FileAcceptance}
 use Rattle.files.proofs.Theorem.{by-inv, FileRead, read-sound, read-complete}
-use Rattle.files.proofs.Texts.{few-axles, pairs-fit, own-pairs, read-numbered}
+use Rattle.files.proofs.Texts.{few-axles, pairs-fit, own-pairs, own-lines, read-numbered}
 use Rattle.files.proofs.Alone.{fixed-least, few-sections}
 
 -- a number has one file
@@ -37,7 +37,7 @@ same-file f g n d e =
 
 -- ---- a text that was read alone
 
-alone-inv : (n : ℕ) (s : List ℕ) (c : ℕ) (ps : List Pair) (ls : List ℕ) → read_alone n s ≡ read c ps ls → (is_file n ≡ true) × (read_numbered n s ≡ read c ps ls)
+pub alone-inv : (n : ℕ) (s : List ℕ) (c : ℕ) (ps : List Pair) (ls : List ℕ) → read_alone n s ≡ read c ps ls → (is_file n ≡ true) × (read_numbered n s ≡ read c ps ls)
 unfolding read_alone read_given
 alone-inv n s c ps ls e = go (is_file n) refl e
   where
@@ -58,18 +58,18 @@ pub record AloneRead (n : ℕ) (s p q : List ℕ) (axles : ℕ) : Type 0 where
   pub pairs : List Pair
   pub lines : List ℕ
   pub reading-is : read_alone n s ≡ read count pairs lines
-  pub is : FileRead file s count pairs
+  pub is : FileRead file s count pairs lines
   pub least : length (fixed_sections file) ≤ count
   pub most : count ≤ length (all_sections file)
   pub axles-are : axles ≡ axles_of file count
-  pub places-are : q ≡ set_pairs (first_pair file) pairs (cleared least_places p)
+  pub places-are : q ≡ set_triples (first_pair file) pairs lines (cleared least_places p)
 
 abbrev axles-in : Answer FileAcceptance → ℕ
 axles-in (refusal k f l) = 0
 axles-in (acceptance a) = a.axles
 
 module _ (n : ℕ) (s p q : List ℕ) (axles : ℕ) (l : least_places ≤ length p) (c : ℕ) (ps : List Pair) (ls : List ℕ) where
-  alone-read : (byhand : Bool) → read_alone n s ≡ read c ps ls → acceptance (accepted axles byhand) ≡ answer_of n s (read c ps ls) → q ≡ pairs_set n (read c ps ls) (cleared least_places p) → AloneRead n s p q axles
+  alone-read : (byhand : Bool) → read_alone n s ≡ read c ps ls → acceptance (accepted axles byhand) ≡ answer_of n s (read c ps ls) → q ≡ places_set n (read c ps ls) (cleared least_places p) → AloneRead n s p q axles
   alone-read byhand e a d =
       let v = alone-inv n s c ps ls e in
       let f : File = (is-file n v.0).0 in
@@ -91,7 +91,7 @@ module _ (n : ℕ) (s p q : List ℕ) (axles : ℕ) (l : least_places ≤ length
         least = omega (arith, fixed-least n, i.enough);
         most = i.most;
         axles-are = k ∙ of_number_lem c (λ f. axles_of f c) f n g;
-        places-are = d ∙ ap (λ (m : ℕ). set_pairs m ps (cleared least_places p)) (of_number_lem 0 first_pair f n g);
+        places-are = d ∙ ap (λ (m : ℕ). set_triples m ps ls (cleared least_places p)) (of_number_lem 0 first_pair f n g);
       }
 
 module _ {n : ℕ} {s p q : List ℕ} {r : Result FileAcceptance Refusal} (w : ReadsAlone n s p q r) where
@@ -99,12 +99,12 @@ module _ {n : ℕ} {s p q : List ℕ} {r : Result FileAcceptance Refusal} (w : R
   unfolding alone_answer alone_places
   accepted-inv x e = go (leb least_places (length p)) refl (sym (ap answer_is e) ∙ w.answer) w.places
     where
-      given : least_places ≤ length p → (v : Reading) → read_alone n s ≡ v → acceptance x ≡ answer_of n s v → q ≡ pairs_set n v (cleared least_places p) → AloneRead n s p q x.axles
+      given : least_places ≤ length p → (v : Reading) → read_alone n s ≡ v → acceptance x ≡ answer_of n s v → q ≡ places_set n v (cleared least_places p) → AloneRead n s p q x.axles
       given l (refused k i) h a d = clash (cc)
       given l (read c ps ls) h a d = alone-read n s p q x.axles l c ps ls x.byhand h a d
 
       go : (b : Bool) → leb least_places (length p) ≡ b → acceptance x ≡ cond b (answer_of n s (read_alone n s)) (refusal 1 0 0)
-          → q ≡ cond b (pairs_set n (read_alone n s) (cleared least_places p)) p → AloneRead n s p q x.axles
+          → q ≡ cond b (places_set n (read_alone n s) (cleared least_places p)) p → AloneRead n s p q x.axles
       go true h a d = given (leb-true least_places (length p) h) (read_alone n s) refl a d
       go false h a d = clash (cc)
 
@@ -116,7 +116,7 @@ module _ {n : ℕ} {s p q : List ℕ} {r : Result FileAcceptance Refusal} (w : R
       let b = le-leb least_places (length p) l in
       given (read_alone n s) refl (rw b at (sym (ap answer_is e) ∙ w.answer)) (rw b at w.places)
     where
-      given : (v : Reading) → read_alone n s ≡ v → refusal_of {A = FileAcceptance} x ≡ answer_of n s v → q ≡ pairs_set n v (cleared least_places p)
+      given : (v : Reading) → read_alone n s ≡ v → refusal_of {A = FileAcceptance} x ≡ answer_of n s v → q ≡ places_set n v (cleared least_places p)
           → (read_alone n s ≡ refused (number_of x.kind) x.line) × (n ≡ x.file) × (q ≡ cleared least_places p)
       given (refused k i) h a d = (cc, cc, d)
       given (read c ps ls) h a d = clash (cc)
@@ -142,22 +142,28 @@ module _ {n : ℕ} {s p q : List ℕ} {axles : ℕ} (x : AloneRead n s p q axles
   alone-many = x.is.many ∙ ap (λ (m : ℕ). length (entries x.file m)) (sym x.axles-are)
 
   pub alone-length : length q ≡ length p
-  alone-length = ap length x.places-are ∙ set-length (first_pair x.file) x.pairs (cleared least_places p) ∙ cleared-length least_places p x.enough
+  alone-length = ap length x.places-are ∙ set-length (first_pair x.file) x.pairs x.lines (cleared least_places p) ∙ cleared-length least_places p x.enough
 
   -- its pairs are those of the text
   pub alone-pairs : pairs_at q (first_pair x.file) (length (entries x.file axles)) ≡ x.pairs
   alone-pairs =
       ap (λ (y : List ℕ). pairs_at y (first_pair x.file) (length (entries x.file axles))) x.places-are
-      ∙ own-pairs x.file axles x.pairs (cleared least_places p) alone-many (pairs-fit x.file s x.count x.pairs x.is) (omega (arith, cleared-length least_places p x.enough, x.enough))
+      ∙ own-pairs x.file axles x.pairs x.lines (cleared least_places p) x.is.same_many alone-many (pairs-fit x.file s x.count x.pairs x.lines x.is) (omega (arith, cleared-length least_places p x.enough, x.enough))
+
+  -- 02, 7/14: and its lines
+  pub alone-lines : lines_at q (first_pair x.file) (length (entries x.file axles)) ≡ x.lines
+  alone-lines =
+      ap (λ (y : List ℕ). lines_at y (first_pair x.file) (length (entries x.file axles))) x.places-are
+      ∙ own-lines x.file axles x.pairs x.lines (cleared least_places p) x.is.same_many alone-many (pairs-fit x.file s x.count x.pairs x.lines x.is) (omega (arith, cleared-length least_places p x.enough, x.enough))
 
   pub alone-within : Within s (pairs_at q (first_pair x.file) (length (entries x.file axles)))
   alone-within = subst (Within s) (sym alone-pairs) x.is.within
 
-  -- past the pairs nothing was written
+  -- past the places of all files nothing was written
   pub alone-cleared : cleared least_places q ≡ cleared least_places p
   alone-cleared =
       ap (cleared least_places) x.places-are
-      ∙ simp (drop-pairs least_places (first_pair x.file) x.pairs (cleared least_places p) (pairs-fit x.file s x.count x.pairs x.is), cleared-drop least_places p)
+      ∙ simp (drop-triples least_places (first_pair x.file) x.pairs x.lines (cleared least_places p) (pairs-fit x.file s x.count x.pairs x.lines x.is), cleared-drop least_places p)
 
 -- ---- a file of some values, read alone
 
@@ -187,5 +193,5 @@ alone-complete f n vs s h p l =
     let mark : by_hand_in (file_number f) (λ g. map (value_at s) ps) ≡ is_by_hand f (map (value_at s) ps) = of-file false (λ g. is_by_hand g (map (value_at s) ps)) f in
     let first : of_number 0 first_pair (file_number f) ≡ first_pair f = of-file 0 first_pair f in
     let m : length ps ≡ length (entries f n) = k.many ∙ ap (λ (i : ℕ). length (entries f i)) r.4 in
-    let there = own-pairs f n ps (cleared least_places p) m (pairs-fit f s c ps k) (omega (arith, cleared-length least_places p l)) in
+    let there = own-pairs f n ps r.2 (cleared least_places p) k.same_many m (pairs-fit f s c ps r.2 k) (omega (arith, cleared-length least_places p l)) in
     (rw (b, file, full, e, axles, mark, r.4, r.5), rw (b, file, full, e, first, there) r.5)

@@ -1,4 +1,4 @@
--- The scan, the checks, the pairs and the lines, put together. Assumes nothing.
+-- The scan, the checks and the places, put together. Assumes nothing.
 use Prim.Native.Nat.{ℕ, zero, suc, ◌+◌, ◌*◌, ◌≤◌, ◌<◌}
 use native.Mathlib.Omega.{arith}
 use mathlib.Core.Path.{◌≡◌, refl, ap, ap₂, sym, subst, ◌∙◌}
@@ -14,11 +14,11 @@ use Rattle.kinds.specs.Kind.{Kind}
 use Rattle.places.specs.Places.{place_size}
 use Rattle.tables.specs.Section.{Entry, Section, entries_of}
 use Rattle.tables.specs.File.{File, ac2, acc, drift, suspension, gas, opacity, of_number, table_of, first_pair, least_sections, least_places, room, entries, all_sections, pair_count}
-use Rattle.tables.specs.Row.{row_count, rows_before, row_kinds, row_kind, most_rows}
+use Rattle.tables.specs.Row.{row_count, rows_before, row_kinds, row_kind}
 use Rattle.tables.proofs.Numbers.{room_in}
-use Rattle.tables.proofs.Rows.{rows_few, kinds-count, rows-le}
+use Rattle.tables.proofs.Rows.{kinds-count, rows-le}
 use Rattle.orders.specs.AnyOrder.{zip}
-use Rattle.reading.specs.Reading.{of_entries, Slots, Scan, empty_slots, read, read_text}
+use Rattle.reading.specs.Reading.{of_entries, Slots, Scan, empty_slots, read_text}
 use Rattle.reading.specs.Scanning.{Ready, Scanned}
 use Rattle.tables.proofs.Sections.{rows_all}
 use Rattle.reading.proofs.Lookup.{rows-less}
@@ -29,7 +29,6 @@ use Rattle.files.specs.Steps.{KindsOf, slots_of, ValuesReady, ScansFile, JudgesS
 use Rattle.files.specs.declared.Fault.{Fault}
 use Rattle.files.specs.declared.Slot.{Slot}
 use Rattle.files.specs.declared.TextRead.{TextRead}
-use Rattle.files.proofs.Entries.{entries-pairs, entries-lines}
 use Rattle.files.proofs.Slots.{lines-length, start-at, length-at}
 
 -- ---- the kinds by their numbers
@@ -89,11 +88,6 @@ entries-first t zero = omega arith
 entries-first [] (suc c) = omega arith
 entries-first (s ∷ t) (suc c) = omega (arith, entries-first t c, length-append s.entries (entries_of (take c t)), length-append s.entries (entries_of t))
 
-pub entries-le : (t : List Section) → length (entries_of t) ≤ row_count t
-unfolding entries_of row_count
-entries-le [] = omega arith
-entries-le (s ∷ t) = omega (arith, entries-le t, length-append s.entries (entries_of t))
-
 -- the pairs of a file have their place
 file-in : (f : File) → first_pair f + length (entries_of (all_sections f)) ≤ pair_count
 unfolding room entries
@@ -114,12 +108,9 @@ number_fits (suc (suc (suc (suc (suc (suc (suc (suc n)))))))) = omega arith
 pub pairs-fit : (n c : ℕ) (p : List ℕ) → least_places ≤ length p → place_size * (of_number 0 first_pair n + length (entries_of (take c (table_of n)))) ≤ length p
 pairs-fit n c p h = omega (arith, number_fits n, entries-first (table_of n) c)
 
-pub lines_fit : (n c : ℕ) → length (entries_of (take c (table_of n))) ≤ most_rows
-lines_fit n c = omega (arith, entries-first (table_of n) c, entries-le (table_of n), rows_few n)
-
 -- ---- what write_read asks of its parts, and gives
 
-module _ (n c : ℕ) (ks : List ℕ) (k : KindsOf n ks) (xs : List Slot) (p ls : List ℕ) (w : WriteReady n c xs p ls) (rows : ℕ) (e : rows ≡ rows_before (table_of n) c) where
+module _ (n c : ℕ) (ks : List ℕ) (k : KindsOf n ks) (xs : List Slot) (p : List ℕ) (w : WriteReady n c xs p) (rows : ℕ) (e : rows ≡ rows_before (table_of n) c) where
   first_rows : take rows (map row_kind ks) ≡ row_kinds (take c (table_of n))
   first_rows = ap₂ (λ (m : ℕ) (x : List (Option Kind)). take m x) e k ∙ sym (kinds-take (table_of n) c)
 
@@ -129,20 +120,19 @@ module _ (n c : ℕ) (ks : List ℕ) (k : KindsOf n ks) (xs : List Slot) (p ls :
   few : row_count (take c (table_of n)) ≤ row_count (table_of n)
   few = rows-le (table_of n) c
 
-  pub rows-ready : (first : ℕ) → first ≡ of_number 0 first_pair n → RowsReady ks first xs rows p ls
+  pub rows-ready : (first : ℕ) → first ≡ of_number 0 first_pair n → RowsReady ks first xs rows p
   rows-ready first f =
       let m = entries-many (take c (table_of n)) xs (omega (arith, few, w.rows_are)) in
       record {
         kinds-there = omega (arith, rows_fit, kinds-length n ks k);
         slots-there = omega (arith, rows_fit, w.rows_are);
-        pairs-fit = rw first_rows (omega (arith, m, f, w.pairs-fit));
-        lines_fit = rw first_rows (omega (arith, m, w.lines_fit));
+        fit = rw first_rows (omega (arith, m, f, w.fit));
       }
 
-  pub rows_written : (first : ℕ) (q l : List ℕ) → first ≡ of_number 0 first_pair n → WritesRows (take rows (map row_kind ks)) first (slots_of xs) p q l → WritesRead n c (slots_of xs) p q l
-  rows_written first q l f x =
-      subst (λ (m : ℕ). WritesRows (row_kinds (take c (table_of n))) m (slots_of xs) p q l) f
-      (subst (λ (y : List (Option Kind)). WritesRows y first (slots_of xs) p q l) first_rows x)
+  pub rows_written : (first : ℕ) (q : List ℕ) → first ≡ of_number 0 first_pair n → WritesRows (take rows (map row_kind ks)) first (slots_of xs) p q → WritesRead n c (slots_of xs) p q
+  rows_written first q f x =
+      subst (λ (m : ℕ). WritesRows (row_kinds (take c (table_of n))) m (slots_of xs) p q) f
+      (subst (λ (y : List (Option Kind)). WritesRows y first (slots_of xs) p q) first_rows x)
 
 -- ---- 4 to 9
 
@@ -166,30 +156,26 @@ module _ (n : ℕ) (s : List ℕ) (b a : Slots) (e : b ≡ empty_slots (row_coun
 -- ---- 3 to 9
 
 module _ (n : ℕ) (s : List ℕ) where
-  pub text-long : (p ls : List ℕ) → most_bytes < length s → ReadsText n s (Err (refusal_with FileTooLong n 0)) p p ls
+  pub text-long : (p : List ℕ) → most_bytes < length s → ReadsText n s (Err (refusal_with FileTooLong n 0)) p p
   unfolding read_by
-  text-long p ls l = (rw (lt-leb (length s) most_bytes l), refl, refl)
+  text-long p l = (rw (lt-leb (length s) most_bytes l), refl, refl)
 
   module _ (l : length s ≤ most_bytes) (xs : List Slot) where
     by-text : read_numbered n s ≡ read_text (table_of n) (of_number 0 least_sections n) s
     unfolding read_by
     by-text = rw (le-leb (length s) most_bytes l)
 
-    pub text-faulty : (x : Fault) (p ls : List ℕ) → ReadsSlots n s (slots_of xs) (Err x) → ReadsText n s (Err (refusal_with x.kind n x.line)) p p ls
-    text-faulty x p ls w = (by-text ∙ w.is, refl, refl)
+    pub text-faulty : (x : Fault) (p : List ℕ) → ReadsSlots n s (slots_of xs) (Err x) → ReadsText n s (Err (refusal_with x.kind n x.line)) p p
+    text-faulty x p w = (by-text ∙ w.is, refl, refl)
 
-    pub text-ready : (c : ℕ) (p ls : List ℕ) → Ready (table_of n) s (slots_of xs) → least_places ≤ length p → most_rows ≤ length ls → WriteReady n c xs p ls
-    text-ready c p ls w h k =
+    pub text-ready : (c : ℕ) (p : List ℕ) → Ready (table_of n) s (slots_of xs) → least_places ≤ length p → WriteReady n c xs p
+    text-ready c p w h =
         record {
           rows_are = sym (lines-length xs) ∙ w.lines_are;
-          pairs-fit = pairs-fit n c p h;
-          lines_fit = omega (arith, lines_fit n c);
+          fit = pairs-fit n c p h;
         }
 
-    pub text-read : (y : TextRead) (p q ls : List ℕ) → ReadsSlots n s (slots_of xs) (Ok y) → WritesRead n y.sections (slots_of xs) p q ls → ReadsText n s (Ok y) p q ls
-    text-read y p q ls w v =
-        let c = y.sections in
-        let ks = row_kinds (take c (table_of n)) in
-        let ps = of_entries ks (zip (slots_of xs).starts (slots_of xs).lengths) in
-        let m : length ps ≡ length (of_entries ks (slots_of xs).line_numbers) = rw (entries-pairs ks xs, entries-lines ks xs) (simp length-map) in
-        (ps, by-text ∙ w.is ∙ ap (λ (l : List ℕ). read c ps l) (sym v.lines ∙ ap (λ (i : ℕ). take i ls) (sym m)), v.pairs, w.compared)
+    pub text-read : (y : TextRead) (p q : List ℕ) → ReadsSlots n s (slots_of xs) (Ok y) → WritesRead n y.sections (slots_of xs) p q → ReadsText n s (Ok y) p q
+    text-read y p q w v =
+        let ks = row_kinds (take y.sections (table_of n)) in
+        (of_entries ks (zip (slots_of xs).starts (slots_of xs).lengths), of_entries ks (slots_of xs).line_numbers, by-text ∙ w.is, v, w.compared)

@@ -1,4 +1,4 @@
--- The theorem on one file: it is read exactly when it is the lines of some values, in any order; these are unique, and stand at the pairs. Assumes nothing.
+-- The theorem on one file: it is read exactly when it is the lines of some values, in any order; these are unique, and stand at the pairs and on the lines. Assumes nothing.
 use Prim.Native.Nat.{ℕ, ◌≤◌, ◌<◌}
 use native.Mathlib.Omega.{arith}
 use mathlib.Core.Path.{◌≡◌, refl, ap, sym, subst, ◌∙◌}
@@ -14,13 +14,14 @@ use Rattle.places.specs.Places.{Pair, value_at, Within}
 use Rattle.tables.specs.Section.{Section, entries_of}
 use Rattle.tables.specs.File.{File, opacity, has_axles, most_axles, least_axles, sections, all_sections, least_sections, entries}
 use Rattle.tables.proofs.Axles.{sections-fixed, sections-length, sections-prefix}
-use Rattle.reading.specs.Fitting.{FitsText, EachKept, StartOf}
+use Rattle.reading.specs.Fitting.{FitsText, EachKept, EntryStandsAt}
 use Rattle.reading.specs.Reading.{refused, read, read_text}
 use Rattle.reading.specs.LookUps.{names_compared, entry_lines, sums_of}
 use Rattle.reading.specs.Theorem.{IsText}
 use Rattle.reading.proofs.Tables.{tables-distinct, tables-clean, tables-short, bounds, opacity-within}
 use Rattle.reading.proofs.Theorem.{sound, complete, unique}
 use Rattle.reading.proofs.LookUps.{names-counted, lines-counted}
+use Rattle.reading.proofs.OneStart.{start-unique}
 use Rattle.reading.proofs.Written.{kept-length}
 use Rattle.reading.proofs.Formed.{short-text, text-bound, all-within}
 use Rattle.files.specs.Files.{read_by, read_file, axles_of, AxleCount, IsFile}
@@ -83,18 +84,19 @@ by-inv t least s c ps ls e = go (leb (length s) most_bytes) refl e
     go false p e = clash (cc)
 
 -- what is read
-pub record FileRead (f : File) (s : List ℕ) (c : ℕ) (pairs : List Pair) : Type 0 where
+pub record FileRead (f : File) (s : List ℕ) (c : ℕ) (pairs : List Pair) (lines : List ℕ) : Type 0 where
   pub counted : Counted f c
   -- the text is the lines of the values at the pairs
   pub is : IsFile f (axles_of f c) (map (value_at s) pairs) s
   pub within : Within s pairs
-  pub starts : (i : ℕ) → i < length pairs → StartOf (sections f (axles_of f c)) s i (get_or pairs i (0, 0)).0
+  pub stand : (i : ℕ) → i < length pairs → EntryStandsAt (sections f (axles_of f c)) s i (get_or pairs i (0, 0)).0 (get_or lines i 0)
+  pub same_many : length lines ≡ length pairs
   pub many : length pairs ≡ length (entries f (axles_of f c))
   -- 02, 4/14
   pub compared : names_compared (all_sections f) s ≡ sums_of (sections f (axles_of f c))
-  pub lines : entry_lines (all_sections f) s ≡ length (entries f (axles_of f c))
+  pub counted-lines : entry_lines (all_sections f) s ≡ length (entries f (axles_of f c))
 
-pub read-sound : (f : File) (s : List ℕ) (c : ℕ) (ps : List Pair) (ls : List ℕ) → read_file f s ≡ read c ps ls → FileRead f s c ps
+pub read-sound : (f : File) (s : List ℕ) (c : ℕ) (ps : List Pair) (ls : List ℕ) → read_file f s ≡ read c ps ls → FileRead f s c ps ls
 unfolding entries
 read-sound f s c ps ls e =
     let i = (by-inv (all_sections f) (least_sections f) s c ps ls e).1 in
@@ -106,10 +108,11 @@ read-sound f s c ps ls e =
       counted = k;
       is = record { count = k.count; fits = subst (λ (t : List Section). FitsText t (map (value_at s) ps) s) z r.is.fits; kept = kept };
       within = r.within;
-      starts = λ (i : ℕ) (l : i < length ps). subst (λ (t : List Section). StartOf t s i (get_or ps i (0, 0)).0) z (r.starts i l);
+      stand = λ (i : ℕ) (l : i < length ps). subst (λ (t : List Section). EntryStandsAt t s i (get_or ps i (0, 0)).0 (get_or ls i 0)) z (r.stand i l);
+      same_many = r.many;
       many = sym (length-map ps (value_at s)) ∙ kept-length (entries_of (sections f (axles_of f c))) (map (value_at s) ps) kept;
       compared = names-counted (all_sections f) (least_sections f) s c ps ls i ∙ ap sums_of z;
-      lines = lines-counted (all_sections f) (least_sections f) s c ps ls i ∙ ap (λ (t : List Section). length (entries_of t)) z;
+      counted-lines = lines-counted (all_sections f) (least_sections f) s c ps ls i ∙ ap (λ (t : List Section). length (entries_of t)) z;
     }
 
 -- what is to be read
@@ -149,6 +152,15 @@ read-complete f n vs s h =
     let r = complete (all_sections f) (least_sections f) s (tables-distinct f) (tables-clean f) c vs x in
     let l = file-short f n vs s h in
     (c, r.0, r.1, rw (le-leb (length s) most_bytes l) r.2, (sectioned f n (has_axles f) refl h.count).axles-are, r.3)
+
+-- 02, 7/14: an entry of a file stands at one start and on one line
+pub place-unique : (f : File) (n : ℕ) (vs : List (List ℕ)) (s : List ℕ) → IsFile f n vs s
+    → (i j k l m : ℕ) → EntryStandsAt (sections f n) s i j l → EntryStandsAt (sections f n) s i k m → (j ≡ k) × (l ≡ m)
+place-unique f n vs s h i j k l m x y =
+    let e : sections f n ≡ take (length (sections f n)) (all_sections f) = (sectioned f n (has_axles f) refl h.count).sections-are in
+    start-unique (all_sections f) (least_sections f) (length (sections f n)) vs s (tables-distinct f) (tables-clean f) (is-text f n vs s h) i j k l m
+    (subst (λ (t : List Section). EntryStandsAt t s i j l) e x)
+    (subst (λ (t : List Section). EntryStandsAt t s i k m) e y)
 
 -- axle count and values are unique
 pub file-unique : (f : File) (m n : ℕ) (vs ws : List (List ℕ)) (s : List ℕ) → IsFile f m vs s → IsFile f n ws s → (m ≡ n) × (vs ≡ ws)

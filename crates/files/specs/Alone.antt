@@ -1,11 +1,12 @@
 -- One file read alone, by its number (01, Writing): "1, 16 for the file, 11 where it is empty, then 3 to 9 as above".
-use Rattle.std.specs.Prelude.{ℕ, ◌≡◌, Bool, cond, List, map, eqb, leb, length, Result, Err}
+use Rattle.std.specs.Prelude.{ℕ, ◌+◌, ◌<◌, ◌≡◌, Bool, cond, List, map, eqb, leb, length, Result, Err}
 use Rattle.refusals.specs.Answer.{Answer, refusal, acceptance, answer_is}
 use Rattle.refusals.specs.Refusals.{refusal_with}
 use Rattle.refusals.specs.declared.Refusal.{Refusal}
 use Rattle.refusals.specs.declared.RefusalKind.{RefusalKind}
-use Rattle.tables.specs.File.{first_pair, least_places, of_number, is_file}
-use Rattle.places.specs.Places.{set_pairs, value_at, cleared}
+use Rattle.tables.specs.File.{File, sections, entries, first_pair, least_places, of_number, is_file}
+use Rattle.places.specs.Places.{start_of, line_of, set_triples, value_at, cleared}
+use Rattle.reading.specs.Fitting.{EntryStandsAt}
 use Rattle.reading.specs.Reading.{Reading, refused, read}
 use Rattle.files.specs.Files.{read_numbered, axles_of, by_hand_in}
 use Rattle.files.specs.declared.FileAcceptance.{FileAcceptance}
@@ -30,10 +31,10 @@ abbrev pub answer_of : ℕ → List ℕ → Reading → Answer FileAcceptance
 answer_of n s (refused k l) = refusal k n l
 answer_of n s (read c pairs ls) = acceptance (accepted (of_number c (λ f. axles_of f c) n) (by_hand_in n (λ f. map (value_at s) pairs)))
 
--- the pairs of a text that was read, from the file's first pair on
-abbrev pub pairs_set : ℕ → Reading → List ℕ → List ℕ
-pairs_set n (refused k l) p = p
-pairs_set n (read c pairs ls) p = set_pairs (of_number 0 first_pair n) pairs p
+-- the pairs and the lines of a text that was read, from the file's first pair on
+abbrev pub places_set : ℕ → Reading → List ℕ → List ℕ
+places_set n (refused k l) p = p
+places_set n (read c pairs ls) p = set_triples (of_number 0 first_pair n) pairs ls p
 
 -- 1, with file 0, comes first
 unfoldable pub alone_answer : ℕ → List ℕ → List ℕ → Answer FileAcceptance
@@ -41,12 +42,16 @@ alone_answer n s p = cond (leb least_places (length p)) (answer_of n s (read_alo
 
 -- "with the same places .. other files' pairs hold 0, after a refusal but 1 all pairs do"
 unfoldable pub alone_places : ℕ → List ℕ → List ℕ → List ℕ
-alone_places n s p = cond (leb least_places (length p)) (pairs_set n (read_alone n s) (cleared least_places p)) p
+alone_places n s p = cond (leb least_places (length p)) (places_set n (read_alone n s) (cleared least_places p)) p
+
+-- 02, 7/14, without the reader: of file f with n axles, whose text is s, each entry stands at the start and on the line that q has for it
+abbrev pub EntriesStand : File → ℕ → List ℕ → List ℕ → Type 0
+EntriesStand f n s q = (i : ℕ) → i < length (entries f n) → EntryStandsAt (sections f n) s i (start_of q (first_pair f + i)) (line_of q (first_pair f + i))
 
 -- what is promised where the places are cleared already
 pub record ReadsCleared (n : ℕ) (s p q : List ℕ) (r : Result FileAcceptance Refusal) : Type 0 where
   pub answer : answer_is r ≡ answer_of n s (read_given n s)
-  pub places : q ≡ pairs_set n (read_given n s) p
+  pub places : q ≡ places_set n (read_given n s) p
 
 pub record ReadsAlone (n : ℕ) (s p q : List ℕ) (r : Result FileAcceptance Refusal) : Type 0 where
   pub answer : answer_is r ≡ alone_answer n s p

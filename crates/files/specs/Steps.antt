@@ -6,7 +6,7 @@ use Rattle.refusals.specs.Refusals.{number_of}
 use Rattle.refusals.specs.declared.Refusal.{Refusal}
 use Rattle.refusals.specs.declared.RefusalKind.{RefusalKind}
 use Rattle.kinds.specs.Kind.{Kind}
-use Rattle.places.specs.Places.{Pair, set_pairs, place_size, value_at}
+use Rattle.places.specs.Places.{Pair, set_triples, place_size, value_at}
 use Rattle.tables.specs.Section.{Section}
 use Rattle.tables.specs.Row.{row_count, row_kinds, row_kind, entries_before}
 use Rattle.orders.specs.AnyOrder.{zip}
@@ -89,35 +89,32 @@ pub record ValuesReady (ks s : List ℕ) (xs : List Slot) (rows : ℕ) : Type 0 
 pub record JudgesSlots (t : List Section) (least : ℕ) (s : List ℕ) (a : Slots) (r : Result ℕ Fault) : Type 0 where
   pub is : judge_slots t least s a (sections_found t a.line_numbers) ≡ slots_read t r a
 
--- The text s of the file of number n was read: places p before, q after, and in ls the lines of its entries.
--- By cases of the answer, which has no room for the pairs: they are in the places.
-abbrev pub ReadsText : ℕ → List ℕ → Result TextRead Refusal → List ℕ → List ℕ → List ℕ → Type 0
-ReadsText n s (Err x) p q ls = (read_numbered n s ≡ refused (number_of x.kind) x.line) × (x.file ≡ n) × (q ≡ p)
-ReadsText n s (Ok y) p q ls =
-    (pairs : List Pair) × (read_numbered n s ≡ read y.sections pairs (take (length pairs) ls)) × (q ≡ set_pairs (of_number 0 first_pair n) pairs p)
+-- The text s of the file of number n was read: places p before, q after. By cases of the answer, which has no room for the pairs and
+-- the lines: they are in the places.
+abbrev pub ReadsText : ℕ → List ℕ → Result TextRead Refusal → List ℕ → List ℕ → Type 0
+ReadsText n s (Err x) p q = (read_numbered n s ≡ refused (number_of x.kind) x.line) × (x.file ≡ n) × (q ≡ p)
+ReadsText n s (Ok y) p q =
+    (pairs : List Pair) × (lines : List ℕ) × (read_numbered n s ≡ read y.sections pairs lines) × (q ≡ set_triples (of_number 0 first_pair n) pairs lines p)
     × (y.compared ≡ names_compared (table_of n) s)
 
--- each of the first rows has a kind number and a slot, and their entries have their place among the pairs and the lines
-pub record RowsReady (ks : List ℕ) (first : ℕ) (xs : List Slot) (rows : ℕ) (p ls : List ℕ) : Type 0 where
+-- each of the first rows has a kind number and a slot, and there are places for their entries
+pub record RowsReady (ks : List ℕ) (first : ℕ) (xs : List Slot) (rows : ℕ) (p : List ℕ) : Type 0 where
   pub kinds-there : rows ≤ length ks
   pub slots-there : rows ≤ length xs
-  pub pairs-fit : place_size * (first + length (of_entries (take rows (map row_kind ks)) xs)) ≤ length p
-  pub lines_fit : length (of_entries (take rows (map row_kind ks)) xs) ≤ length ls
+  pub fit : place_size * (first + length (of_entries (take rows (map row_kind ks)) xs)) ≤ length p
 
--- the entries of the first c sections have their place among the pairs and the lines
-pub record WriteReady (n c : ℕ) (xs : List Slot) (p ls : List ℕ) : Type 0 where
+-- there are places for the entries of the first c sections
+pub record WriteReady (n c : ℕ) (xs : List Slot) (p : List ℕ) : Type 0 where
   pub rows_are : length xs ≡ row_count (table_of n)
-  pub pairs-fit : place_size * (of_number 0 first_pair n + entries_before (table_of n) c) ≤ length p
-  pub lines_fit : entries_before (table_of n) c ≤ length ls
+  pub fit : place_size * (of_number 0 first_pair n + entries_before (table_of n) c) ≤ length p
 
--- the rows of kinds ks: their entries' pairs were set from `first` on, places p before, q after, and in ls are their lines
-pub record WritesRows (ks : List (Option Kind)) (first : ℕ) (a : Slots) (p q ls : List ℕ) : Type 0 where
-  pub pairs : q ≡ set_pairs first (of_entries ks (zip a.starts a.lengths)) p
-  pub lines : take (length (of_entries ks a.line_numbers)) ls ≡ of_entries ks a.line_numbers
+-- the rows of kinds ks: their entries' pairs and lines were set from `first` on, places p before, q after
+abbrev pub WritesRows : List (Option Kind) → ℕ → Slots → List ℕ → List ℕ → Type 0
+WritesRows ks first a p q = q ≡ set_triples first (of_entries ks (zip a.starts a.lengths)) (of_entries ks a.line_numbers) p
 
 -- the same of the rows of the first c sections
-abbrev pub WritesRead : ℕ → ℕ → Slots → List ℕ → List ℕ → List ℕ → Type 0
-WritesRead n c a p q ls = WritesRows (row_kinds (take c (table_of n))) (of_number 0 first_pair n) a p q ls
+abbrev pub WritesRead : ℕ → ℕ → Slots → List ℕ → List ℕ → Type 0
+WritesRead n c a p q = WritesRows (row_kinds (take c (table_of n))) (of_number 0 first_pair n) a p q
 
 -- 4 to 9: the text is read from the slots that it leaves
 pub record ReadsSlots (n : ℕ) (s : List ℕ) (a : Slots) (r : Result TextRead Fault) : Type 0 where

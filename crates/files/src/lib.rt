@@ -7,7 +7,7 @@ ghost use Rattle.refusals.specs.Refusals.{refusal_with};
 ghost use Rattle.places.specs.Places.{value_at};
 ghost use Rattle.tables.specs.File.{table_of, is_file, of_number, least_sections, least_places};
 ghost use Rattle.tables.specs.Value.{values_of, NumberHeld};
-ghost use Rattle.tables.specs.Row.{row_count, most_rows, row_kind};
+ghost use Rattle.tables.specs.Row.{row_count, row_kind};
 ghost use Rattle.reading.specs.Tables.{most_bytes};
 ghost use Rattle.reading.specs.Reading.{sections_found, check_gap, check_absent, check_kinds, kept_row, owner_row};
 ghost use Rattle.reading.specs.Scanning.{Took, Ready};
@@ -267,45 +267,30 @@ fn judge_slots(file: u32, kinds: &[u8], text: &[u8], slots: &[Slot]) -> Result<u
     Ok(count)
 }
 
-// The pairs of the entries among the first rows, from a first pair on, and their lines.
-fn write_rows(
-    kinds: &[u8],
-    first: usize,
-    slots: &[Slot],
-    rows: usize,
-    places: &mut [u32],
-    lines: &mut [u32],
-)
-    requires { RowsReady kinds.now first slots.now rows places.old lines.old }
-    ensures { WritesRows (take rows (map row_kind kinds.now)) first (slots_of slots.now) places.old places.new lines.new }
+// The entries among the first rows, each with its pair and its line, from a first pair on.
+fn write_rows(kinds: &[u8], first: usize, slots: &[Slot], rows: usize, places: &mut [u32])
+    requires { RowsReady kinds.now first slots.now rows places.old }
+    ensures { WritesRows (take rows (map row_kind kinds.now)) first (slots_of slots.now) places.old places.new }
 {
-    // Entries alone have pairs, so `e` does not go up with each row.
-    let mut e = 0;
+    // Entries alone have places, so `k` does not go up with each row.
+    let mut k = first;
     for r in 0..rows {
         if kinds[r] < KIND_COUNT {
             let slot = slots[r];
-            places::set_pair(places, first + e, slot.start, slot.length);
-            lines[e] = slot.line;
-            e += 1;
+            places::set_triple(places, k, slot.start, slot.length, slot.line);
+            k += 1;
         }
     }
 }
 
-// The pairs and lines of a text that was read, of its first sections.
-fn write_read(
-    file: u32,
-    kinds: &[u8],
-    sections: usize,
-    slots: &[Slot],
-    places: &mut [u32],
-    lines: &mut [u32],
-)
-    requires { KindsOf file kinds.now × WriteReady file sections slots.now places.old lines.old }
-    ensures { WritesRead file sections (slots_of slots.now) places.old places.new lines.new }
+// The entries of a text that was read, of its first sections.
+fn write_read(file: u32, kinds: &[u8], sections: usize, slots: &[Slot], places: &mut [u32])
+    requires { KindsOf file kinds.now × WriteReady file sections slots.now places.old }
+    ensures { WritesRead file sections (slots_of slots.now) places.old places.new }
 {
     let rows = tables::rows_before(file, sections);
     let first = tables::first_pair(file);
-    write_rows(kinds, first, slots, rows, places, lines);
+    write_rows(kinds, first, slots, rows, places);
 }
 
 // 4 to 9, into slots that are empty.
@@ -318,37 +303,27 @@ fn read_slots(file: u32, kinds: &[u8], text: &[u8], slots: &mut [Slot]) -> Resul
     Ok(TextRead { sections, compared })
 }
 
-// 4 to 9, into slots that are empty; the pairs and lines of what was read.
+// 4 to 9, into slots that are empty; then the places of what was read.
 fn read_into(
     file: u32,
     kinds: &[u8],
     text: &[u8],
     slots: &mut [Slot],
     places: &mut [u32],
-    lines: &mut [u32],
 ) -> Result<TextRead, Refusal>
-    requires { (least_places ≤ length places.old) × (most_rows ≤ length lines.old)
+    requires { (least_places ≤ length places.old)
         × SlotsEmpty file kinds.now text.now (slots_of slots.old) }
-    ensures { ReadsText file text.now result
-        places.old places.new lines.new }
+    ensures { ReadsText file text.now result places.old places.new }
 {
     let read = read_slots(file, kinds, text, slots).map_err(|x| x.in_file(file))?;
-    write_read(file, kinds, read.sections, slots, places, lines);
+    write_read(file, kinds, read.sections, slots, places);
     Ok(read)
 }
 
-// 3 to 9 of one file: its pairs into the places, the lines of its entries, in entry order, into `lines`. Refused, the
-// places stay. Left open is what `lines` holds after a refusal, and past the lines of the entries. Both are lent, and stay two
-// parameters for the reason that `places` gives.
-pub fn read_text(
-    file: u32,
-    text: &[u8],
-    places: &mut [u32],
-    lines: &mut [u32],
-) -> Result<TextRead, Refusal>
-    requires { (least_places ≤ length places.old) × (most_rows ≤ length lines.old) }
-    ensures { ReadsText file text.now result
-        places.old places.new lines.new }
+// 3 to 9 of one file, the pairs and the lines of its entries into the places. Refused, these stay.
+pub fn read_text(file: u32, text: &[u8], places: &mut [u32]) -> Result<TextRead, Refusal>
+    requires { least_places ≤ length places.old }
+    ensures { ReadsText file text.now result places.old places.new }
 {
     if MOST_BYTES < text.len() {
         return Err(Refusal {
@@ -361,7 +336,7 @@ pub fn read_text(
     let mut kinds = [HEADING; MOST_ROWS];
     row_kinds::write_kinds(file, &mut kinds);
     let n = tables::row_count(file);
-    read_into(file, &kinds[..n], text, &mut slots[..n], places, lines)
+    read_into(file, &kinds[..n], text, &mut slots[..n], places)
 }
 
 fn refused(kind: RefusalKind, file: u32, line: u32) -> Result<FileAcceptance, Refusal>
@@ -389,8 +364,7 @@ fn read_cleared(file: u32, text: &[u8], places: &mut [u32]) -> Result<FileAccept
     if text.is_empty() {
         return refused(RefusalKind::SliceNotAsDue, file, 0);
     }
-    let mut lines = [0u32; MOST_ROWS];
-    let read = read_text(file, text, places, &mut lines)?;
+    let read = read_text(file, text, places)?;
     let axles = read.sections - tables::fixed_section_count(file);
     let byhand = is_by_hand(file, axles, PlacedText { text, places });
     Ok(FileAcceptance {

@@ -2,23 +2,25 @@
 // Standard input: for each case a title, a command and a text, each ended by a byte 00. The commands, with numbers:
 //     read FILE PLACES                 the text is read alone
 //     write FILE PLACES AXLES OUTPUT   the text is read alone, then written from its pairs
-// Behind `write` may stand PAIR START LENGTH, up to fifteen times: pairs that are changed before the writing.
+// Behind `write` may stand PAIR START LENGTH LINE, up to fifteen times: pairs and lines that are changed before the writing.
 // PLACES numbers are lent, each of which holds 7, and OUTPUT bytes, each of which holds AA hex.
 #![tactic(auto)]
 
 ghost use Rattle.std.specs.Prelude.{◌-◌, ◌≤◌, length};
 
 use files::FileAcceptance;
-use places::PlacedText;
+use places::{PLACE_SIZE, PlacedText};
 use refusals::Refusal;
 use std::io;
 use std::io::{BufWriter, Read, Write};
 use writing::WriteAcceptance;
 
-// As many numbers as a caller lends at least for the places, with two for each pair.
-const LEAST_PLACES: usize = 388;
+const ENTRIES: usize = 194;
 
-const MOST_PLACES: usize = 420;
+// As many numbers as a caller lends at least for the places.
+const LEAST_PLACES: usize = PLACE_SIZE * ENTRIES;
+
+const MOST_PLACES: usize = 630;
 
 const MOST_OUTPUT: usize = 4096;
 
@@ -79,15 +81,16 @@ fn show_file_answer(
     }
 }
 
-// The pairs that are not 0, each behind its number.
-fn show_pairs(out: &mut impl Write, places: &[u32]) -> io::Result<()>
-    requires { 388 ≤ length places.now }
+// The pairs and lines that are not 0, each behind its number.
+fn show_triples(out: &mut impl Write, places: &[u32]) -> io::Result<()>
+    requires { LEAST_PLACES ≤ length places.now }
 {
-    for k in 0..LEAST_PLACES / 2 {
+    for k in 0..ENTRIES {
         let start = places::start_of(places, k);
         let size = places::length_of(places, k);
-        if start != 0 || size != 0 {
-            write!(out, " {k}:{start}+{size}")?;
+        let line = places::line_of(places, k);
+        if start != 0 || size != 0 || line != 0 {
+            write!(out, " {k}:{start}+{size}@{line}")?;
         }
     }
     Ok(())
@@ -106,8 +109,8 @@ fn show_places(out: &mut impl Write, places: &[u32]) -> io::Result<()> {
     if places.len() < LEAST_PLACES {
         return show_kept(out, kept(places, 7));
     }
-    out.write_all(b"pairs")?;
-    show_pairs(out, places)?;
+    out.write_all(b"places")?;
+    show_triples(out, places)?;
     out.write_all(b"\n")?;
     show_kept(out, kept(&places[LEAST_PLACES..], 7))
 }
@@ -159,26 +162,27 @@ fn show_write_answer(
     }
 }
 
-// Pair, start and length from a word on, into the places where these have the pair.
-fn change_pair(command: &[u8], word: usize, places: &mut [u32])
-    requires { word ≤ 50 }
+// Pair, start, length and line from a word on, into the places where these have the pair.
+fn change_triple(command: &[u8], word: usize, places: &mut [u32])
+    requires { word ≤ 61 }
 {
     let k = size_at(command, word, MOST_PLACES);
-    if 2 * k + 1 < places.len() {
+    if PLACE_SIZE * (k + 1) <= places.len() {
         let start = number_at(command, word + 1);
-        places::set_pair(places, k, start, number_at(command, word + 2));
+        let size = number_at(command, word + 2);
+        places::set_triple(places, k, start, size, number_at(command, word + 3));
     }
 }
 
-fn change_pairs(command: &[u8], places: &mut [u32]) {
+fn change_triples(command: &[u8], places: &mut [u32]) {
     // A blank at the end begins no word.
     let command = command.strip_suffix(b" ").unwrap_or(command);
-    for pair in 0..15 {
-        let word = 5 + 3 * pair;
+    for triple in 0..15 {
+        let word = 5 + 4 * triple;
         if word_at(command, word).is_none() {
             return;
         }
-        change_pair(command, word, places);
+        change_triple(command, word, places);
     }
 }
 
@@ -191,7 +195,7 @@ fn write_lent(
 ) -> io::Result<()> {
     let file = number_at(command, 1);
     let _ = files::read_alone(file, text, places);
-    change_pairs(command, places);
+    change_triples(command, places);
     let values = PlacedText { text, places };
     let answer = writing::write_file(values, file, number_at(command, 3), output);
     show_write_answer(out, file, answer, output, places)

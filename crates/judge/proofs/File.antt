@@ -6,7 +6,7 @@ use mathlib.Core.List.{List}
 use Rattle.refusals.specs.Refusals.{refusal_with}
 use Rattle.refusals.specs.Answer.{Answer, refusal, acceptance, require}
 use Rattle.refusals.specs.declared.RefusalKind.TheVariants.{SliceNotAsDue}
-use Rattle.places.specs.Places.{set_pairs}
+use Rattle.places.specs.Places.{set_triples}
 use Rattle.tables.specs.File.{File, file_number, of_number}
 use Rattle.due.specs.Booking.{booking_in}
 use Rattle.due.specs.declared.Booking.{Booking}
@@ -49,7 +49,7 @@ module _ {file : ℕ} {b : Booking} {s p : List ℕ} (d : FileReady file b s p) 
 
   module _ (r : Bool) (e : r ≡ of_number true (λ f. slice_right f stated b (is_given t)) file) (q : r ≡ true) (u : Bool) (eu : u ≡ of_number (is_given t) (λ f. is_read f b (is_given t)) file) where
     pub file-unread : u ≡ false → JudgesFile f (file_judged file stated s t p) (Ok no_figures) p p
-    unfolding set_pairs is_marked
+    unfolding set_triples is_marked
     file-unread k = (not_read, chain true false (right_is r true e q) (read_is u false eu k), rw (unread-by-hand f, no-seconds f) refl, refl)
 
     pub file-read : u ≡ true → (y : Result Figures Refusal) (v : List ℕ) → JudgesFile f (text_judged file s t p) y p v → JudgesFile f (file_judged file stated s t p) y p v

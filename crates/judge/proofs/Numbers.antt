@@ -1,11 +1,8 @@
--- Files by number, and how many pairs they have. Assumes nothing.
-use Prim.Native.Nat.{ℕ, ◌≤◌}
-use native.Mathlib.Omega.{arith}
+-- Files by number. Assumes nothing.
+use Prim.Native.Nat.{ℕ}
 use mathlib.Core.Path.{◌≡◌, refl, sym}
 use mathlib.Core.List.{[]}
-use Rattle.tables.specs.File.{File, ac2, acc, drift, suspension, gas, opacity, all_sections, room, of_number, table_of}
-use Rattle.tables.specs.Row.{most_rows}
-use Rattle.tables.proofs.Numbers.{first-pairs}
+use Rattle.tables.specs.File.{File, ac2, all_sections, of_number, table_of}
 use Rattle.tables.proofs.Files.{of_number_lem}
 use Rattle.judge.specs.Steps.{file_numbered, IsNumber}
 
@@ -21,13 +18,3 @@ module _ (file : ℕ) (e : IsNumber file) where
 
 pub new-number : file_numbered 1 ≡ ac2
 new-number = of_number_lem ac2 (λ f. f) ac2 1 refl
-
--- ---- counts
-
-pub few-entries : (f : File) → room f ≤ most_rows
-few-entries ac2 = omega (arith, first-pairs)
-few-entries acc = omega (arith, first-pairs)
-few-entries drift = omega (arith, first-pairs)
-few-entries suspension = omega (arith, first-pairs)
-few-entries gas = omega (arith, first-pairs)
-few-entries opacity = omega (arith, first-pairs)

@@ -9,8 +9,8 @@ use borrow.Author.Tests.{lt-ltb}
 use Rattle.kinds.proofs.Laws.{by-test}
 use Rattle.refusals.specs.Answer.{Answer, refusal, acceptance, refusal_of, require, followed, given_by}
 use Rattle.refusals.specs.declared.Refusal.{Refusal}
-use Rattle.places.specs.Places.{place_size, set_pairs, pairs_at, value_at, Within}
-use Rattle.places.proofs.Laws.{set-length, drop-pairs}
+use Rattle.places.specs.Places.{place_size, set_triples, pairs_at, value_at, Within}
+use Rattle.places.proofs.Laws.{set-length, drop-triples}
 use Rattle.tables.specs.File.{File, ac2, acc, drift, suspension, gas, opacity, files, has_axles, file_number, room, first_pair, least_places, identification_number, of_number}
 use Rattle.tables.proofs.Axles.{entries-most}
 use Rattle.files.proofs.Texts.{few-axles, rooms-fit, own-pairs}
@@ -90,7 +90,7 @@ module _ (stated : Stated) (S : Slices) (p : List ℕ) where
   FiguresAs f y = y ≡ figures_of f (file_given stated S a f)
 
   abbrev pub filled : File → List ℕ → List ℕ
-  filled f w = set_pairs (first_pair f) (file_given stated S a f).pairs w
+  filled f w = set_triples (first_pair f) (file_given stated S a f).pairs (file_given stated S a f).lines w
 
   at_first : Held ac2 0 text p → Going later_slices p p
   at_first h = record { held = h; book = refl; rest = refl; places = refl; beyond = refl }
@@ -102,13 +102,13 @@ module _ (stated : Stated) (S : Slices) (p : List ℕ) where
         let s : judge_file f stated a (S.file f) ≡ acceptance g = ap (λ (b : List (List ℕ)). judge_file f stated b (S.file f)) (sym h.book) ∙ j.1 in
         let e : g ≡ file_given stated S a f = sym (ap (given_by not_read) s) in
         let fit : place_size * (first_pair f + length g.pairs) ≤ least_places = omega (arith, passed-few f stated a (S.file f) g s, rooms-fit f) in
-        let same : pairs_of ac2 0 v ≡ pairs_of ac2 0 q = ap (pairs_of ac2 0) j.3 ∙ booking-kept f l g.pairs q in (
+        let same : pairs_of ac2 0 v ≡ pairs_of ac2 0 q = ap (pairs_of ac2 0) j.3 ∙ booking-kept f l g.pairs g.lines q in (
           record {
-            held = (omega (arith, ap length j.3, set-length (first_pair f) g.pairs q, h.held.0), subst (Within text) (sym same) h.held.1);
+            held = (omega (arith, ap length j.3, set-length (first_pair f) g.pairs g.lines q, h.held.0), subst (Within text) (sym same) h.held.1);
             book = ap (map (value_at text)) same ∙ h.book;
             rest = h.rest ∙ ap (λ (y : Answer FileRead). followed y (λ g. each_accepted stated S a cs x)) s;
-            places = j.3 ∙ ap (λ (u : List ℕ). set_pairs (first_pair f) g.pairs u) h.places ∙ ap (λ (z : FileRead). set_pairs (first_pair f) z.pairs w) e;
-            beyond = ap (drop least_places) j.3 ∙ drop-pairs least_places (first_pair f) g.pairs q fit ∙ h.beyond;
+            places = j.3 ∙ ap (λ (u : List ℕ). set_triples (first_pair f) g.pairs g.lines u) h.places ∙ ap (λ (z : FileRead). set_triples (first_pair f) z.pairs z.lines w) e;
+            beyond = ap (drop least_places) j.3 ∙ drop-triples least_places (first_pair f) g.pairs g.lines q fit ∙ h.beyond;
           },
           j.2 ∙ ap (figures_of f) e,
         )
@@ -155,9 +155,9 @@ module _ (stated : Stated) (S : Slices) (p : List ℕ) where
           let k : Passed gas a (S.file gas) g = (file-sound gas stated a (S.file gas) g s).read e in
           let fit : place_size * (first_pair gas + length g.pairs) ≤ least_places = omega (arith, read-few gas a (S.file gas) g k, rooms-fit gas) in
           let o : pairs_of gas 0 v ≡ g.pairs
-          = ap (pairs_of gas 0) j.3 ∙ ap (λ (c : ℕ). pairs_at (set_pairs (first_pair gas) g.pairs q) (first_pair gas) c) (gas-count 0 ∙ sym (gas-count g.axles))
-          ∙ own-pairs gas g.axles g.pairs q k.many fit h.held.0 in (
-            (omega (arith, ap length j.3, set-length (first_pair gas) g.pairs q, h.held.0), subst (Within (S.file gas)) (sym o) k.within),
+          = ap (pairs_of gas 0) j.3 ∙ ap (λ (c : ℕ). pairs_at (set_triples (first_pair gas) g.pairs g.lines q) (first_pair gas) c) (gas-count 0 ∙ sym (gas-count g.axles))
+          ∙ own-pairs gas g.axles g.pairs g.lines q k.same_many k.many fit h.held.0 in (
+            (omega (arith, ap length j.3, set-length (first_pair gas) g.pairs g.lines q, h.held.0), subst (Within (S.file gas)) (sym o) k.within),
             ap (λ (u : List (List ℕ)). judge_identification (is_given (S.file gas)) u S.identification) (ap (map (value_at (S.file gas))) o ∙ sym k.values ∙ ap (λ (z : FileRead). z.values) is),
           )
 
@@ -289,7 +289,7 @@ module _ (stated : Stated) (S : Slices) (p q : List ℕ) (l : least_places ≤ l
     fit = omega (arith, read-few ac2 b.values (S.file ac2) b w, rooms-fit ac2)
 
     own : pairs_of ac2 0 q ≡ b.pairs
-    own = ap (pairs_of ac2 0) h.4 ∙ sym (new-pairs b.axles (set_pairs (first_pair ac2) b.pairs p)) ∙ own-pairs ac2 b.axles b.pairs p w.many fit l
+    own = ap (pairs_of ac2 0) h.4 ∙ sym (new-pairs b.axles (set_triples (first_pair ac2) b.pairs b.lines p)) ∙ own-pairs ac2 b.axles b.pairs b.lines p w.same_many w.many fit l
 
     values : new_values (S.file ac2) q ≡ b.values
     values = ap (map (value_at (S.file ac2))) own ∙ sym w.values
@@ -303,7 +303,7 @@ module _ (stated : Stated) (S : Slices) (p q : List ℕ) (l : least_places ≤ l
     pub booked-ready : Says (S.file ac2) q y.booking × BookingFigures stated S q y.figures
     booked-ready = (
       (
-        (omega (arith, ap length h.4, set-length (first_pair ac2) b.pairs p, l), subst (Within (S.file ac2)) (sym own) w.within),
+        (omega (arith, ap length h.4, set-length (first_pair ac2) b.pairs b.lines p, l), subst (Within (S.file ac2)) (sym own) w.within),
         h.3 ∙ ap booking_in (sym values),
       ),
       h.2 ∙ ap (figures_of ac2) (sym beside),
@@ -316,9 +316,9 @@ module _ (stated : Stated) (S : Slices) (p q : List ℕ) (l : least_places ≤ l
         ∙ ap (λ (v : List (List ℕ)). each_accepted stated S v later_slices (set_read stated S v)) (sym values)
 
     pub slices-judged : (z : Result Acceptance Refusal) (v : List ℕ) → JudgesLater stated S q v z → JudgesSlices files (judge_slices stated S) z p v
-    slices-judged (Err e) v k = (whole_is ∙ k.0, k.1 ∙ ap (drop least_places) h.4 ∙ drop-pairs least_places (first_pair ac2) b.pairs p fit)
+    slices-judged (Err e) v k = (whole_is ∙ k.0, k.1 ∙ ap (drop least_places) h.4 ∙ drop-triples least_places (first_pair ac2) b.pairs b.lines p fit)
     slices-judged (Ok y) v k =
         let a : List (List ℕ) = new_values (S.file ac2) q in
         let e : k.0.file ac2 ≡ b
         = sym (ap (λ (x : SetRead). x.file ac2) (each-sound stated S a later_slices (set_read stated S a) k.0 k.1).0) ∙ beside in
-        (k.0, whole_is ∙ k.1, k.2, k.3 ∙ ap (set_files later_files k.0) (h.4 ∙ ap (λ (g : FileRead). set_pairs (first_pair ac2) g.pairs p) (sym e)))
+        (k.0, whole_is ∙ k.1, k.2, k.3 ∙ ap (set_files later_files k.0) (h.4 ∙ ap (λ (g : FileRead). set_triples (first_pair ac2) g.pairs g.lines p) (sym e)))

@@ -5,12 +5,12 @@ use mathlib.Core.Path.{◌≡◌, refl, ap, ap₂, sym, ◌∙◌}
 use mathlib.Core.Bool.{true, false}
 use mathlib.Core.List.{List, [], ◌∷◌}
 use lib.Dec.{ltb}
-use lib.ListN.{length, get_or, take}
+use lib.ListN.{length, get_or}
 use borrow.Author.Tests.{lt-ltb, le-ltb}
 use Rattle.refusals.specs.Refusals.{number_of, refusal_with}
 use Rattle.refusals.specs.Answer.{refusal}
 use Rattle.refusals.specs.declared.RefusalKind.TheVariants.{NotAsDue}
-use Rattle.places.specs.Places.{Pair, place_size, pairs_at}
+use Rattle.places.specs.Places.{Pair, place_size, pairs_at, lines_at}
 use Rattle.places.proofs.Laws.{values_length}
 use Rattle.tables.specs.Section.{Section, entries_of}
 use Rattle.tables.specs.Row.{entries_before}
@@ -26,7 +26,7 @@ use Rattle.due.proofs.Entries.{conditions-file}
 use Rattle.due.proofs.FirstNotAsDue.{some-found, none-found, first-at-values}
 use Rattle.rules.specs.Rule.{RuleCheck, first_broken}
 use Rattle.rules.specs.Rules.{Says, rules_of, first_broken_at}
-use Rattle.tables.specs.Value.{pairs_of, values_of, NumberHeld}
+use Rattle.tables.specs.Value.{pairs_of, lines_of, values_of, NumberHeld}
 use Rattle.due.specs.Values.{new_values}
 use Rattle.rules.specs.declared.BrokenRule.{BrokenRule}
 use Rattle.tables.proofs.Values.{held_number, fixed_held}
@@ -36,9 +36,9 @@ use Rattle.sets.specs.Judge.{check_rule, checked_file, first_failed, figures_fro
 use Rattle.judge.specs.Steps.{file_numbered, IsNumber, ValuesReady, read_at, values_step, JudgesValues}
 use Rattle.sets.specs.declared.Figures as K
 use Rattle.std.specs.Prelude.{Option, Some, None, Ok, Err}
-use Rattle.judge.proofs.Numbers.{by-file, table, few-entries}
+use Rattle.judge.proofs.Numbers.{by-file, table}
 
-module _ {file c names : ℕ} {b : Booking} {s t p ls : List ℕ} (w : ValuesReady file c names b s t p ls) where
+module _ {file c names : ℕ} {b : Booking} {s t p : List ℕ} (w : ValuesReady file c names b s t p) where
   abbrev f : File
   f = file_numbered file
 
@@ -82,11 +82,11 @@ module _ {file c names : ℕ} {b : Booking} {s t p ls : List ℕ} (w : ValuesRea
     pub figures-ready : IsNumber file × (c - k ≤ most_axles) × (names < 2 ^ 32) × NumberHeld file (c - k) t p × (x.seconds ≡ (measure_at file (c - k) t p).seconds)
     figures-ready = let r = measure-ready e in (w.number, r.0, w.compared-fits, r.1, ap (λ (y : Measure). y.seconds) m)
 
-  due-failed : ltb (first_not_as_due f conditions vs) (length vs) ≡ true → values_step f c s t p ls ≡ refusal 10 (file_number f) (get_or (take size ls) (first_not_as_due f conditions vs) 0)
+  due-failed : ltb (first_not_as_due f conditions vs) (length vs) ≡ true → values_step f c s t p ≡ refusal 10 (file_number f) (get_or (lines_of f n p) (first_not_as_due f conditions vs) 0)
   due-failed q = rw q refl
 
   due-passed : ltb (first_not_as_due f conditions vs) (length vs) ≡ false
-      → values_step f c s t p ls ≡ checked_file f (read_at f c t p) (take size ls) (first_failed (check_rule (first_broken f (rules_of f (new_values s p) vs n)) ∷ []))
+      → values_step f c s t p ≡ checked_file f (read_at f c t p) (first_failed (check_rule (first_broken f (rules_of f (new_values s p) vs n)) ∷ []))
   due-passed q = rw q refl
 
   -- ---- the entries of its sections
@@ -101,15 +101,18 @@ module _ {file c names : ℕ} {b : Booking} {s t p ls : List ℕ} (w : ValuesRea
     count_most : size ≤ room f
     count_most = entries-most f n w.few
 
-    pub count_fits : count ≤ length ls
-    count_fits = omega (arith, count-is, count_most, few-entries f, w.lines)
-
     many : length vs ≡ size
     many = values_length t p (first_pair f) size
 
     module _ {first : ℕ} (ef : first ≡ of_number 0 first_pair file) where
+      first-is : first ≡ first_pair f
+      first-is = ef ∙ by-file file w.number 0 first_pair
+
       pub pairs-ready : place_size * (first + count) ≤ length p
-      pairs-ready = omega (arith, count-is, count_most, rooms-fit f, ef ∙ by-file file w.number 0 first_pair, w.own.0)
+      pairs-ready = omega (arith, count-is, count_most, rooms-fit f, first-is, w.own.0)
+
+      lines-are : lines_at p first count ≡ lines_of f n p
+      lines-are = ap₂ (λ (k m : ℕ). lines_at p k m) first-is count-is
 
       -- 10, for the conditions k that were made
       module _ {k : Conditions} (ek : k ≡ with_links b (links_numbered file t p)) {x : Option ℕ} (h : x ≡ found_below count (first_not_as_due_from (λ i. due_in file i k) 0 (filled_pairs (pairs_at p first count)))) where
@@ -118,29 +121,29 @@ module _ {file c names : ℕ} {b : Booking} {s t p ls : List ℕ} (w : ValuesRea
             let q : k ≡ conditions = ek ∙ ap₂ (λ (x : Booking) (m : ℕ). with_links x (links_numbered m t p)) w.says.1 (sym w.number) ∙ conditions-file f n (new_values s p) t p in
             h
             ∙ ap (found_below count)
-            (ap₂ (λ (m : ℕ) (ps : List Pair). first_not_as_due_from (λ i. due_in m i k) 0 (filled_pairs ps)) (sym w.number) (ap₂ (λ (x y : ℕ). pairs_at p x y) (ef ∙ by-file file w.number 0 first_pair) count-is)
+            (ap₂ (λ (m : ℕ) (ps : List Pair). first_not_as_due_from (λ i. due_in m i k) 0 (filled_pairs ps)) (sym w.number) (ap₂ (λ (x y : ℕ). pairs_at p x y) first-is count-is)
             ∙ first-at-values f k t (pairs_of f n p) w.own.1
             ∙ ap (λ (x : Conditions). first_not_as_due f x vs) q)
 
-        pub values-due : {i : ℕ} → x ≡ Some i → {l : ℕ} → l ≡ get_or (take count ls) i 0 → JudgesValues f c s t p ls (Err (refusal_with NotAsDue file l))
+        pub values-due : {i : ℕ} → x ≡ Some i → {l : ℕ} → l ≡ get_or (lines_at p first count) i 0 → JudgesValues f c s t p (Err (refusal_with NotAsDue file l))
         values-due {i} q el =
             let o = some-found count (first_not_as_due f conditions vs) i (sym q ∙ due-is) in
             due-failed (lt-ltb (first_not_as_due f conditions vs) (length vs) (omega (arith, many, count-is, o.0, o.1)))
-            ∙ ap₂ (λ (x y : ℕ). refusal 10 x y) w.number (sym (el ∙ ap₂ (λ (x y : ℕ). get_or (take x ls) y 0) count-is o.0))
+            ∙ ap₂ (λ (x y : ℕ). refusal 10 x y) w.number (sym (el ∙ ap₂ (λ (x : List ℕ) (y : ℕ). get_or x y 0) lines-are o.0))
 
         -- then 19, 12 or 13
         module _ (o : x ≡ None) {m : ℕ} (em : m ≡ of_number 0 (λ f. length (fixed_sections f)) file) {r : RuleCheck} (er : r ≡ of_number (Ok tt) (λ f. first_broken_at f (c - m) s t p) file) where
           rule-is : first_broken f (rules_of f (new_values s p) vs n) ≡ r
           rule-is = sym (er ∙ by-file file w.number (Ok tt) (λ f. first_broken_at f (c - m) s t p) ∙ ap (λ (k : ℕ). first_broken_at f k s t p) (axles-are em))
 
-          judged : (x : RuleCheck) → r ≡ x → values_step f c s t p ls ≡ checked_file f (read_at f c t p) (take size ls) (first_failed (check_rule x ∷ []))
+          judged : (x : RuleCheck) → r ≡ x → values_step f c s t p ≡ checked_file f (read_at f c t p) (first_failed (check_rule x ∷ []))
           judged x q =
               due-passed (le-ltb (first_not_as_due f conditions vs) (length vs) (omega (arith, many, count-is, none-found count (first_not_as_due f conditions vs) (sym o ∙ due-is))))
-              ∙ ap (λ (y : RuleCheck). checked_file f (read_at f c t p) (take size ls) (first_failed (check_rule y ∷ []))) (rule-is ∙ q)
+              ∙ ap (λ (y : RuleCheck). checked_file f (read_at f c t p) (first_failed (check_rule y ∷ []))) (rule-is ∙ q)
 
-          pub values-broken : {x : BrokenRule} → r ≡ Err x → {l : ℕ} → l ≡ get_or (take count ls) x.entry 0 → JudgesValues f c s t p ls (Err (refusal_with x.kind file l))
+          pub values-broken : {x : BrokenRule} → r ≡ Err x → {l : ℕ} → l ≡ get_or (lines_at p first count) x.entry 0 → JudgesValues f c s t p (Err (refusal_with x.kind file l))
           values-broken {x} q el =
-              judged (Err x) q ∙ ap₂ (λ (y z : ℕ). refusal (number_of x.kind) y z) w.number (sym (el ∙ ap (λ (y : ℕ). get_or (take y ls) x.entry 0) count-is))
+              judged (Err x) q ∙ ap₂ (λ (y z : ℕ). refusal (number_of x.kind) y z) w.number (sym (el ∙ ap (λ (y : List ℕ). get_or y x.entry 0) lines-are))
 
-          pub values-pass : r ≡ Ok tt → {y : K.Figures} → y ≡ figures_from f (c - m) (values_of f (c - m) t p) names → JudgesValues f c s t p ls (Ok y)
+          pub values-pass : r ≡ Ok tt → {y : K.Figures} → y ≡ figures_from f (c - m) (values_of f (c - m) t p) names → JudgesValues f c s t p (Ok y)
           values-pass q ey = (judged (Ok tt) q, ey ∙ ap₂ (λ (k i : ℕ). figures_from f k (values_of f k t p) i) (axles-are em) w.compared)

@@ -1,17 +1,16 @@
--- What the steps of judging a set promise. Each is said by cases of the code's answer: the pairs, which it has no room for, are in the places.
+-- What the steps of judging a set promise. Each is said by cases of the code's answer: pairs and lines, which it has no room for, are in the places.
 use Rattle.std.specs.Prelude.{ℕ, ◌≤◌, ◌<◌, ◌^◌, ◌≡◌, false, List, [], ◌∷◌, length, take, drop, Result, Ok, Err}
 use Rattle.refusals.specs.Answer.{Answer, acceptance, refusal_of}
 use Rattle.refusals.specs.Refusals.{refusal_with}
 use Rattle.refusals.specs.declared.Refusal.{Refusal}
 use Rattle.refusals.specs.declared.RefusalKind.{RefusalKind}
-use Rattle.places.specs.Places.{set_pairs}
-use Rattle.tables.specs.File.{File, ac2, acc, drift, suspension, gas, opacity, file_number, most_axles, sections, all_sections, fixed_sections, entries, first_pair, least_places, of_number, identification_number}
-use Rattle.tables.specs.Row.{most_rows}
+use Rattle.places.specs.Places.{set_triples}
+use Rattle.tables.specs.File.{File, ac2, acc, drift, suspension, gas, opacity, file_number, most_axles, sections, all_sections, fixed_sections, first_pair, least_places, of_number, identification_number}
 use Rattle.reading.specs.LookUps.{names_compared}
 use Rattle.files.specs.Files.{axles_of}
 use Rattle.due.specs.Booking.{booking_in}
 use Rattle.due.specs.declared.Booking.{Booking}
-use Rattle.tables.specs.Value.{pairs_of, values_of, Held}
+use Rattle.tables.specs.Value.{pairs_of, lines_of, values_of, Held}
 use Rattle.due.specs.Values.{new_values}
 use Rattle.rules.specs.Rules.{Says}
 use Rattle.rules.specs.declared.Stated.{Stated}
@@ -45,9 +44,8 @@ pub record FileReady (file : ℕ) (b : Booking) (s p : List ℕ) : Type 0 where
   pub later : 2 ≤ file
   pub says : Says s p b
 
--- what judging the values of a file of c sections asks: its text t, its pairs within it, k the number of entry names compared, and
--- ls has room for the line of each entry
-pub record ValuesReady (file c k : ℕ) (b : Booking) (s t p ls : List ℕ) : Type 0 where
+-- what judging the values of a file of c sections asks: its text t, its pairs within it, and k the number of entry names compared
+pub record ValuesReady (file c k : ℕ) (b : Booking) (s t p : List ℕ) : Type 0 where
   pub number : IsNumber file
   pub least : length (fixed_sections (file_numbered file)) ≤ c
   pub most : c ≤ length (all_sections (file_numbered file))
@@ -57,26 +55,24 @@ pub record ValuesReady (file c k : ℕ) (b : Booking) (s t p ls : List ℕ) : Ty
   pub own : Held (file_numbered file) (axles_of (file_numbered file) c) t p
   pub compared : k ≡ names_compared (all_sections (file_numbered file)) t
   pub compared-fits : k < 2 ^ 32
-  pub lines : most_rows ≤ length ls
 
--- what stands at the pairs of a file of c sections
+-- what the places say of a file of c sections
 abbrev pub read_at : File → ℕ → List ℕ → List ℕ → FileRead
-read_at f c t p = file_read f t c (pairs_of f (axles_of f c) p)
+read_at f c t p = file_read f t c (pairs_of f (axles_of f c) p) (lines_of f (axles_of f c) p)
 
--- all of 10, then 19, 12 or 13, of a file of c sections whose pairs are in the places and whose lines are the first of ls
-abbrev pub values_step : File → ℕ → List ℕ → List ℕ → List ℕ → List ℕ → Answer FileRead
-values_step f c s t p ls =
-    checked_file f (read_at f c t p) (take (length (entries f (axles_of f c))) ls)
-    (first_failed (file_checks f (new_values s p) (values_of f (axles_of f c) t p) (axles_of f c)))
+-- all of 10, then 19, 12 or 13, of a file of c sections whose pairs and lines are in the places
+abbrev pub values_step : File → ℕ → List ℕ → List ℕ → List ℕ → Answer FileRead
+values_step f c s t p =
+    checked_file f (read_at f c t p) (first_failed (file_checks f (new_values s p) (values_of f (axles_of f c) t p) (axles_of f c)))
 
-abbrev pub JudgesValues : File → ℕ → List ℕ → List ℕ → List ℕ → List ℕ → Result Figures Refusal → Type 0
-JudgesValues f c s t p ls (Err x) = values_step f c s t p ls ≡ refusal_of x
-JudgesValues f c s t p ls (Ok y) = (values_step f c s t p ls ≡ acceptance (read_at f c t p)) × (y ≡ figures_of f (read_at f c t p))
+abbrev pub JudgesValues : File → ℕ → List ℕ → List ℕ → List ℕ → Result Figures Refusal → Type 0
+JudgesValues f c s t p (Err x) = values_step f c s t p ≡ refusal_of x
+JudgesValues f c s t p (Ok y) = (values_step f c s t p ≡ acceptance (read_at f c t p)) × (y ≡ figures_of f (read_at f c t p))
 
--- a file was judged, by the definition with a; places p before, q after. After a refusal only those past the pairs are promised.
+-- a file was judged, by the definition with a; places p before, q after. After a refusal only those past the least number are promised.
 abbrev pub JudgesFile : File → Answer FileRead → Result Figures Refusal → List ℕ → List ℕ → Type 0
 JudgesFile f a (Err x) p q = (a ≡ refusal_of x) × (drop least_places q ≡ drop least_places p)
-JudgesFile f a (Ok y) p q = (g : FileRead) × (a ≡ acceptance g) × (y ≡ figures_of f g) × (q ≡ set_pairs (first_pair f) g.pairs p)
+JudgesFile f a (Ok y) p q = (g : FileRead) × (a ≡ acceptance g) × (y ≡ figures_of f g) × (q ≡ set_triples (first_pair f) g.pairs g.lines p)
 
 -- 3 to 9, then the checks, of a file after AC2; and 11 before them
 abbrev pub text_judged : ℕ → List ℕ → List ℕ → List ℕ → Answer FileRead
@@ -89,7 +85,7 @@ file_judged file stated s t p = judge_file (file_numbered file) stated (new_valu
 abbrev pub JudgesBooking : Answer FileRead → Result Booked Refusal → List ℕ → List ℕ → Type 0
 JudgesBooking a (Err x) p q = (a ≡ refusal_of x) × (drop least_places q ≡ drop least_places p)
 JudgesBooking a (Ok y) p q =
-    (g : FileRead) × (a ≡ acceptance g) × (y.figures ≡ figures_of ac2 g) × (y.booking ≡ booking_in g.values) × (q ≡ set_pairs (first_pair ac2) g.pairs p)
+    (g : FileRead) × (a ≡ acceptance g) × (y.figures ≡ figures_of ac2 g) × (y.booking ≡ booking_in g.values) × (q ≡ set_triples (first_pair ac2) g.pairs g.lines p)
 
 -- ---- slice 6
 

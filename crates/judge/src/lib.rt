@@ -1,9 +1,8 @@
-// The judge of a whole set (01, Judging): the answer, and the pairs of its values in the places.
+// The judge of a whole set (01, Judging): the answer, and the pairs and lines of its values in the places.
 #![tactic(auto)]
 
-ghost use Rattle.std.specs.Prelude.{◌≡◌, ◌≤◌, ◌<◌, ◌^◌, length, get_or};
+ghost use Rattle.std.specs.Prelude.{◌≡◌, ◌≤◌, ◌<◌, ◌^◌, length};
 ghost use Rattle.tables.specs.File.{ac2 as booking_file, files, most_axles, least_places};
-ghost use Rattle.tables.specs.Row.{most_rows};
 ghost use Rattle.tables.specs.Value.{values_of, NumberHeld};
 ghost use Rattle.rules.specs.Devices.{measure_at};
 ghost use Rattle.rules.specs.Rules.{Says};
@@ -18,7 +17,7 @@ use places::PlacedText;
 use refusals::{Refusal, RefusalKind};
 use rules::{NewBooking, Stated};
 use sets::{Acceptance, Figures};
-use tables::{AC2, ACC, DRIFT, GAS, IDENTIFICATION, MOST_ROWS, OPACITY, SUSPENSION};
+use tables::{AC2, ACC, DRIFT, GAS, IDENTIFICATION, OPACITY, SUSPENSION};
 
 // The slices of a set; one that is not given is empty.
 #[derive(Debug, Clone, Copy)]
@@ -48,13 +47,6 @@ struct Booked {
     figures: Figures,
 }
 
-// The line of an entry; where there is none 0, which a refusal without a line carries.
-fn line_of(lines: &[u32], entry: usize) -> u32
-    ensures { result ≡ get_or lines.now entry 0 }
-{
-    lines.get(entry).copied().unwrap_or(0)
-}
-
 // The figures of a file whose pairs are in the places; `compared` counts the entry names compared to read it,
 // `seconds` those of its measure.
 fn figures_of(
@@ -78,17 +70,16 @@ fn figures_of(
     }
 }
 
-// All of 10, then 19, 12 or 13, of a file whose pairs are in the places, with the lines of its entries.
+// All of 10, then 19, 12 or 13, of a file whose pairs and lines are in the places.
 fn judge_values(
     file: u32,
     read: TextRead,
     new: &NewBooking<'_>,
     own: PlacedText<'_>,
-    lines: &[u32],
 ) -> Result<Figures, Refusal>
-    requires { ValuesReady file read.sections read.compared new.now.says new.now.text.now own.text.now own.places.now lines.now }
+    requires { ValuesReady file read.sections read.compared new.now.says new.now.text.now own.text.now own.places.now }
     ensures { JudgesValues (file_numbered file) read.sections new.now.text.now own.entry.text.now
-        own.entry.places.now lines.now result }
+        own.entry.places.now result }
 {
     let conditions = due::conditions_of(file, new.says, own);
     let count = tables::entries_before(file, read.sections);
@@ -98,7 +89,7 @@ fn judge_values(
         return Err(Refusal {
             kind: RefusalKind::NotAsDue,
             file,
-            line: line_of(&lines[..count], entry),
+            line: places::line_among(own.places, first, count, entry),
         });
     }
     let axles = read.sections - tables::fixed_section_count(file);
@@ -107,30 +98,26 @@ fn judge_values(
         Err(x) => Err(Refusal {
             kind: x.kind,
             file,
-            line: line_of(&lines[..count], x.entry),
+            line: places::line_among(own.places, first, count, x.entry),
         }),
         Ok(()) => Ok(figures_of(file, axles, read.compared, measure.seconds, own)),
     }
 }
 
 // AC2's text: 3 to 9, then the values, by what they say themselves.
-fn judge_booking_text(
-    text: &[u8],
-    places: &mut [u32],
-    lines: &mut [u32; MOST_ROWS],
-) -> Result<Booked, Refusal>
+fn judge_booking_text(text: &[u8], places: &mut [u32]) -> Result<Booked, Refusal>
     requires { least_places ≤ length places.old }
     ensures { JudgesBooking (judge_text booking_file (λ own. own) text.now) result
         places.old places.new }
 {
-    let read = files::read_text(AC2, text, places, lines)?;
+    let read = files::read_text(AC2, text, places)?;
     let own = PlacedText { text, places };
     let booking = due::booking_of(own);
     let new = NewBooking {
         text,
         says: booking,
     };
-    let figures = judge_values(AC2, read, &new, own, lines)?;
+    let figures = judge_values(AC2, read, &new, own)?;
     Ok(Booked { booking, figures })
 }
 
@@ -146,8 +133,7 @@ fn judge_booking(text: &[u8], places: &mut [u32]) -> Result<Booked, Refusal>
             line: 0,
         });
     }
-    let mut lines = [0u32; MOST_ROWS];
-    judge_booking_text(text, places, &mut lines)
+    judge_booking_text(text, places)
 }
 
 // The text of a file after AC2: 3 to 9, then the values.
@@ -156,15 +142,14 @@ fn judge_text(
     new: &NewBooking<'_>,
     text: &[u8],
     places: &mut [u32],
-    lines: &mut [u32; MOST_ROWS],
 ) -> Result<Figures, Refusal>
     requires { FileReady file new.now.says new.now.text.now places.old }
     ensures { JudgesFile (file_numbered file)
         (text_judged file new.now.text.now text.now places.old) result
         places.old places.new }
 {
-    let read = files::read_text(file, text, places, lines)?;
-    judge_values(file, read, new, PlacedText { text, places }, lines)
+    let read = files::read_text(file, text, places)?;
+    judge_values(file, read, new, PlacedText { text, places })
 }
 
 // A file after AC2: 11, then, where it is read, the rest.
@@ -191,8 +176,7 @@ fn judge_file(
     if !rules::is_read(file, new.says, given) {
         return Ok(NO_FIGURES);
     }
-    let mut lines = [0u32; MOST_ROWS];
-    judge_text(file, new, text, places, &mut lines)
+    judge_text(file, new, text, places)
 }
 
 fn refuse_identification(kind: RefusalKind) -> Result<(), Refusal>
@@ -299,7 +283,7 @@ fn judge_slices(
     judge_later(stated, booked, slices, places)
 }
 
-// A whole set, for the stem of its files: 1, 2, then slices 1 to 7. The places hold its pairs where it is accepted;
+// A whole set, for the stem of its files: 1, 2, then slices 1 to 7. The places hold its pairs and lines where it is accepted;
 // after a refusal but 1 they are 0.
 pub fn judge_set(
     stem: &[u8],

@@ -15,7 +15,7 @@ use std::io::{BufWriter, Read, Write};
 const HEADER_SIZE: usize = 40;
 
 // As many places as are lent at most.
-const MOST_PLACES: usize = 400;
+const MOST_PLACES: usize = 600;
 
 // A stored set.
 #[derive(Clone, Copy)]

@@ -13,6 +13,7 @@ use Rattle.tables.specs.File.{least_places}
 use Rattle.writing.specs.Writing.{answer_of, quote_for, output_after}
 use Rattle.writing.specs.ReadBack.{IsReadBack}
 use Rattle.writing.proofs.Theorem.{reads-back}
+use Rattle.writing.proofs.Ignored.{lines-ignored}
 use Rattle.writing.specs.declared.WriteAcceptance.{WriteAcceptance}
 use Rattle.mctc.specs.Answers.{answer_size, answered, write_numbers, set_numbers, Filled}
 use Rattle.mctc.specs.Calls.{WriteCall, returned, answer_after, where_fits, SetFilled, JudgeCall}
@@ -43,7 +44,7 @@ module _ (s p : List ℕ) (file n : ℕ) (o t a b : List ℕ) (r : ℕ) where
       → (r ≡ 0 → answer_size ≤ length a)
       → (answer_size ≤ length a → (x : Result WriteAcceptance Refusal) × (answer_is x ≡ answer_of file (quote_for file n s p o)))
       → WriteCall s p file n o t a b r
-  write-call f g e l h = record { number = f; answer = g; output = e; reads-back = λ z. let w = h (l z) in back w.0 (l z) w.1 f g e z }
+  write-call f g e l h = record { number = f; answer = g; output = e; reads-back = λ z. let w = h (l z) in back w.0 (l z) w.1 f g e z; lines-ignored = lines-ignored file n s p o }
 
 -- 0 is returned exactly where a set is accepted: no refusal has that number
 zero-accepts : (x : Result Acceptance Refusal) (r : ℕ) → r ≡ get_or (set_numbers (answer_is x)) 0 0 → (r ≡ 0) ↔ IsAccepted (answer_is x)

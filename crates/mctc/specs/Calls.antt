@@ -7,7 +7,7 @@ use Rattle.kinds.specs.Kind.{Kind}
 use Rattle.tables.specs.File.{least_places}
 use Rattle.files.specs.Alone.{alone_answer, alone_places}
 use Rattle.writing.specs.Writing as W
-use Rattle.writing.specs.Writing.{quote_for, output_after}
+use Rattle.writing.specs.Writing.{quote_for, output_after, LinesIgnored}
 use Rattle.writing.specs.ReadBack.{IsReadBack}
 use Rattle.names.specs.Names as N
 use Rattle.rules.specs.Slices.{good_stem}
@@ -57,6 +57,8 @@ pub record WriteCall (s p : List ℕ) (file n : ℕ) (o t a b : List ℕ) (r : �
   pub output : t ≡ where_fits a (output_after file n s p o) o
   -- "By this call a written file reads back": as many of the output's bytes as number 3 of the answer says, read alone (`ReadCall`)
   pub reads-back : r ≡ 0 → (q : List ℕ) → least_places ≤ length q → IsReadBack file n s p (take (get_or b 3 0) t) q
+  -- 02, 7/14: "Writing ignores the third number"
+  pub lines-ignored : LinesIgnored file n s p o
 
 -- the name x copied, `entry_name`, `heading_name` or `entry_word` (`names` Names) of the file and numbers: output o before and t after
 pub record NameCall (file : ℕ) (x : Option N.Name) (o t a b : List ℕ) (r : ℕ) : Type 0 where

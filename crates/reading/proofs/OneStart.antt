@@ -1,5 +1,5 @@
--- An entry of a text that fits has one start: no other place is behind whole lines, its heading, its name and `=`. Assumes nothing.
-use Prim.Native.Nat.{ℕ, zero, suc, ◌+◌, ◌<◌}
+-- An entry of a text that fits has one start and one line: no other place is behind whole lines, its heading, its name and `=`. Assumes nothing.
+use Prim.Native.Nat.{ℕ, zero, suc, ◌+◌, ◌<◌, ◌≤◌}
 use mathlib.Core.Path.{◌≡◌, refl, ap, ap₂, sym, ◌∙◌}
 use mathlib.Core.Bool.{true, not, ◌&&◌}
 use mathlib.Core.Option.{Option, none, some}
@@ -25,7 +25,7 @@ use Rattle.orders.proofs.Rows.{Distinct, distinct_append, distinct-perm}
 use Rattle.orders.proofs.Items.{Item, items}
 use Rattle.orders.proofs.Complete.{order-items, order-length}
 use Rattle.orders.proofs.Places.{number_at}
-use Rattle.reading.specs.Fitting.{name_table, headed, last_heading, StartsAt, StartOf}
+use Rattle.reading.specs.Fitting.{name_table, headed, last_heading, StandsAt, EntryStandsAt}
 use Rattle.reading.specs.Tables.{distinct_rows, clean_entries, clean_table}
 use Rattle.reading.specs.Theorem.{IsText}
 use Rattle.reading.proofs.Lookup.{table_rows, no_row}
@@ -162,44 +162,45 @@ lines-distinct t v ls d f =
 -- ---- the start
 
 module _ (ls : List Line) (s : List ℕ) (h n : Name) (text : s ≡ text_of ls) (good : all_well_formed ls ≡ true) (name : well_formed (entry n []) ≡ true) where
-  record Found (k : ℕ) : Type 0 where
+  record Found (k m : ℕ) : Type 0 where
     before : List Line
     value : Value
     later : List Line
     lines_are : ls ≡ before ++ entry n value ∷ later
     under : last_heading none before ≡ some h
     place : k ≡ length (text_of before ++ line_bytes (entry n []))
+    line : m ≡ length before + 1
 
   formed-behind : (b ms : List Line) → all_well_formed (b ++ ms) ≡ true → all_well_formed ms ≡ true
   unfolding all_well_formed
   formed-behind [] ms g = g
   formed-behind (l ∷ b) ms g = formed-behind b ms (and_right (well_formed l) (all_well_formed (b ++ ms)) g)
 
-  found : (k : ℕ) → StartsAt h n s k → Found k
-  found k w =
+  found : (k m : ℕ) → StandsAt h n s k m → Found k m
+  found k m w =
       let b = w.before in
       let r = begins b ls (line_bytes (entry n []) ++ w.rest) w.well-formed good (sym (append_assoc (text_of b) (line_bytes (entry n [])) w.rest) ∙ sym w.text-is ∙ text) in
       let x = entry_next n w.rest r.behind name (formed-behind b r.behind (rw r.lines_are at good)) r.rest-is in
       let e : r.behind ≡ entry n x.value ∷ x.later = x.are in
-      record { before = b; value = x.value; later = x.later; lines_are = rw e at r.lines_are; under = w.under; place = w.place }
+      record { before = b; value = x.value; later = x.later; lines_are = rw e at r.lines_are; under = w.under; place = w.place; line = w.line }
 
-  number : (k : ℕ) (w : Found k) → Distinct (rows_of (items none ls)) → length w.before ≡ row_number (entry_row (some h) n) (rows_of (items none ls))
-  number k w d =
+  number : (k m : ℕ) (w : Found k m) → Distinct (rows_of (items none ls)) → length w.before ≡ row_number (entry_row (some h) n) (rows_of (items none ls))
+  number k m w d =
       let r = row-there none w.before n w.value w.later in
       let q : get_or (rows_of (items none ls)) (length w.before) no_row ≡ entry_row (some h) n =
       ap (λ (l : List Line). get_or (rows_of (items none l)) (length w.before) no_row) w.lines_are ∙ r.0 ∙ ap (λ (o : Option Name). entry_row o n) w.under in
       let l : length w.before < length (rows_of (items none ls)) = rw w.lines_are r.1 in
       sym (number_at (rows_of (items none ls)) (length w.before) no_row d l) ∙ ap (λ (x : Row). row_number x (rows_of (items none ls))) q
 
-  one-start : (j k : ℕ) → Distinct (rows_of (items none ls)) → StartsAt h n s j → StartsAt h n s k → j ≡ k
-  one-start j k d x y =
-      let f = found j x in
-      let g = found k y in
-      let q : length f.before ≡ length g.before = number j f d ∙ sym (number k g d) in
+  one-start : (j k l m : ℕ) → Distinct (rows_of (items none ls)) → StandsAt h n s j l → StandsAt h n s k m → (j ≡ k) × (l ≡ m)
+  one-start j k l m d x y =
+      let f = found j l x in
+      let g = found k m y in
+      let q : length f.before ≡ length g.before = number j l f d ∙ sym (number k m g d) in
       let p : f.before ≡ g.before =
       sym (take-append_seam f.before (entry n f.value ∷ f.later)) ∙ ap₂ (λ (i : ℕ) (l : List Line). take i l) q (sym f.lines_are ∙ g.lines_are)
       ∙ take-append_seam g.before (entry n g.value ∷ g.later) in
-      f.place ∙ ap (λ (b : List Line). length (text_of b ++ line_bytes (entry n []))) p ∙ sym g.place
+      (f.place ∙ ap (λ (b : List Line). length (text_of b ++ line_bytes (entry n []))) p ∙ sym g.place, omega (arith, f.line, g.line, q))
 
 -- the names of a clean table have form
 entry-name : (h : Name) (es : List Entry) (hs : List (Name × Name)) (i : ℕ) → clean_entries es ≡ true
@@ -221,14 +222,24 @@ table-name (x ∷ t) i c =
     entry-name x.heading x.entries (headed t) i (and_right (well_formed (heading x.heading)) (clean_entries x.entries) (and_left here (clean_table t) c))
     (λ (j : ℕ). table-name t j (and_right here (clean_table t) c))
 
--- an entry has one start
+-- an entry has one start and one line
 pub start-unique : (t : List Section) (least c : ℕ) (vs : List Value) (s : List ℕ) → distinct_rows t ≡ true → clean_table t ≡ true → IsText t least c vs s
-    → (i j k : ℕ) → StartOf (take c t) s i j → StartOf (take c t) s i k → j ≡ k
-start-unique t least c vs s apart clean h i j k x y =
+    → (i j k l m : ℕ) → EntryStandsAt (take c t) s i j l → EntryStandsAt (take c t) s i k m → (j ≡ k) × (l ≡ m)
+start-unique t least c vs s apart clean h i j k l m x y =
     let u = take c t in
     let f = h.fits in
     let o = f.in-any-order in
     let cu = clean-take t c clean in
     let hn = get_or (headed u) i ([], []) in
     let d = (distinct_append (table_rows u) (table_rows (drop c t)) (first-distinct t c apart)).0 in
-    one-start f.lines s hn.0 hn.1 f.text-is (all-formed u vs s cu f h.kept) (table-name u i cu) j k (lines-distinct (name_table u) f.parts f.lines d o) x y
+    one-start f.lines s hn.0 hn.1 f.text-is (all-formed u vs s cu f h.kept) (table-name u i cu) j k l m (lines-distinct (name_table u) f.parts f.lines d o) x y
+
+-- ---- the line
+
+-- a heading stands before an entry, so no entry stands on the first line
+pub line-least : (h n : Name) (s : List ℕ) (k l : ℕ) → StandsAt h n s k l → 2 ≤ l
+line-least h n s k l w = on w.before w.under w.line
+  where
+    on : (b : List Line) → last_heading none b ≡ some h → l ≡ length b + 1 → 2 ≤ l
+    on [] e q = clash (cc)
+    on (x ∷ b) e q = omega (arith, q)

@@ -1,4 +1,4 @@
--- Each start that the scan keeps is that of its entry: whole lines stand before it, the last heading among them its section's, then its name and `=`. Assumes nothing.
+-- Each start and line that the scan keeps are those of its entry: whole lines stand before it, the last heading among them its section's, then its name and `=`. Assumes nothing.
 use Prim.Native.Nat.{ℕ, ◌+◌, ◌-◌, ◌<◌, ◌≤◌}
 use mathlib.Core.Path.{◌≡◌, refl, ap, ap₂, sym, ◌∙◌}
 use mathlib.Core.Bool.{true}
@@ -20,7 +20,7 @@ use Rattle.places.specs.Places.{Pair}
 use Rattle.tables.specs.Section.{Section}
 use Rattle.tables.specs.Row.{heading_at, section_of, row_count}
 use Rattle.orders.specs.AnyOrder.{Name}
-use Rattle.reading.specs.Fitting.{last_heading, StartsAt}
+use Rattle.reading.specs.Fitting.{last_heading, StandsAt}
 use Rattle.reading.specs.Reading.{heading_row_of, entry_row_of, Slots, empty_slots, fill, is_free, stopped, scanned, scan}
 use Rattle.reading.proofs.Lookup.{table_rows, heading-at, no_row, entry_row_lem, heading-some, heading-found}
 use Rattle.reading.proofs.Reduce.{pairs_in, set-zip, Sized, pairs-sized, fill-sized, empty-sized, empty-at, free_in, in_table}
@@ -62,7 +62,7 @@ abbrev pub Slot : Type 0
 Slot = ℕ × Pair
 
 abbrev pub Placed : List ℕ → Name → Name → Slot → Type 0
-Placed s h n x = (w : StartsAt h n s x.1.0) × (x.1.0 + x.1.1 ≤ length s) × (x.0 ≡ length w.before + 1)
+Placed s h n x = StandsAt h n s x.1.0 x.0 × (x.1.0 + x.1.1 ≤ length s)
 
 abbrev pub AllPlaced : List Section → List ℕ → Slots → Type 0
 AllPlaced t s a = (r : ℕ) → ¬ (get_or a.line_numbers r 0 ≡ 0) → RowHas (Placed s) (get_or (table_rows t) r no_row) (get_or a.line_numbers r 0, get_or (pairs_in a) r (0, 0))
@@ -136,9 +136,9 @@ module _ (t : List Section) (s : List ℕ) where
           under = h.above l;
           text-is = w;
           place = omega (arith, e, h.place, length-append (text_of b) (line_bytes (entry k [])), length-append k (61 ∷ []));
+          line = omega (arith, h.count);
         },
         omega (arith, e, f, h.place, ap length h.text, length-append (text_of b) (written_line (entry k v) ++ text_of ls), length-append (written_line (entry k v)) (text_of ls), written-length (entry k v)),
-        omega (arith, h.count),
       )
 
   heading-new : (h : Name) (b : List Line) → section_of t h < length t → last_heading none (b ++ heading h ∷ []) ≡ some (heading_at t (section_of t h))

@@ -146,8 +146,8 @@ module _ (t : List Section) (least : ℕ) (s : List ℕ) (apart : distinct_rows 
           kept = rw (sym (joined-rows u ws wk) ∙ vs) at ke;
         };
         within = each_within s qs (λ (i : ℕ) (l : i < length qs). (placed i l).1);
-        starts = λ (i : ℕ) (l : i < length qs). (placed i l).0;
-        numbers = λ (i : ℕ) (l : i < length qs). (placed i l).2;
+        many = sym el;
+        stand = λ (i : ℕ) (l : i < length qs). (placed i l).0;
       }
     where
       value-at : (qs : List Pair) (i : ℕ) → i < length qs → get_or (map (value_at s) qs) i [] ≡ value_at s (get_or qs i (0, 0))

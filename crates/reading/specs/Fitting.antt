@@ -1,5 +1,5 @@
--- When a text is the lines of values, and where a value starts in it (01, Judging).
-use Rattle.std.specs.Prelude.{ℕ, ◌≡◌, true, List, [], ◌∷◌, ◌++◌, map, length, get_or}
+-- When a text is the lines of values, and where a value starts in it (01, Judging), and on which line (02, 7/14).
+use Rattle.std.specs.Prelude.{ℕ, ◌+◌, ◌≡◌, true, List, [], ◌∷◌, ◌++◌, map, length, get_or}
 use Rattle.std.proofs.Math.Option.{Option, none, some}
 use Rattle.lines.specs.Line.{Line, heading, entry, line_bytes, text_of, all_well_formed}
 use Rattle.kinds.specs.Value.{kind_kept}
@@ -44,15 +44,17 @@ last_heading before [] = before
 last_heading before (heading h ∷ ls) = last_heading (some h) ls
 last_heading before (entry n v ∷ ls) = last_heading before ls
 
--- the text up to place k is whole lines, the last heading among them h, and then the name n and `=`
-pub record StartsAt (h n : Name) (text : List ℕ) (k : ℕ) : Type 0 where
+-- the text up to place k is whole lines, the last heading among them h, and then, on line l, the name n and `=`
+pub record StandsAt (h n : Name) (text : List ℕ) (k l : ℕ) : Type 0 where
   pub before : List Line
   pub rest : List ℕ
   pub well-formed : all_well_formed before ≡ true
   pub under : last_heading none before ≡ some h
   pub text-is : text ≡ text_of before ++ line_bytes (entry n []) ++ rest
   pub place : k ≡ length (text_of before ++ line_bytes (entry n []))
+  -- 02, 7/14: 1 more than the lines before it
+  pub line : l ≡ length before + 1
 
--- "A start is the place of the byte after `=`, from 0, for an empty value too": k is that of entry i, from 0
-abbrev pub StartOf : List Section → List ℕ → ℕ → ℕ → Type 0
-StartOf sections text i k = StartsAt (get_or (headed sections) i ([], [])).0 (get_or (headed sections) i ([], [])).1 text k
+-- "A start is the place of the byte after `=`, from 0, for an empty value too": k is that of entry i, from 0; and 02, 7/14: l is its line
+abbrev pub EntryStandsAt : List Section → List ℕ → ℕ → ℕ → ℕ → Type 0
+EntryStandsAt sections text i k l = StandsAt (get_or (headed sections) i ([], [])).0 (get_or (headed sections) i ([], [])).1 text k l

@@ -34,7 +34,7 @@ unfoldable pub all_hold : List Rule → Bool
 all_hold [] = true
 all_hold (r ∷ rs) = r.holds && all_hold rs
 
--- the first rule that does not hold, by the place of its entry; which line that is, only the judge knows
+-- the first rule that does not hold, by the place of its entry; the judge takes its line from the places (02, 7/14)
 unfoldable pub first_broken : File → List Rule → RuleCheck
 first_broken f [] = Ok tt
 first_broken f (r ∷ rs) = cond r.holds (first_broken f rs) (broken (place_in f r.entry) r.kind)

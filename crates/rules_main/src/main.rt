@@ -17,41 +17,38 @@ ghost use Rattle.places.specs.Places.{place_size, pairs_at, Within};
 ghost use Rattle.places.proofs.Values.{within-prop};
 ghost use Rattle.tables.specs.File.{ac2, gas as gas_file, entries, first_pair, least_places, of_number, most_axles};
 ghost use Rattle.serial.specs.Reading.{Ordered};
-ghost use Rattle.tables.specs.Row.{most_rows};
 ghost use Rattle.tables.specs.Value.{Held, NumberHeld};
 ghost use Rattle.due.specs.Values.{new_values};
 ghost use Rattle.due.specs.Booking.{booking_in};
 
 use due::{Booking, Conditions, Due};
-use places::PlacedText;
+use places::{PLACE_SIZE, PlacedText};
 use refusals::RefusalKind;
 use rules::{NewBooking, Stated};
 use serial::FieldEnds;
 use std::io;
 use std::io::{BufWriter, Read, Write};
-use tables::MOST_ROWS;
 
 // ---- reading a file
 
-// 01, Judging: "at least 278 numbers"; 02, 2/14: two more for each entry of opacity.
-const LEAST_PLACES: usize = 388;
+// 01, Judging; 02, 7/14: three numbers for each of the 194 entries.
+const LEAST_PLACES: usize = PLACE_SIZE * 194;
 
 // As many axles as a file has at most (01, Results).
 const MOST_AXLES: usize = 9;
 
-// The axle count of a file, which is 0 for a file without axles; its pairs and lines are filled. None where it is refused.
+// The axle count of a file, which is 0 for a file without axles; its pairs and lines are in the places. None where it is refused.
 fn read_file(
     out: &mut impl Write,
     file: u32,
     text: &[u8],
     places: &mut [u32],
-    lines: &mut [u32],
 ) -> io::Result<Option<usize>>
-    requires { (least_places ≤ length places.old) × (most_rows ≤ length lines.old) }
+    requires { least_places ≤ length places.old }
     ensures same_length { length places.new ≡ length places.old }
     ensures few { IfOk result (λ r. IfSome r (λ n. n ≤ most_axles)) }
 {
-    match files::read_text(file, text, places, lines) {
+    match files::read_text(file, text, places) {
         Err(x) => {
             writeln!(out, "refused {}, line {}", u32::from(x.kind), x.line)?;
             Ok(None)
@@ -68,8 +65,7 @@ fn read_booking(out: &mut impl Write, text: &[u8], places: &mut [u32]) -> io::Re
     requires { least_places ≤ length places.old }
     ensures { length places.new ≡ length places.old }
 {
-    let mut lines = [0u32; MOST_ROWS];
-    read_file(out, 1, text, places, &mut lines)
+    read_file(out, 1, text, places)
 }
 
 // ---- pairs within their text
@@ -125,26 +121,19 @@ fn is_held(file: u32, axles: usize, own: PlacedText<'_>) -> bool
     pairs_within(own, tables::first_pair(file), count)
 }
 
-// A file beside AC2, both read into the same places, with the lines of the file's entries.
+// A file beside AC2, both read into the same places.
 #[derive(Clone, Copy)]
 struct Beside<'a> {
     file: u32,
     axles: usize,
     booking: &'a [u8],
     own: PlacedText<'a>,
-    lines: &'a [u32],
     ghost few: { axles ≤ most_axles },
     ghost new_held: { Held ac2 0 booking.now own.places.now } by { Prim.hlevel (within-prop, props) },
     ghost own_held: { NumberHeld file axles own.text.now own.places.now } by { Prim.hlevel (within-prop, props) },
 }
 
-fn hold<'a>(
-    file: u32,
-    axles: usize,
-    booking: &'a [u8],
-    own: PlacedText<'a>,
-    lines: &'a [u32],
-) -> Option<Beside<'a>>
+fn hold<'a>(file: u32, axles: usize, booking: &'a [u8], own: PlacedText<'a>) -> Option<Beside<'a>>
     requires { (axles ≤ most_axles) × (least_places ≤ length own.places.now) }
 {
     let new = PlacedText {
@@ -159,7 +148,6 @@ fn hold<'a>(
         axles,
         booking,
         own,
-        lines,
     })
 }
 
@@ -176,13 +164,6 @@ fn print_name(out: &mut impl Write, text: &[u8], start: usize) -> io::Result<()>
     }
 }
 
-fn print_line(out: &mut impl Write, lines: &[u32], entry: usize) -> io::Result<()> {
-    match lines.get(entry) {
-        Some(line) => write!(out, " {line}"),
-        None => Ok(()),
-    }
-}
-
 // A refusal at an entry of a file: its number, line and name. `none` where there is no such entry.
 fn print_refusal(
     out: &mut impl Write,
@@ -194,15 +175,11 @@ fn print_refusal(
     if count <= entry {
         return out.write_all(b"none\n");
     }
-    write!(out, "refused {number}, line")?;
-    print_line(out, case.lines, entry)?;
-    out.write_all(b": ")?;
     let pair = tables::first_pair(case.file) + entry;
-    print_name(
-        out,
-        case.own.text,
-        places::start_of(case.own.places, pair) as usize,
-    )?;
+    let line = places::line_of(case.own.places, pair);
+    write!(out, "refused {number}, line {line}: ")?;
+    let start = places::start_of(case.own.places, pair) as usize;
+    print_name(out, case.own.text, start)?;
     out.write_all(b"\n")
 }
 
@@ -318,18 +295,17 @@ fn read_beside<'a>(
     booking: &'a [u8],
     text: &'a [u8],
     places: &'a mut [u32],
-    lines: &'a mut [u32],
 ) -> io::Result<Option<Beside<'a>>>
-    requires { (least_places ≤ length places.old) × (most_rows ≤ length lines.old) }
+    requires { least_places ≤ length places.old }
 {
     if read_booking(out, booking, places)? != Some(0) {
         return Ok(None);
     }
     let text = if file == 1 { booking } else { text };
-    let Some(axles) = read_file(out, file, text, places, lines)? else {
+    let Some(axles) = read_file(out, file, text, places)? else {
         return Ok(None);
     };
-    let case = hold(file, axles, booking, PlacedText { text, places }, lines);
+    let case = hold(file, axles, booking, PlacedText { text, places });
     if case.is_none() {
         out.write_all(b"not within\n")?;
     }
@@ -456,8 +432,7 @@ fn show_answered(out: &mut impl Write, answer: &[u8], gas: PlacedText<'_>) -> io
 
 fn show_answer(out: &mut impl Write, gas: &[u8], answer: &[u8]) -> io::Result<()> {
     let mut places = [0u32; LEAST_PLACES];
-    let mut lines = [0u32; MOST_ROWS];
-    if !gas.is_empty() && read_file(out, 5, gas, &mut places, &mut lines)? != Some(0) {
+    if !gas.is_empty() && read_file(out, 5, gas, &mut places)? != Some(0) {
         return Ok(());
     }
     let gas = PlacedText {
@@ -479,16 +454,15 @@ fn file_at(title: &[u8], place: usize) -> u32 {
 
 fn show_case(out: &mut impl Write, title: &[u8], first: &[u8], second: &[u8]) -> io::Result<()> {
     let mut places = [0u32; LEAST_PLACES];
-    let mut lines = [0u32; MOST_ROWS];
     if title.starts_with(b"due") {
         let file = file_at(title, 4);
-        match read_beside(out, file, first, second, &mut places, &mut lines)? {
+        match read_beside(out, file, first, second, &mut places)? {
             Some(case) => show_due(out, case),
             None => Ok(()),
         }
     } else if title.starts_with(b"rules") {
         let file = file_at(title, 6);
-        match read_beside(out, file, first, second, &mut places, &mut lines)? {
+        match read_beside(out, file, first, second, &mut places)? {
             Some(case) => show_rules(out, case),
             None => Ok(()),
         }

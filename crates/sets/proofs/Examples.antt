@@ -1,4 +1,4 @@
--- Lawful records are there: three of them, each with a set that it fits, by computation; and sets that none fits. Assumes nothing.
+-- Lawful records are there: three of them, each with a set that it fits, one with two, by computation; and sets that none fits. Assumes nothing.
 use Prim.Native.Nat.{ℕ}
 use Prim.Native.String.{String}
 use mathlib.Core.Path.{◌≡◌, refl, sym, ap, ◌∙◌, subst}
@@ -108,7 +108,7 @@ file-reads f ls w q =
     (ap (λ (m : Layout). read_scan (all_sections f) (least_sections f) (text_of ls) (scan (all_sections f) (text_of ls) (length (all_sections f)) (empty_slots (row_count (all_sections f))) m)) (laid_out ls w))
 
 abbrev given : File → List Line → ℕ → List (List ℕ) → FileRead
-given f ls c vs = record { axles = axles_of f c; pairs = pairs_in (read_lines f ls); values = vs; compared = names_compared (all_sections f) (text_of ls) }
+given f ls c vs = record { axles = axles_of f c; pairs = pairs_in (read_lines f ls); lines = numbers_in (read_lines f ls); values = vs; compared = names_compared (all_sections f) (text_of ls) }
 
 computed-accepted : (f : File) (st : Stated) (a : List (List ℕ)) (ls : List Line) (c : ℕ) (vs : List (List ℕ)) → Computed f st a ls c vs
     → judge_file f st a (text_of ls) ≡ acceptance (given f ls c vs)
@@ -161,6 +161,26 @@ motorcycle_record = record {
   values = each_file motorcycle_values [] [] [] [] [];
   address = [];
 }
+
+-- the same lines, DataPrimaImm before the others
+abbrev pub motorcycle_other : List Line
+motorcycle_other =
+    h "[DatiLibrettoVeicolo]" ∷
+    e "DataPrimaImm" "15062005" ∷
+    e "CorrettorePressione" "" ∷
+    e "PosAssiStaz" "NSNNNNNNN" ∷
+    e "CodiceCIC" "" ∷
+    e "AzionamentoFrenoStazionamento" "NON PRESENTE" ∷
+    e "DirettivaEmissioniGasBenzinaAuto" "" ∷
+    e "DirettivaEmissioniGasMotociclo" "" ∷
+    e "TipoVeicolo" "MOTOVEICOLO" ∷
+    e "TargaNominale" "AB12345" ∷
+    e "Turbo" "" ∷
+    e "CategoriaInternazionale" "L3e" ∷
+    e "Alimentazione_1" "ELETTRICA" ∷ []
+
+abbrev pub motorcycle_other_set : Slices
+motorcycle_other_set = slices_of (text_of motorcycle_other) (bytes "no line") [] [] [] [] []
 
 -- ---- a petrol car with slices 1 to 6: RS SENZA ESITO, version 210, CodErrore filled in drift, sections and entries in another order; of
 -- document 02: the day of October 1986 is not known
@@ -492,6 +512,7 @@ computed :
     × (judge_file gas van_stated van_new_values [] ≡ acceptance not_read)
     × Computed opacity van_stated van_new_values van_opacity 1 van_opacity_values
     × (opacity_due (booking_in van_new_values) ≡ true)
+    × Computed ac2 motorcycle_stated motorcycle_values motorcycle_other 1 motorcycle_values
 unfolding same_bytes all_printable without text_of well_formed all_well_formed layout_of words all_digits number_from date_number date_read time_read seconds_of time_of days_before is_string is_exact is_number is_fixed is_leap days_in is_year is_gregorian are_digits is_day is_time word_index is_word starts_with is_drift bare is_temperature is_plate is_first_date is_first_day all_s_or_n is_positions kind_ok kind_kept entries_of new_booking old_booking tester protocol measurement sixteen drift_axle suspension_axle analyser counter speed_test all_key_dates all_key_bodies analysis fuel_analysis opacimeter opacity_test opacity_keys opacity_analysis fixed_sections axle_entries axles_from axle_sections sections least_sections entries row_count row_at place_of axle_place_of scan first_wrong first_absent owner_row is_m is_n is_o is_l fuel_in is_late booking_in version_in links_in conditions_of exceptions condition_of condition_at is_moped is_motorcycle is_m_or_n condition_p holds_in due_of first_not_as_due_from first_not_as_due first_broken other_rules type_of parking_brake_fits new_rules descriptions_of year_fits directive_of period_at compared_date period_of diesel_fits fuel_fits old_brake_fits number_is parking_axles_fit old_rules difference_fits differences_from stated_of old_booking_right opacity_due slice_right is_read is_serial_link identification_right seven_of separated sum hex_digit checksum identification_of address_ok field_ok all_fields_ok seven_ok judge_file judge_identification
 computed = (
   record { slice = refl; is_read_lem = refl; well-formed = refl; short = refl; reads = refl; values = refl; as-due = refl; devices = refl; others = refl },
@@ -518,6 +539,7 @@ computed = (
   refl,
   record { slice = refl; is_read_lem = refl; well-formed = refl; short = refl; reads = refl; values = refl; as-due = refl; devices = refl; others = refl },
   refl,
+  record { slice = refl; is_read_lem = refl; well-formed = refl; short = refl; reads = refl; values = refl; as-due = refl; devices = refl; others = refl },
 )
 
 -- ---- the records
@@ -532,6 +554,18 @@ motorcycle-lawful =
     (same-record _ motorcycle_record (of-each _ refl refl refl refl refl refl) refl (of-each _ refl refl refl refl refl refl) (of-each _ refl refl refl refl refl refl) refl)
     (record-fits motorcycle_stated motorcycle_set (record { file = motorcycle_read; address = [] })
     (of-each _ (computed-accepted ac2 motorcycle_stated motorcycle_values motorcycle 1 motorcycle_values computed.0) computed.1 computed.2 computed.3 computed.4 computed.15)
+    computed.5)
+
+abbrev motorcycle_other_read : File → FileRead
+motorcycle_other_read = each_file (given ac2 motorcycle_other 1 motorcycle_values) not_read not_read not_read not_read not_read
+
+pub motorcycle-other-lawful : Lawful (stated_of motorcycle_stem) motorcycle_record × Fits motorcycle_record motorcycle_other_set
+unfolding text_of fixed_sections
+motorcycle-other-lawful =
+    subst (λ (r : Record). Lawful motorcycle_stated r × Fits r motorcycle_other_set)
+    (same-record _ motorcycle_record (of-each _ refl refl refl refl refl refl) refl (of-each _ refl refl refl refl refl refl) (of-each _ refl refl refl refl refl refl) refl)
+    (record-fits motorcycle_stated motorcycle_other_set (record { file = motorcycle_other_read; address = [] })
+    (of-each _ (computed-accepted ac2 motorcycle_stated motorcycle_values motorcycle_other 1 motorcycle_values computed.24) computed.1 computed.2 computed.3 computed.4 computed.15)
     computed.5)
 
 abbrev car_read : File → FileRead

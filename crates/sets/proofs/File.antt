@@ -14,7 +14,7 @@ use Rattle.kinds.proofs.Laws.{by-test}
 use Rattle.refusals.specs.Answer.{refusal, acceptance}
 use Rattle.places.specs.Places.{Pair, value_at, Within}
 use Rattle.tables.specs.File.{File, ac2, acc, file_number, sections, all_sections, entries}
-use Rattle.reading.specs.Fitting.{StartOf}
+use Rattle.reading.specs.Fitting.{EntryStandsAt}
 use Rattle.reading.specs.LookUps.{names_compared, entry_lines, sums_of}
 use Rattle.reading.specs.Reading.{Reading, refused, read}
 use Rattle.files.specs.Files.{read_file, axles_of, IsFile}
@@ -31,7 +31,8 @@ use Rattle.rules.specs.declared.Stated.{Stated}
 use Rattle.rules.proofs.Laws.{kept-all, all-kept}
 use Rattle.sets.specs.Records.{is_given, EachAsDue}
 use Rattle.sets.specs.Judge.{FileCheck, passed, failed, check_due, check_rule, file_checks, first_failed, FileRead, not_read, file_read, checked_file, judge_read, judge_reading, judge_text, judge_booking, judge_file}
-use Rattle.sets.proofs.Steps.{require-inv, both-passed}
+use Rattle.refusals.proofs.Parts.{require-inv}
+use Rattle.sets.proofs.Steps.{both-passed}
 
 -- ---- the checks
 
@@ -71,11 +72,11 @@ checks-complete f a vs n k =
 
 -- ---- what is let through
 
-accepted-read : (f : File) (booking : List (List ℕ) → List (List ℕ)) (h : FileRead) (ls : List ℕ) (g : FileRead) → judge_read f booking h ls ≡ acceptance g
+accepted-read : (f : File) (booking : List (List ℕ) → List (List ℕ)) (h : FileRead) (g : FileRead) → judge_read f booking h ≡ acceptance g
     → (first_failed (file_checks f (booking h.values) h.values h.axles) ≡ passed) × (h ≡ g)
-accepted-read f booking h ls g e = on (first_failed (file_checks f (booking h.values) h.values h.axles)) e
+accepted-read f booking h g e = on (first_failed (file_checks f (booking h.values) h.values h.axles)) e
   where
-    on : (k : FileCheck) → checked_file f h ls k ≡ acceptance g → (k ≡ passed) × (h ≡ g)
+    on : (k : FileCheck) → checked_file f h k ≡ acceptance g → (k ≡ passed) × (h ≡ g)
     on passed e = (refl, cc)
     on (failed k i) e = clash (cc)
 
@@ -85,12 +86,13 @@ pub record Passed (f : File) (a : List (List ℕ)) (s : List ℕ) (g : FileRead)
   pub is : IsFile f g.axles g.values s
   pub values : g.values ≡ map (value_at s) g.pairs
   pub within : Within s g.pairs
-  pub starts : (i : ℕ) → i < length g.pairs → StartOf (sections f g.axles) s i (get_or g.pairs i (0, 0)).0
+  pub stand : (i : ℕ) → i < length g.pairs → EntryStandsAt (sections f g.axles) s i (get_or g.pairs i (0, 0)).0 (get_or g.lines i 0)
+  pub same_many : length g.lines ≡ length g.pairs
   pub many : length g.pairs ≡ length (entries f g.axles)
   -- 02, 4/14
   pub own : g.compared ≡ names_compared (all_sections f) s
   pub compared : g.compared ≡ sums_of (sections f g.axles)
-  pub lines : entry_lines (all_sections f) s ≡ length (entries f g.axles)
+  pub counted-lines : entry_lines (all_sections f) s ≡ length (entries f g.axles)
 
 -- a file, read or not
 pub record FilePassed (f : File) (st : Stated) (a : List (List ℕ)) (s : List ℕ) (g : FileRead) : Type 0 where
@@ -99,21 +101,22 @@ pub record FilePassed (f : File) (st : Stated) (a : List (List ℕ)) (s : List �
   pub unread : is_read f (booking_in a) (is_given s) ≡ false → g ≡ not_read
 
 read-passed : (f : File) (booking : List (List ℕ) → List (List ℕ)) (s : List ℕ) (c : ℕ) (ps : List Pair) (ls : List ℕ) (g : FileRead) → read_file f s ≡ read c ps ls
-    → judge_read f booking (file_read f s c ps) ls ≡ acceptance g → Passed f (booking g.values) s g
+    → judge_read f booking (file_read f s c ps ls) ≡ acceptance g → Passed f (booking g.values) s g
 read-passed f booking s c ps ls g e q =
-    let h : FileRead = file_read f s c ps in
-    let w = accepted-read f booking h ls g q in
+    let h : FileRead = file_read f s c ps ls in
+    let w = accepted-read f booking h g q in
     let r = read-sound f s c ps ls e in
     subst (λ (g : FileRead). Passed f (booking g.values) s g) w.1 (record {
       kept = checks-sound f (booking h.values) h.values h.axles w.0;
       is = r.is;
       values = refl;
       within = r.within;
-      starts = r.starts;
+      stand = r.stand;
+      same_many = r.same_many;
       many = r.many;
       own = refl;
       compared = r.compared;
-      lines = r.lines;
+      counted-lines = r.counted-lines;
     })
 
 text-sound : (f : File) (booking : List (List ℕ) → List (List ℕ)) (s : List ℕ) (g : FileRead) → judge_text f booking s ≡ acceptance g → Passed f (booking g.values) s g
@@ -139,9 +142,9 @@ own_read : (booking : List (List ℕ) → List (List ℕ)) (s : List ℕ) (g : F
     → judge_reading ac2 (λ own. booking g.values) s r ≡ acceptance g
 own_read booking s g (refused k l) e = clash (cc)
 own_read booking s g (read c ps ls) e =
-    let h : FileRead = file_read ac2 s c ps in
-    let w = accepted-read ac2 booking h ls g e in
-    subst (λ (x : FileRead). judge_read ac2 (λ own. booking x.values) h ls ≡ acceptance x) w.1 (rw w.0 refl)
+    let h : FileRead = file_read ac2 s c ps ls in
+    let w = accepted-read ac2 booking h g e in
+    subst (λ (x : FileRead). judge_read ac2 (λ own. booking x.values) h ≡ acceptance x) w.1 (rw w.0 refl)
 
 pub booking-file : (st : Stated) (s : List ℕ) (g : FileRead) → judge_booking s ≡ acceptance g → judge_file ac2 st g.values s ≡ acceptance g
 unfolding judge_booking judge_file judge_text slice_right is_read
@@ -156,7 +159,7 @@ text-complete : (f : File) (booking : List (List ℕ) → List (List ℕ)) (s : 
 unfolding judge_text
 text-complete f booking s n vs k h =
     let r = read-complete f n vs s h in
-    (file_read f s r.0 r.1, rw (r.3, r.4, r.5, checks-complete f (booking vs) vs n k) refl, r.4, r.5)
+    (file_read f s r.0 r.1 r.2, rw (r.3, r.4, r.5, checks-complete f (booking vs) vs n k) refl, r.4, r.5)
 
 pub booking-complete : (s : List ℕ) (vs : List (List ℕ)) → is_given s ≡ true → RulesKept ac2 vs 0 vs → IsFile ac2 0 vs s
     → (g : FileRead) × (judge_booking s ≡ acceptance g) × (g.values ≡ vs)
@@ -181,7 +184,7 @@ file-complete f st a given s n vs e r k u = by-test (is_read f (booking_in a) gi
 -- a file that is read so is accepted, where the checks pass
 pub file-accepted : (f : File) (st : Stated) (a : List (List ℕ)) (s : List ℕ) (c : ℕ) (ps : List Pair) (ls : List ℕ) (vs : List (List ℕ))
     → slice_right f st (booking_in a) (is_given s) ≡ true → is_read f (booking_in a) (is_given s) ≡ true → read_file f s ≡ read c ps ls → map (value_at s) ps ≡ vs
-    → first_failed (file_checks f a vs (axles_of f c)) ≡ passed → judge_file f st a s ≡ acceptance (record { axles = axles_of f c; pairs = ps; values = vs; compared = names_compared (all_sections f) s })
+    → first_failed (file_checks f a vs (axles_of f c)) ≡ passed → judge_file f st a s ≡ acceptance (record { axles = axles_of f c; pairs = ps; lines = ls; values = vs; compared = names_compared (all_sections f) s })
 unfolding judge_file judge_text
 file-accepted f st a s c ps ls vs r q e v k = rw (r, q, e, v, k) refl
 

@@ -8,7 +8,7 @@ use lib.Dec.{leb}
 use lib.ListN.{length}
 use Rattle.kinds.proofs.Laws.{by-test}
 use Rattle.refusals.specs.Answer.{Answer, refusal, acceptance, require, followed, given_by}
-use Rattle.places.specs.Places.{set_pairs}
+use Rattle.places.specs.Places.{set_triples}
 use Rattle.tables.specs.File.{File, ac2, opacity, files, least_places}
 use Rattle.due.specs.Booking.{booking_in}
 use Rattle.rules.specs.Slices.{good_stem, opacity_due, slice_right, is_read}
@@ -42,7 +42,7 @@ followed-settled p (refusal n f l) k h = refl
 followed-settled p (acceptance a) k h = h a
 
 each-settled : (st : Stated) (s : Slices) (a : List (List ℕ)) (p : List ℕ) (x : SetRead) → x.file opacity ≡ not_read → (cs : List Slice) → Same p (each_accepted st s a cs x)
-unfolding set_pairs
+unfolding set_triples
 each-settled st s a p x e [] = rw e refl
 each-settled st s a p x e (file_slice f ∷ cs) = followed-settled p (file_step st s a f) _ (λ y. each-settled st s a p x e cs)
 each-settled st s a p x e (identification_slice ∷ cs) = followed-settled p (identification_step st s a) _ (λ y. each-settled st s a p x e cs)

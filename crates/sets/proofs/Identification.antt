@@ -31,7 +31,7 @@ use Rattle.serial.proofs.Exact.{Written, read-sound, Found, read-complete}
 use Rattle.sets.specs.Records.{is_given, Address, EachAsDue}
 use Rattle.sets.specs.Judge.{judge_fields, judge_identification}
 use Rattle.sets.proofs.Always.{AlwaysDue, due-kind}
-use Rattle.sets.proofs.Steps.{require-inv}
+use Rattle.refusals.proofs.Parts.{require-inv}
 
 -- ---- gas's seven values, where kinds and due entries are kept, are fields of an answer
 

@@ -9,3 +9,4 @@ pub mod Theorem
 pub mod Speeds
 pub mod Examples
 pub mod FirstSix
+pub mod EntryLines

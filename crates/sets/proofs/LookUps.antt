@@ -79,7 +79,7 @@ module _ (st : Stated) (s : Slices) (x : SetRead) (w : SetPassed st s x) where
   -- and twice it is bounded
   each : (f : File) → 2 * compared_by r f ≤ twice_bound * lines_for r s f
   each f = by-test (is_read f (booking_in (x.file ac2).values) (is_given (s.file f)))
-      (λ q. let k = (w.file f).read q in rw (q, k.lines) (twice-file f (x.file f).axles (few-axles (has_axles f) (x.file f).axles k.is.count)))
+      (λ q. let k = (w.file f).read q in rw (q, k.counted-lines) (twice-file f (x.file f).axles (few-axles (has_axles f) (x.file f).axles k.is.count)))
       (λ q. rw q (omega arith))
 
   pub compared-bounded : 2 * total (compared_by r) ≤ twice_bound * total (lines_for r s)

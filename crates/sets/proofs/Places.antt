@@ -1,35 +1,48 @@
--- The pairs of all files in the places: each file's stand from its first pair on, all others are 0, and numbers past them stay. Assumes nothing.
+-- The pairs and lines of all files in the places: each file's stand from its first pair on, all others are 0, and numbers past them stay. Assumes nothing.
 use Prim.Native.Nat.{ℕ, zero, suc, ◌+◌, ◌*◌, ◌<◌, ◌≤◌}
 use native.Mathlib.Omega.{arith}
 use mathlib.Core.Path.{◌≡◌, refl, ap, ap₂, sym, ◌∙◌}
 use mathlib.Core.List.{List, [], ◌∷◌}
 use lib.ListN.{length, get_or, drop}
-use Rattle.places.specs.Places.{Pair, place_size, start_of, length_of, set_pairs, pairs_at, cleared, Within}
-use Rattle.places.proofs.Laws.{set-length, numbers-before, numbers_after, pairs_set, drop-pairs, cleared-length, cleared-drop, cleared-zero}
+use Rattle.places.specs.Places.{Pair, place_size, start_of, length_of, line_of, set_triples, cleared, Within}
+use Rattle.places.proofs.Laws.{set-length, numbers-before, numbers_after, pairs_set, lines_set, pair-at, line-at, drop-triples, cleared-length, cleared-drop, cleared-zero}
 use Rattle.tables.specs.File.{File, ac2, acc, drift, suspension, gas, opacity, files, room, first_pair, least_places}
 use Rattle.tables.proofs.Numbers.{first-pairs}
 use Rattle.files.proofs.Texts.{rooms-fit}
 use Rattle.sets.specs.Judge.{SetRead, set_files}
 
--- ---- one pair
+-- ---- one triple
 
-abbrev pub pair_at : List ℕ → ℕ → Pair
-pair_at p k = (start_of p k, length_of p k)
+-- a pair with its line
+abbrev pub Triple : Type 0
+Triple = Pair × ℕ
 
-pairs-get : (p : List ℕ) (k n i : ℕ) → i < n → get_or (pairs_at p k n) i (0, 0) ≡ pair_at p (k + i)
-unfolding pairs_at
-pairs-get p k zero i h = absurd (omega arith)
-pairs-get p k (suc n) zero h = let z : k + 0 ≡ k = omega arith in rw z refl
-pairs-get p k (suc n) (suc i) h = let z : k + suc i ≡ k + 1 + i = omega arith in rw z (pairs-get p (k + 1) n i (omega arith))
+abbrev pub triple_at : List ℕ → ℕ → Triple
+triple_at p k = ((start_of p k, length_of p k), line_of p k)
 
-pair-before : (k : ℕ) (ps : List Pair) (p : List ℕ) (j : ℕ) → j < k → pair_at (set_pairs k ps p) j ≡ pair_at p j
-pair-before k ps p j h = ap₂ (λ (a b : ℕ). (a, b)) (numbers-before k ps p (place_size * j) (omega arith)) (numbers-before k ps p (place_size * j + 1) (omega arith))
+triple_same : {a b c x y z : ℕ} → a ≡ x → b ≡ y → c ≡ z → ◌≡◌ {A = Triple} ((a, b), c) ((x, y), z)
+triple_same d e f = ap₂ (λ (x : Pair) (l : ℕ). (x, l)) (ap₂ (λ (m n : ℕ). (m, n)) d e) f
 
-pair-after : (k : ℕ) (ps : List Pair) (p : List ℕ) (j : ℕ) → k + length ps ≤ j → pair_at (set_pairs k ps p) j ≡ pair_at p j
-pair-after k ps p j h = ap₂ (λ (a b : ℕ). (a, b)) (numbers_after k ps p (place_size * j) (omega arith)) (numbers_after k ps p (place_size * j + 1) (omega arith))
+triple-before : (k : ℕ) (ps : List Pair) (ls p : List ℕ) (j : ℕ) → j < k → triple_at (set_triples k ps ls p) j ≡ triple_at p j
+triple-before k ps ls p j h =
+    triple_same
+    (numbers-before k ps ls p (place_size * j) (omega arith))
+    (numbers-before k ps ls p (place_size * j + 1) (omega arith))
+    (numbers-before k ps ls p (place_size * j + 2) (omega arith))
 
-pair_set : (k : ℕ) (ps : List Pair) (p : List ℕ) (i : ℕ) → place_size * (k + length ps) ≤ length p → i < length ps → pair_at (set_pairs k ps p) (k + i) ≡ get_or ps i (0, 0)
-pair_set k ps p i l h = sym (pairs-get (set_pairs k ps p) k (length ps) i h) ∙ ap (λ (qs : List Pair). get_or qs i (0, 0)) (pairs_set k ps p l)
+triple-after : (k : ℕ) (ps : List Pair) (ls p : List ℕ) (j : ℕ) → k + length ps ≤ j → triple_at (set_triples k ps ls p) j ≡ triple_at p j
+triple-after k ps ls p j h =
+    triple_same
+    (numbers_after k ps ls p (place_size * j) (omega arith))
+    (numbers_after k ps ls p (place_size * j + 1) (omega arith))
+    (numbers_after k ps ls p (place_size * j + 2) (omega arith))
+
+triple_set : (k : ℕ) (ps : List Pair) (ls p : List ℕ) (i : ℕ) → length ls ≡ length ps → place_size * (k + length ps) ≤ length p → i < length ps
+    → triple_at (set_triples k ps ls p) (k + i) ≡ (get_or ps i (0, 0), get_or ls i 0)
+triple_set k ps ls p i e l h =
+    ap₂ (λ (x : Pair) (m : ℕ). (x, m))
+    (sym (pair-at (set_triples k ps ls p) k (length ps) i h) ∙ ap (λ (qs : List Pair). get_or qs i (0, 0)) (pairs_set k ps ls p e l))
+    (sym (line-at (set_triples k ps ls p) k (length ps) i h) ∙ ap (λ (ms : List ℕ). get_or ms i 0) (lines_set k ps ls p e l))
 
 pub within-get : (t : List ℕ) (ps : List Pair) (i : ℕ) → Within t ps → i < length ps → (get_or ps i (0, 0)).0 + (get_or ps i (0, 0)).1 ≤ length t
 unfolding Within
@@ -79,39 +92,39 @@ starts-after k (g ∷ fs) c f (there m) = omega (arith, starts-after (k + room g
 module _ (x : SetRead) (fit : (f : File) → length (x.file f).pairs ≤ room f) where
   pub files-length : (fs : List File) (p : List ℕ) → length (set_files fs x p) ≡ length p
   files-length [] p = refl
-  files-length (f ∷ fs) p = files-length fs (set_pairs (first_pair f) (x.file f).pairs p) ∙ set-length (first_pair f) (x.file f).pairs p
+  files-length (f ∷ fs) p = files-length fs (set_triples (first_pair f) (x.file f).pairs (x.file f).lines p) ∙ set-length (first_pair f) (x.file f).pairs (x.file f).lines p
 
   files-drop : (fs : List File) (p : List ℕ) → drop least_places (set_files fs x p) ≡ drop least_places p
   files-drop [] p = refl
   files-drop (f ∷ fs) p =
-      files-drop fs (set_pairs (first_pair f) (x.file f).pairs p)
-      ∙ drop-pairs least_places (first_pair f) (x.file f).pairs p (omega (arith, rooms-fit f, fit f))
+      files-drop fs (set_triples (first_pair f) (x.file f).pairs (x.file f).lines p)
+      ∙ drop-triples least_places (first_pair f) (x.file f).pairs (x.file f).lines p (omega (arith, rooms-fit f, fit f))
 
-  -- pairs before the first of these files stay
-  files-before : (k : ℕ) (fs : List File) → Chained k fs → (p : List ℕ) (j : ℕ) → j < k → pair_at (set_files fs x p) j ≡ pair_at p j
+  -- those before the first of these files stay
+  files-before : (k : ℕ) (fs : List File) → Chained k fs → (p : List ℕ) (j : ℕ) → j < k → triple_at (set_files fs x p) j ≡ triple_at p j
   files-before k [] c p j h = refl
   files-before k (f ∷ fs) c p j h =
-      files-before (k + room f) fs c.1 (set_pairs (first_pair f) (x.file f).pairs p) j (omega arith)
-      ∙ pair-before (first_pair f) (x.file f).pairs p j (omega (arith, c.0))
+      files-before (k + room f) fs c.1 (set_triples (first_pair f) (x.file f).pairs (x.file f).lines p) j (omega arith)
+      ∙ triple-before (first_pair f) (x.file f).pairs (x.file f).lines p j (omega (arith, c.0))
 
-  files-set : (k : ℕ) (fs : List File) → Chained k fs → (f : File) → Among f fs → (p : List ℕ) → least_places ≤ length p
-      → (i : ℕ) → i < length (x.file f).pairs → pair_at (set_files fs x p) (first_pair f + i) ≡ get_or (x.file f).pairs i (0, 0)
-  files-set k [] c f m p l i h = elim m [ ]
-  files-set k (_ ∷ fs) c f here p l i h =
-      files-before (k + room f) fs c.1 (set_pairs (first_pair f) (x.file f).pairs p) (first_pair f + i) (omega (arith, c.0, fit f))
-      ∙ pair_set (first_pair f) (x.file f).pairs p i (omega (arith, rooms-fit f, fit f)) h
-  files-set k (g ∷ fs) c f (there m) p l i h =
-      files-set (k + room g) fs c.1 f m (set_pairs (first_pair g) (x.file g).pairs p) (omega (arith, set-length (first_pair g) (x.file g).pairs p)) i h
+  files-set : (k : ℕ) (fs : List File) → Chained k fs → (f : File) → Among f fs → length (x.file f).lines ≡ length (x.file f).pairs → (p : List ℕ) → least_places ≤ length p
+      → (i : ℕ) → i < length (x.file f).pairs → triple_at (set_files fs x p) (first_pair f + i) ≡ (get_or (x.file f).pairs i (0, 0), get_or (x.file f).lines i 0)
+  files-set k [] c f m e p l i h = elim m [ ]
+  files-set k (_ ∷ fs) c f here e p l i h =
+      files-before (k + room f) fs c.1 (set_triples (first_pair f) (x.file f).pairs (x.file f).lines p) (first_pair f + i) (omega (arith, c.0, fit f))
+      ∙ triple_set (first_pair f) (x.file f).pairs (x.file f).lines p i e (omega (arith, rooms-fit f, fit f)) h
+  files-set k (g ∷ fs) c f (there m) e p l i h =
+      files-set (k + room g) fs c.1 f m e (set_triples (first_pair g) (x.file g).pairs (x.file g).lines p) (omega (arith, set-length (first_pair g) (x.file g).pairs (x.file g).lines p)) i h
 
   files-unset : (k : ℕ) (fs : List File) → Chained k fs → (f : File) → Among f fs → (p : List ℕ)
-      → (i : ℕ) → length (x.file f).pairs ≤ i → i < room f → pair_at (set_files fs x p) (first_pair f + i) ≡ pair_at p (first_pair f + i)
+      → (i : ℕ) → length (x.file f).pairs ≤ i → i < room f → triple_at (set_files fs x p) (first_pair f + i) ≡ triple_at p (first_pair f + i)
   files-unset k [] c f m p i h r = elim m [ ]
   files-unset k (_ ∷ fs) c f here p i h r =
-      files-before (k + room f) fs c.1 (set_pairs (first_pair f) (x.file f).pairs p) (first_pair f + i) (omega (arith, c.0))
-      ∙ pair-after (first_pair f) (x.file f).pairs p (first_pair f + i) (omega arith)
+      files-before (k + room f) fs c.1 (set_triples (first_pair f) (x.file f).pairs (x.file f).lines p) (first_pair f + i) (omega (arith, c.0))
+      ∙ triple-after (first_pair f) (x.file f).pairs (x.file f).lines p (first_pair f + i) (omega arith)
   files-unset k (g ∷ fs) c f (there m) p i h r =
-      files-unset (k + room g) fs c.1 f m (set_pairs (first_pair g) (x.file g).pairs p) i h r
-      ∙ pair-after (first_pair g) (x.file g).pairs p (first_pair f + i) (omega (arith, c.0, fit g, starts-after (k + room g) fs c.1 f m))
+      files-unset (k + room g) fs c.1 f m (set_triples (first_pair g) (x.file g).pairs (x.file g).lines p) i h r
+      ∙ triple-after (first_pair g) (x.file g).pairs (x.file g).lines p (first_pair f + i) (omega (arith, c.0, fit g, starts-after (k + room g) fs c.1 f m))
 
   -- ---- the places of an accepted set
 
@@ -119,15 +132,17 @@ module _ (x : SetRead) (fit : (f : File) → length (x.file f).pairs ≤ room f)
     abbrev filled : List ℕ
     filled = set_files files x (cleared least_places p)
 
-    pub used_pair : (f : File) (i : ℕ) → i < length (x.file f).pairs → pair_at filled (first_pair f + i) ≡ get_or (x.file f).pairs i (0, 0)
-    used_pair f i h = files-set 0 files chained f (among f) (cleared least_places p) (omega (arith, cleared-length least_places p enough)) i h
+    pub used_triple : (f : File) (i : ℕ) → length (x.file f).lines ≡ length (x.file f).pairs → i < length (x.file f).pairs
+        → triple_at filled (first_pair f + i) ≡ (get_or (x.file f).pairs i (0, 0), get_or (x.file f).lines i 0)
+    used_triple f i e h = files-set 0 files chained f (among f) e (cleared least_places p) (omega (arith, cleared-length least_places p enough)) i h
 
-    pub unused-pair : (f : File) (i : ℕ) → length (x.file f).pairs ≤ i → i < room f → pair_at filled (first_pair f + i) ≡ (0, 0)
-    unused-pair f i h r =
+    pub unused-triple : (f : File) (i : ℕ) → length (x.file f).pairs ≤ i → i < room f → triple_at filled (first_pair f + i) ≡ ((0, 0), 0)
+    unused-triple f i h r =
         files-unset 0 files chained f (among f) (cleared least_places p) i h r
-        ∙ ap₂ (λ (a b : ℕ). (a, b))
+        ∙ triple_same
         (cleared-zero least_places p (place_size * (first_pair f + i)) (omega (arith, rooms-fit f)))
         (cleared-zero least_places p (place_size * (first_pair f + i) + 1) (omega (arith, rooms-fit f)))
+        (cleared-zero least_places p (place_size * (first_pair f + i) + 2) (omega (arith, rooms-fit f)))
 
     pub places-beyond : drop least_places filled ≡ drop least_places p
     places-beyond = files-drop files (cleared least_places p) ∙ cleared-drop least_places p

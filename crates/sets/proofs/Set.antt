@@ -15,7 +15,8 @@ use Rattle.rules.specs.declared.Stated.{Stated}
 use Rattle.serial.specs.Identification.{identification_of, seven_ok}
 use Rattle.sets.specs.Records.{Slices, is_given, Record, Read, NotRead, Address, Lawful, Fits}
 use Rattle.sets.specs.Judge.{FileRead, not_read, judge_booking, SetRead, file_step, file_given, identification_step, set_read, Slice, file_slice, identification_slice, later_slices, each_accepted, judge_slices}
-use Rattle.sets.proofs.Steps.{followed-inv, given_is}
+use Rattle.refusals.proofs.Parts.{followed-inv}
+use Rattle.sets.proofs.Steps.{given_is}
 use Rattle.sets.proofs.File.{FilePassed, RulesKept, file-sound, booking-file, booking-complete, file-complete}
 use Rattle.sets.proofs.Identification.{seven-fields, identification-sound, identification-complete}
 

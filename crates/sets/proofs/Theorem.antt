@@ -9,11 +9,10 @@ use lib.ListN.{length, get_or, drop, length-map, get_or-map}
 use borrow.Author.Tests.{le-leb, lt-leb, leb-true}
 use Rattle.kinds.proofs.Laws.{by-test}
 use Rattle.refusals.specs.Answer.{Answer, refusal, acceptance, require}
-use Rattle.places.specs.Places.{Pair, start_of, length_of, value_at, cleared}
+use Rattle.places.specs.Places.{Pair, start_of, length_of, line_of, value_at, cleared}
 use Rattle.places.proofs.Laws.{cleared-length, cleared-drop, cleared-zero}
-use Rattle.tables.specs.File.{File, ac2, files, has_axles, sections, room, first_pair, least_places}
+use Rattle.tables.specs.File.{File, ac2, files, has_axles, room, first_pair, least_places}
 use Rattle.tables.proofs.Axles.{entries-most}
-use Rattle.reading.specs.Fitting.{StartOf}
 use Rattle.files.specs.Files.{AxleCount, is_by_hand}
 use Rattle.files.proofs.Texts.{few-axles}
 use Rattle.files.proofs.ByHand.{unread-by-hand}
@@ -30,8 +29,8 @@ use Rattle.sets.specs.Records.{Caller, stated_in, Slices, is_given, Record, Read
 use Rattle.sets.specs.Judge.{acceptance_of, acceptance_in, FileRead, SetRead, judge_slices, set_files, settled, judge}
 use Rattle.sets.specs.declared.Acceptance.{Acceptance}
 use Rattle.sets.specs.Demand3.{IsAccepted, Placed, Returned, Exactly, Unique, IsReturned, Demands}
-use Rattle.sets.proofs.Steps.{require-inv}
-use Rattle.sets.proofs.Places.{pair_at, within-get, used_pair, unused-pair, places-beyond, places-length}
+use Rattle.refusals.proofs.Parts.{require-inv}
+use Rattle.sets.proofs.Places.{Triple, triple_at, within-get, used_triple, unused-triple, places-beyond, places-length}
 use Rattle.sets.proofs.LookUps.{compared-is, lines-are, compared-bounded}
 use Rattle.sets.proofs.Set.{record_of, not-read, no-axles, SetPassed, slices-sound, no-values, passed-lawful, passed-fits, slices-complete}
 
@@ -79,13 +78,15 @@ module _ (st : Stated) (s : Slices) (p : List ℕ) (enough : least_places ≤ le
   placed : (f : File) (i : ℕ) → i < length (pairs_of f) → Read (record_of s x) f → Placed (record_of s x) s afterwards f i
   placed f i h q =
       let k = (w.file f).read q in
-      let e : pair_at afterwards (first_pair f + i) ≡ get_or (pairs_of f) i (0, 0) = used_pair x fit p enough f i h in
+      let t : triple_at afterwards (first_pair f + i) ≡ (get_or (pairs_of f) i (0, 0), get_or (x.file f).lines i 0) = used_triple x fit p enough f i k.same_many h in
+      let e : (start_of afterwards (first_pair f + i), length_of afterwards (first_pair f + i)) ≡ get_or (pairs_of f) i (0, 0) = ap (λ (y : Triple). y.0) t in
       let a : start_of afterwards (first_pair f + i) ≡ (get_or (pairs_of f) i (0, 0)).0 = ap (λ (y : Pair). y.0) e in
       let z : length_of afterwards (first_pair f + i) ≡ (get_or (pairs_of f) i (0, 0)).1 = ap (λ (y : Pair). y.1) e in
+      let n : line_of afterwards (first_pair f + i) ≡ get_or (x.file f).lines i 0 = ap (λ (y : Triple). y.1) t in
       let v : get_or (x.file f).values i [] ≡ value_at (s.file f) (get_or (pairs_of f) i (0, 0))
       = ap (λ (vs : List (List ℕ)). get_or vs i []) k.values ∙ get_or-map (value_at (s.file f)) (pairs_of f) i (0, 0) in
       record {
-        start = subst (λ (n : ℕ). StartOf (sections f (x.file f).axles) (s.file f) i n) (sym a) (k.starts i h);
+        stands = rw (a, n) (k.stand i h);
         size = z ∙ sym (value-length (s.file f) (get_or (pairs_of f) i (0, 0)) (within-get (s.file f) (pairs_of f) i k.within h)) ∙ ap length (sym v);
         there = ap (value_at (s.file f)) e ∙ sym v;
       }
@@ -102,7 +103,7 @@ module _ (st : Stated) (s : Slices) (p : List ℕ) (enough : least_places ≤ le
     compared = ap (λ (g : File → ℕ). total g) (λ i f. lines-are st s x w f i);
     bounded = compared-bounded st s x w;
     used = placed-all;
-    unused = λ f i h r. let e = unused-pair x fit p enough f i (omega (arith, same-many f)) r in (ap (λ (y : Pair). y.0) e, ap (λ (y : Pair). y.1) e);
+    unused = λ f i h r. let e = unused-triple x fit p enough f i (omega (arith, same-many f)) r in (ap (λ (y : Triple). y.0.0) e, ap (λ (y : Triple). y.0.1) e, ap (λ (y : Triple). y.1) e);
     beyond = places-beyond x fit p enough;
     same_length = places-length x fit p enough;
   }

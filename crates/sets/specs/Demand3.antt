@@ -1,9 +1,9 @@
 -- Demand 3 (01, Judging): what the judge's answer and places say of the lawful records that fit a set.
 use Rattle.std.specs.Prelude.{ℕ, ◌+◌, ◌*◌, ◌≤◌, ◌<◌, ◌≡◌, ◌↔◌, true, List, [], length, get_or, drop}
 use Rattle.refusals.specs.Answer.{Answer, refusal, acceptance}
-use Rattle.places.specs.Places.{start_of, length_of, value_at}
+use Rattle.places.specs.Places.{start_of, length_of, line_of, value_at}
 use Rattle.tables.specs.File.{File, sections, room, first_pair, least_places}
-use Rattle.reading.specs.Fitting.{StartOf}
+use Rattle.reading.specs.Fitting.{EntryStandsAt}
 use Rattle.reading.specs.LookUps.{twice_bound}
 use Rattle.rules.specs.Slices.{good_stem}
 use Rattle.sets.specs.Records.{Caller, stated_in, Slices, Record, Lawful, Fits, total, compared_by, compared_for, lines_for}
@@ -16,14 +16,14 @@ IsAccepted (refusal k f l) = ⊥
 
 -- "for each entry start and length of its value in its file": entry i of file f
 pub record Placed (r : Record) (s : Slices) (places : List ℕ) (f : File) (i : ℕ) : Type 0 where
-  -- "A start is the place of the byte after `=`"
-  pub start : StartOf (sections f (r.axles f)) (s.file f) i (start_of places (first_pair f + i))
+  -- "A start is the place of the byte after `=`"; 02, 7/14: and the line is that on which the entry stands
+  pub stands : EntryStandsAt (sections f (r.axles f)) (s.file f) i (start_of places (first_pair f + i)) (line_of places (first_pair f + i))
   pub size : length_of places (first_pair f + i) ≡ length (get_or (r.values f) i [])
   pub there : value_at (s.file f) (start_of places (first_pair f + i), length_of places (first_pair f + i)) ≡ get_or (r.values f) i []
 
--- pair i of file f is 0
+-- pair i of file f and its line are 0; 02, 7/14: "0 where unused"
 abbrev pub IsZero : List ℕ → File → ℕ → Type 0
-IsZero places f i = (start_of places (first_pair f + i) ≡ 0) × (length_of places (first_pair f + i) ≡ 0)
+IsZero places f i = (start_of places (first_pair f + i) ≡ 0) × (length_of places (first_pair f + i) ≡ 0) × (line_of places (first_pair f + i) ≡ 0)
 
 -- answer and places are those of the record r
 pub record Returned (r : Record) (s : Slices) (before : List ℕ) (answer : Answer Acceptance) (after : List ℕ) : Type 0 where
@@ -35,9 +35,9 @@ pub record Returned (r : Record) (s : Slices) (before : List ℕ) (answer : Answ
   -- if that is larger"
   pub bounded : 2 * total (compared_by r) ≤ twice_bound * total (lines_for r s)
   pub used : (f : File) (i : ℕ) → i < length (r.values f) → Placed r s after f i
-  -- "Unused pairs (of a file not read or an axle not there) are 0"
+  -- "Unused pairs (of a file not read or an axle not there) are 0"; so are their lines
   pub unused : (f : File) (i : ℕ) → length (r.values f) ≤ i → i < room f → IsZero after f i
-  -- "numbers past 278 stay"; 388 from 02, 2/14 on
+  -- "numbers past 278 stay"; 388 from 02, 2/14 on, 582 from 7/14 on
   pub beyond : drop least_places after ≡ drop least_places before
   pub same_length : length after ≡ length before
 
@@ -65,11 +65,11 @@ pub record Demand3 (caller : Caller) (s : Slices) (before : List ℕ) (answer : 
 
 -- what a judging leaves in the places, where `refused` says that the set was refused
 pub record Leaves (refused : Type 0) (before after : List ℕ) : Type 0 where
-  -- demand 1: "After a refused set the first 278 places (388 ..), if so many were lent, hold 0"
+  -- demand 1: "After a refused set the first 278 places (388, 582 ..), if so many were lent, hold 0"
   pub zero : refused → least_places ≤ length before → (j : ℕ) → j < least_places → get_or after j 0 ≡ 0
   -- row 1: "places too short; they stay"
   pub short : length before < least_places → after ≡ before
-  -- "numbers past 278 stay"; 388 from 02, 2/14 on
+  -- "numbers past 278 stay"; 388 from 02, 2/14 on, 582 from 7/14 on
   pub beyond : drop least_places after ≡ drop least_places before
   pub same_length : length after ≡ length before
 

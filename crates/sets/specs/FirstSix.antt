@@ -1,5 +1,5 @@
--- The fold over slices 1 to 6, as before 02, 2/14 but for the least number of places, which is 388 here too: where slice 7 is neither
--- due nor given, the judge is this (proofs/FirstSix).
+-- The fold over slices 1 to 6, as before 02, 2/14 but for the places, of which there are as many as with slice 7: where slice 7 is
+-- neither due nor given, the judge is this (proofs/FirstSix).
 use Rattle.std.specs.Prelude.{ℕ, ◌≡◌, false, cond, List, [], leb, length, take}
 use Rattle.refusals.specs.Answer.{Answer, refusal, acceptance, require}
 use Rattle.tables.specs.File.{File, ac2, opacity, files, least_places}
@@ -16,7 +16,7 @@ first_slices = take 5 later_slices
 abbrev pub first_files : List File
 first_files = take 5 files
 
--- the judge through slice 6, with the pairs of files 1 to 5
+-- the judge through slice 6, with the pairs and lines of files 1 to 5
 abbrev pub judge_first_six : Caller → Slices → List ℕ → Answer Acceptance × List ℕ
 judge_first_six caller s p =
     cond (leb least_places (length p))

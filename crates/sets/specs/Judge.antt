@@ -1,6 +1,6 @@
 -- The judge of a set (01, Judging; 02, 2/14): the answer and the places, by one definition over the inputs.
 use Rattle.std.specs.Prelude.{ℕ, Bool, cond, List, [], ◌∷◌, map, leb, ltb, length, get_or, Option, Some, None, Ok, Err}
-use Rattle.places.specs.Places.{Pair, value_at, set_pairs, cleared}
+use Rattle.places.specs.Places.{Pair, value_at, set_triples, cleared}
 use Rattle.refusals.specs.Refusals.{number_of}
 use Rattle.refusals.specs.Answer.{Answer, refusal, acceptance, require, followed, given_by}
 use Rattle.tables.specs.File.{File, ac2, acc, drift, suspension, gas, opacity, files, all_sections, file_number, identification_number, first_pair, least_places}
@@ -87,28 +87,30 @@ first_failed (failed k i ∷ cs) = failed k i
 pub record FileRead : Type 0 where
   pub axles : ℕ
   pub pairs : List Pair
+  -- 02, 7/14: the line of each
+  pub lines : List ℕ
   pub values : List (List ℕ)
   -- 02, 4/14: the number of entry names compared
   pub compared : ℕ
 
 abbrev pub not_read : FileRead
-not_read = record { axles = 0; pairs = []; values = []; compared = 0 }
+not_read = record { axles = 0; pairs = []; lines = []; values = []; compared = 0 }
 
--- c sections, and the pairs of the entries
-abbrev pub file_read : File → List ℕ → ℕ → List Pair → FileRead
-file_read f s c ps = record { axles = axles_of f c; pairs = ps; values = map (value_at s) ps; compared = names_compared (all_sections f) s }
+-- c sections, and the pairs and lines of the entries
+abbrev pub file_read : File → List ℕ → ℕ → List Pair → List ℕ → FileRead
+file_read f s c ps ls = record { axles = axles_of f c; pairs = ps; lines = ls; values = map (value_at s) ps; compared = names_compared (all_sections f) s }
 
-abbrev pub checked_file : File → FileRead → List ℕ → FileCheck → Answer FileRead
-checked_file f g lines passed = acceptance g
-checked_file f g lines (failed k i) = refusal k (file_number f) (get_or lines i 0)
+abbrev pub checked_file : File → FileRead → FileCheck → Answer FileRead
+checked_file f g passed = acceptance g
+checked_file f g (failed k i) = refusal k (file_number f) (get_or g.lines i 0)
 
 -- after reading, the checks; `booking` gives AC2's values from the file's own
-abbrev pub judge_read : File → (List (List ℕ) → List (List ℕ)) → FileRead → List ℕ → Answer FileRead
-judge_read f booking g lines = checked_file f g lines (first_failed (file_checks f (booking g.values) g.values g.axles))
+abbrev pub judge_read : File → (List (List ℕ) → List (List ℕ)) → FileRead → Answer FileRead
+judge_read f booking g = checked_file f g (first_failed (file_checks f (booking g.values) g.values g.axles))
 
 abbrev pub judge_reading : File → (List (List ℕ) → List (List ℕ)) → List ℕ → Reading → Answer FileRead
 judge_reading f booking s (refused k l) = refusal k (file_number f) l
-judge_reading f booking s (read c ps ls) = judge_read f booking (file_read f s c ps) ls
+judge_reading f booking s (read c ps ls) = judge_read f booking (file_read f s c ps ls)
 
 -- 3 to 9, then the checks
 unfoldable pub judge_text : File → (List (List ℕ) → List (List ℕ)) → List ℕ → Answer FileRead
@@ -181,16 +183,17 @@ judge_through cs stated s =
 unfoldable pub judge_slices : Stated → Slices → Answer SetRead
 judge_slices stated s = judge_through later_slices stated s
 
--- the pairs of these files, each from its first pair on
+-- the pairs and lines of these files, each from its first pair on
 abbrev pub set_files : List File → SetRead → List ℕ → List ℕ
 set_files [] x p = p
-set_files (f ∷ fs) x p = set_files fs x (set_pairs (first_pair f) (x.file f).pairs p)
+set_files (f ∷ fs) x p = set_files fs x (set_triples (first_pair f) (x.file f).pairs (x.file f).lines p)
 
 -- what acceptance carries of a set that passed
 abbrev pub acceptance_in : SetRead → Acceptance
 acceptance_in x = acceptance_of (λ f. (x.file f).axles) (λ f. (x.file f).values) (λ f. (x.file f).compared)
 
--- "Unused pairs .. are 0; numbers past 278 stay", from 02, 2/14 on 388; after a refusal all pairs are 0. Of these files, the pairs.
+-- "Unused pairs .. are 0; numbers past 278 stay", from 02, 2/14 on 388 and from 7/14 on 582; after a refusal all are 0. Of these files,
+-- the pairs and lines.
 abbrev pub settled_by : List File → List ℕ → Answer SetRead → Answer Acceptance × List ℕ
 settled_by fs p (refusal k f l) = (refusal k f l, cleared least_places p)
 settled_by fs p (acceptance x) = (acceptance (acceptance_in x), set_files fs x (cleared least_places p))

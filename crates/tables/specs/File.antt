@@ -137,7 +137,7 @@ first_pair f = rooms (files_before f files)
 unfoldable pub pair_count : ℕ
 pair_count = rooms files
 
--- 01, Judging: "at least 278 numbers"; 02, 2/14: it "grows there too, by two for each entry"
+-- 01, Judging: "at least 278 numbers"; 02, 2/14: those of opacity too; 02, 7/14: "half as much again as before"
 unfoldable pub least_places : ℕ
 least_places = place_size * pair_count
 

@@ -2,13 +2,17 @@
 use Rattle.std.specs.Prelude.{ℕ, ◌+◌, ◌*◌, ◌≤◌, List, [], map, Bool, ltb, length, get_or}
 use Prim.Native.String.{String}
 use Rattle.lines.specs.Text.{bytes}
-use Rattle.places.specs.Places.{Pair, place_size, start_of, length_of, pairs_at, value_at, Within}
+use Rattle.places.specs.Places.{Pair, place_size, start_of, length_of, pairs_at, lines_at, value_at, Within}
 use Rattle.tables.specs.File.{File, entries, axle_entries, first_pair, least_places, of_number}
 use Rattle.tables.specs.Row.{names, index_of}
 
 -- the pairs of a file with n axles, in entry order (01, Judging)
 abbrev pub pairs_of : File → ℕ → List ℕ → List Pair
 pairs_of f n p = pairs_at p (first_pair f) (length (entries f n))
+
+-- and their lines (02, 7/14)
+abbrev pub lines_of : File → ℕ → List ℕ → List ℕ
+lines_of f n p = lines_at p (first_pair f) (length (entries f n))
 
 -- the values of a file with n axles: its text t, its pairs in p
 abbrev pub values_of : File → ℕ → List ℕ → List ℕ → List (List ℕ)

@@ -5,3 +5,4 @@ pub mod Quotes
 pub mod Acceptance
 pub mod Theorem
 pub mod Samples
+pub mod Ignored

@@ -20,22 +20,22 @@ abbrev zeros : ℕ → List ℕ
 zeros n = replicate n 0
 
 abbrev first : ℕ → ℕ → List ℕ
-first a n = set (set (zeros 388) 36 a) 37 n
+first a n = set (set (zeros 582) 54 a) 55 n
 
 abbrev axle : ℕ → ℕ → List ℕ
-axle a n = set (set (zeros 388) 70 a) 71 n
+axle a n = set (set (zeros 582) 105 a) 106 n
 
 pub samples :
-    (quote_file 2 0 [] (zeros 387) ≡ refuse 1 0)
-    × (quote_file 2 0 [] (zeros 388) ≡ quote 135)
-    × (quote_file 0 0 [] (zeros 388) ≡ refuse 16 0)
-    × (quote_file 6 0 [] (zeros 388) ≡ refuse 16 0)
-    × (quote_file 7 0 [] (zeros 388) ≡ quote 1007)
-    × (quote_file 7 1 [] (zeros 388) ≡ refuse 16 0)
-    × (quote_file 2 1 [] (zeros 388) ≡ refuse 16 0)
-    × (quote_file 3 0 [] (zeros 388) ≡ refuse 16 0)
-    × (quote_file 3 10 [] (zeros 388) ≡ refuse 16 0)
-    × (quote_file 3 9 [] (zeros 388) ≡ quote 472)
+    (quote_file 2 0 [] (zeros 581) ≡ refuse 1 0)
+    × (quote_file 2 0 [] (zeros 582) ≡ quote 135)
+    × (quote_file 0 0 [] (zeros 582) ≡ refuse 16 0)
+    × (quote_file 6 0 [] (zeros 582) ≡ refuse 16 0)
+    × (quote_file 7 0 [] (zeros 582) ≡ quote 1007)
+    × (quote_file 7 1 [] (zeros 582) ≡ refuse 16 0)
+    × (quote_file 2 1 [] (zeros 582) ≡ refuse 16 0)
+    × (quote_file 3 0 [] (zeros 582) ≡ refuse 16 0)
+    × (quote_file 3 10 [] (zeros 582) ≡ refuse 16 0)
+    × (quote_file 3 9 [] (zeros 582) ≡ quote 472)
     -- 17 for length 0 too, with the line behind the heading's
     × (quote_file 3 1 (bytes "ab") (first 3 0) ≡ refuse 17 2)
     × (quote_file 3 1 (bytes "ab") (first 2 0) ≡ quote 272)

@@ -7,7 +7,7 @@ use Rattle.lines.specs.Writing.{put}
 use Rattle.refusals.specs.Answer.{Answer, refusal, acceptance, answer_is}
 use Rattle.refusals.specs.declared.Refusal.{Refusal}
 use Rattle.tables.specs.File.{File, has_axles, least_axles, most_axles, sections, least_places, of_number}
-use Rattle.places.specs.Places.{Pair, value_at}
+use Rattle.places.specs.Places.{Pair, value_at, SamePairs}
 use Rattle.tables.specs.Row.{row_kinds}
 use Rattle.tables.specs.Value.{pairs_of, values_of}
 use Rattle.reading.specs.Reading.{Check, passes, fails}
@@ -95,6 +95,11 @@ quote_for file n s p out = fitting (quote_file file n s p) (length out)
 -- the output after writing
 abbrev pub output_after : ℕ → ℕ → List ℕ → List ℕ → List ℕ → List ℕ
 output_after file n s p out = output_of (quote_for file n s p out) (bytes_of file n s p) out
+
+-- 02, 7/14: "Writing ignores the third number": any places with the same pairs give the same answer and output
+abbrev pub LinesIgnored : ℕ → ℕ → List ℕ → List ℕ → List ℕ → Type 0
+LinesIgnored file n s p out =
+    (q : List ℕ) → SamePairs p q → (quote_for file n s q out ≡ quote_for file n s p out) × (output_after file n s q out ≡ output_after file n s p out)
 
 pub record Writes (s p : List ℕ) (file n : ℕ) (out after : List ℕ) (r : Result WriteAcceptance Refusal) : Type 0 where
   pub answer : answer_is r ≡ answer_of file (quote_for file n s p out)

@@ -1,4 +1,5 @@
-// One file written from a text and its pairs (01, Writing): first all checks with the length, then the bytes.
+// One file written from a text and its pairs (01, Writing): first all checks with the length, then the bytes. The lines beside
+// the pairs are not looked at (02, 7/14).
 #![tactic(auto)]
 
 ghost use Rattle.std.specs.Prelude.{◌≡◌, Bool, true, ◌+◌, ◌*◌, ◌<◌, ◌≤◌, ltb, length, take, get_or};

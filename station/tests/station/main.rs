@@ -5,6 +5,7 @@ mod causes;
 mod common;
 mod idle;
 mod in_date;
+mod lines;
 mod look_up;
 mod obeyed;
 mod readme;

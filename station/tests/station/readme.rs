@@ -1,11 +1,13 @@
-//! What README.md shows is what happens: the tour's commands with their output, and the program in C. docs/RULES.md is
-//! what the program prints.
+//! What README.md shows is what happens: the tour's commands with their output, and the programs in C and in Rust.
+//! docs/RULES.md is what the program prints.
 //!
 //! A command stands behind `    $ mctc `, its output in the indented lines below. `..` at the end of a line stands for
-//! the rest of that line, and alone for the rest of the output.
+//! the rest of that line, and alone for the rest of the output. The output of a program in C stands below its command
+//! with gcc, that of one in Rust behind `// ` in its lines.
 
 use std::env;
 use std::fs;
+use std::path::Path;
 use std::process::Command;
 
 use crate::common::{empty_folder, put, repository, run};
@@ -92,31 +94,72 @@ fn the_rules_are_current() {
     );
 }
 
-#[test]
-fn the_program_in_c_compiles_and_runs() {
-    let readme = readme();
-    let (_, rest) = readme.split_once("```c\n").expect("a program in C");
-    let (source, _) = rest.split_once("```").expect("its end");
-    let folder = empty_folder("readme-c");
-    put(folder.join("judge.c"), source);
+/// The programs in a language.
+fn programs<'a>(readme: &'a str, language: &str) -> Vec<&'a str> {
+    let start = format!("```{language}\n");
+    let behind = readme.split(start.as_str()).skip(1);
+    behind.filter_map(|text| text.split("```").next()).collect()
+}
+
+/// What a program prints.
+fn printed(program: &mut Command) -> String {
+    let output = program.output().expect("it runs");
+    String::from_utf8(output.stdout).expect("a text")
+}
+
+fn compile_c(source: &str, folder: &Path) {
+    put(folder.join("program.c"), source);
     let library = env::var_os("DICEPEACH_LIBRARY").unwrap_or("target/staticlib".into());
     let compiled = Command::new("gcc")
         .args(["-Wall", "-Wextra", "-Werror", "-Iinclude"])
-        .arg(folder.join("judge.c"))
+        .arg(folder.join("program.c"))
         .arg(repository().join(library).join("libmctc.a"))
         .arg("-o")
-        .arg(folder.join("judge"))
+        .arg(folder.join("program"))
         .current_dir(repository())
         .status()
         .expect("gcc runs");
-    assert!(compiled.success(), "gcc refuses the program of README.md");
-    let output = Command::new(folder.join("judge"))
-        .output()
-        .expect("it runs");
-    let found = String::from_utf8_lossy(&output.stdout).into_owned();
-    let shown = commands(&readme, "$ gcc ");
-    let [(_, shown)] = shown.as_slice() else {
-        panic!("README.md has {} commands with gcc", shown.len());
-    };
-    assert_eq!(found.lines().collect::<Vec<_>>(), *shown);
+    assert!(compiled.success(), "gcc refuses a program of README.md");
+}
+
+#[test]
+fn the_programs_in_c_compile_and_run() {
+    let readme = readme();
+    let programs = programs(&readme, "c");
+    let commands = commands(&readme, "$ gcc ");
+    assert_eq!((programs.len(), commands.len()), (2, 2));
+    let folder = empty_folder("readme-c");
+    for (source, (_, shown)) in programs.into_iter().zip(commands) {
+        compile_c(source, &folder);
+        let found = printed(&mut Command::new(folder.join("program")));
+        assert_eq!(found.lines().collect::<Vec<_>>(), shown);
+    }
+}
+
+/// Makes a package of a program over the binding.
+fn put_package(source: &str, folder: &Path) {
+    let binding = repository().join("bindings/rust");
+    let manifest = format!(
+        "[package]\nname = \"program\"\nedition = \"2021\"\n[dependencies]\nmctc = {{ path = {binding:?} }}\n"
+    );
+    put(folder.join("Cargo.toml"), manifest);
+    put(folder.join("src/main.rs"), source);
+}
+
+#[test]
+fn the_programs_in_rust_compile_and_run() {
+    let readme = readme();
+    let programs = programs(&readme, "rust");
+    assert_eq!(programs.len(), 2);
+    let folder = empty_folder("readme-rust");
+    for source in programs {
+        put_package(source, &folder);
+        let mut cargo = Command::new(env!("CARGO"));
+        cargo.args(["run", "--quiet", "--offline", "--target-dir", "target"]);
+        let found = printed(cargo.current_dir(&*folder));
+        let lines = source.lines();
+        let shown = lines.filter_map(|line| Some(line.split_once(" // ")?.1));
+        let shown: Vec<&str> = shown.collect();
+        assert_eq!(found.lines().collect::<Vec<_>>(), shown);
+    }
 }

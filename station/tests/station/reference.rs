@@ -5,6 +5,7 @@ use std::fs;
 use std::path::Path;
 
 use crate::common::{empty_folder, put, repository, run, ENDINGS};
+use crate::lines::check_lines;
 use outside::comparison::set_case;
 use outside::judge::{Call, Reference, Set};
 
@@ -169,9 +170,12 @@ fn generated_sets() {
     let tried = answers
         .iter()
         .filter(|(_, answer)| matches!(answer[0], 0 | 10));
+    let mut told = 0;
     for (stem, answer) in tried.take(200) {
         check_columns(&folder, stem, answer);
+        told += check_lines(&folder, stem);
     }
+    assert!(told > 0, "no entry was told with its line");
 }
 
 /// `mctc due`: nothing disagrees in an accepted set, and the file of a refusal with 10 has an entry that is marked.

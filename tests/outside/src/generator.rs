@@ -10,6 +10,7 @@ use crate::measures::{self, Measure};
 use crate::old_fuels;
 use crate::random::Random;
 use crate::reference::kinds::Kind;
+use crate::reference::places::{put_triples, Triple};
 use crate::reference::tables::{
     table, Table, AC2, ACC, DRIFT, GAS, IDENTIFICATION, OPACITY, SUSPENSION,
 };
@@ -295,38 +296,38 @@ impl Values {
         }
     }
 
-    /// The file with its sections and entries in this order, and start and length of each
-    /// value, in entry order.
-    fn lay_out(&self, order: &[(usize, Vec<usize>)]) -> (Vec<u8>, Vec<u32>) {
+    /// The file with its sections and entries in this order, and where each value stands, in entry order.
+    fn lay_out(&self, order: &[(usize, Vec<usize>)]) -> (Vec<u8>, Vec<Triple>) {
         let mut text = Vec::new();
-        let mut pairs: Vec<Vec<(usize, usize)>> = self
-            .sections
-            .iter()
-            .map(|section| vec![(0, 0); section.len()])
+        let mut line = 0;
+        let sections = self.sections.iter();
+        let mut triples: Vec<Vec<Triple>> = sections
+            .map(|section| vec![Triple::default(); section.len()])
             .collect();
         for (s, entries) in order {
             let section = &self.table().sections[*s];
             text.extend(section.heading.as_bytes());
             text.extend(b"\r\n");
+            line += 1;
             for e in entries {
                 let value = &self.sections[*s][*e];
                 text.extend(section.entries[*e].name.as_bytes());
                 text.push(b'=');
-                pairs[*s][*e] = (text.len(), value.len());
+                line += 1;
+                triples[*s][*e] = Triple {
+                    start: text.len() as u32,
+                    length: value.len() as u32,
+                    line,
+                };
                 text.extend(value);
                 text.extend(b"\r\n");
             }
         }
-        let places = pairs
-            .into_iter()
-            .flatten()
-            .flat_map(|(start, length)| [start as u32, length as u32])
-            .collect();
-        (text, places)
+        (text, triples.concat())
     }
 
-    /// The file in any line order, and start and length of each value, in entry order.
-    pub fn text_and_places(&self, random: &mut Random) -> (Vec<u8>, Vec<u32>) {
+    /// The file in any line order, and where each value stands, in entry order.
+    pub fn text_and_triples(&self, random: &mut Random) -> (Vec<u8>, Vec<Triple>) {
         let choice = random.below(8);
         let mut order = self.table_order();
         if choice >= 2 {
@@ -341,7 +342,7 @@ impl Values {
     }
 
     pub fn text(&self, random: &mut Random) -> Vec<u8> {
-        self.text_and_places(random).0
+        self.text_and_triples(random).0
     }
 
     fn table_order(&self) -> Vec<(usize, Vec<usize>)> {
@@ -354,11 +355,6 @@ impl Values {
     /// The file in table order, as it is written.
     pub fn text_in_table_order(&self) -> Vec<u8> {
         self.lay_out(&self.table_order()).0
-    }
-
-    /// The number of the file's first place.
-    pub fn first_place(&self) -> usize {
-        2 * self.table().first_pair
     }
 
     /// 02, 1/14: whether the idle speed was entered by hand.
@@ -908,9 +904,8 @@ pub fn record(random: &mut Random) -> Record {
     };
     let mut places = vec![0; PLACES];
     for values in &files {
-        let (text, pairs) = values.text_and_places(random);
-        let first = values.first_place();
-        places[first..first + pairs.len()].copy_from_slice(&pairs);
+        let (text, triples) = values.text_and_triples(random);
+        put_triples(&mut places, values.file, triples);
         *set.slice_mut(values.file) = text;
     }
     if !unread.is_empty() {

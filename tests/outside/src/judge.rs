@@ -2,7 +2,9 @@
 
 use crate::reference::judging::{due_alone, judge_set, read_alone, Slices};
 use crate::reference::kinds::shape;
-use crate::reference::tables::{entry_kind, entry_name, entry_word, heading_name};
+use crate::reference::tables::{
+    entry_kind, entry_name, entry_word, heading_name, DRIFT, SUSPENSION,
+};
 use crate::reference::writing::write_file;
 use crate::reference::{Refusal, PLACES};
 
@@ -248,19 +250,37 @@ pub enum Call {
 }
 
 impl Call {
+    /// What the places that it is lent hold before.
+    pub fn places(&self) -> &[u32] {
+        match self {
+            Call::Judge { places, .. }
+            | Call::Read { places, .. }
+            | Call::Write { places, .. }
+            | Call::Due { places, .. } => places,
+            _ => &[],
+        }
+    }
+
+    /// Whether it fills the places that it is lent, or clears them.
+    pub fn fills_places(&self) -> bool {
+        matches!(
+            self,
+            Call::Judge { .. } | Call::Read { .. } | Call::Due { .. }
+        )
+    }
+
     /// What the arrays that it is lent, besides the answer, hold before.
     pub fn before(&self) -> Outcome {
-        let (places, column, output): (&[u32], &[u32], &[u8]) = match self {
-            Call::Judge { places, .. } | Call::Read { places, .. } => (places, &[], &[]),
-            Call::Write { places, output, .. } => (places, &[], output),
-            Call::Due { places, column, .. } => (places, column, &[]),
-            Call::EntryName { output, .. }
+        let (column, output): (&[u32], &[u8]) = match self {
+            Call::Judge { .. } | Call::Read { .. } | Call::Kind { .. } => (&[], &[]),
+            Call::Due { column, .. } => (column, &[]),
+            Call::Write { output, .. }
+            | Call::EntryName { output, .. }
             | Call::HeadingName { output, .. }
-            | Call::Word { output, .. } => (&[], &[], output),
-            Call::Kind { .. } => (&[], &[], &[]),
+            | Call::Word { output, .. } => (&[], output),
         };
         Outcome {
-            places: places.to_vec(),
+            places: self.places().to_vec(),
             column: column.to_vec(),
             output: output.to_vec(),
             ..Outcome::default()
@@ -283,6 +303,15 @@ pub struct Outcome {
 impl Outcome {
     pub fn accepted(&self) -> bool {
         self.returned == 0
+    }
+
+    /// The axle count of a file of an accepted set.
+    pub fn axles(&self, file: u32) -> u32 {
+        match file {
+            DRIFT => self.answer[3],
+            SUSPENSION => self.answer[4],
+            _ => 0,
+        }
     }
 
     /// The refusal in the answer.

@@ -12,6 +12,7 @@ pub mod hex;
 pub mod judge;
 #[cfg(feature = "library")]
 pub mod library;
+pub mod lines_beside;
 pub mod look_ups;
 pub mod measures;
 pub mod met;

@@ -40,7 +40,7 @@ impl Judge for Library {
 }
 
 /// As the binding takes it.
-fn set_of(set: &Set) -> mctc::Set<'_> {
+pub fn set_of(set: &Set) -> mctc::Set<'_> {
     let slices = set.as_slices();
     mctc::Set {
         stem: slices.stem,

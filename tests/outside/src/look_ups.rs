@@ -2,6 +2,7 @@
 
 use crate::judge::{Outcome, Set, NAMES_COMPARED};
 use crate::met::{Met, Wanted, JUDGED, JUDGED_AGAIN, REWRITTEN};
+use crate::reference::places::is_read;
 use crate::reference::tables::{table, Section, AC2, ACC, DRIFT, FILES, MOST_AXLES, SUSPENSION};
 
 /// 02, 4/14: "twice the sum is at most 47 times the number of entry lines, with the entry count of opacity's largest section plus 1
@@ -77,10 +78,8 @@ fn files_and_axles() -> Vec<String> {
 
 /// The files of an accepted set that were read, each with its text.
 pub fn files_read<'a>(set: &'a Set, places: &[u32]) -> Vec<(u32, &'a str)> {
-    // No value starts at 0, so the first pair of a file that was not read is that of none.
-    let read = |file: &u32| places[2 * table(*file).first_pair] > 0;
     let text = |file| std::str::from_utf8(set.slice(file)).expect("bytes of 20 to 7E hex");
-    let files = FILES.into_iter().filter(read);
+    let files = FILES.into_iter().filter(|file| is_read(*file, places));
     files.map(|file| (file, text(file))).collect()
 }
 
@@ -113,9 +112,9 @@ pub fn is_right(set: &Set, outcome: &Outcome) -> bool {
 pub fn note(met: &mut Met, what: &'static str, set: &Set, outcome: &Outcome) {
     note_orders(met, what, set, outcome);
     note_files(met, what, set, outcome);
-    let [drift, suspension] = [3, 4].map(|number| outcome.answer[number] as usize);
-    met.count(what, axles(DRIFT, drift));
-    met.count(what, axles(SUSPENSION, suspension));
+    for measured in [DRIFT, SUSPENSION] {
+        met.count(what, axles(measured, outcome.axles(measured) as usize));
+    }
     met.count(what, names_compared(outcome.answer[NAMES_COMPARED]));
 }
 

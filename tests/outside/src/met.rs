@@ -9,12 +9,18 @@ pub const JUDGED_AGAIN: &str = "judged again";
 pub const REWRITTEN: &str = "written in table order";
 pub const READ: &str = "read 0";
 pub const READ_BACK: &str = "read back";
+pub const COLUMN: &str = "due 0";
+/// Accepted calls that gave the same answer with the lines of their files in the opposite order.
+pub const JUDGED_TURNED: &str = "judged in the opposite order";
+pub const READ_TURNED: &str = "read in the opposite order";
+pub const COLUMN_TURNED: &str = "due in the opposite order";
 
 /// Sets and files refused by a number.
 pub const JUDGE_9: &str = "judge 9";
 pub const JUDGE_10: &str = "judge 10";
 pub const JUDGE_11: &str = "judge 11";
 pub const JUDGE_12: &str = "judge 12";
+pub const JUDGE_13: &str = "judge 13";
 pub const JUDGE_19: &str = "judge 19";
 pub const READ_9: &str = "read 9";
 

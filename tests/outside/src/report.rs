@@ -5,13 +5,17 @@ use std::collections::BTreeMap;
 use crate::devices;
 use crate::entries::{due_dates, free_entries, is_conditional};
 use crate::judge::{Call, Outcome, Set, BY_HAND};
+use crate::lines_beside::{self, Made};
 use crate::look_ups;
 use crate::met::{
-    summary, Met, Wanted, JUDGED, JUDGE_12, JUDGE_19, JUDGE_9, READ, READ_9, REWRITTEN,
+    summary, Met, Wanted, COLUMN, JUDGED, JUDGE_12, JUDGE_13, JUDGE_19, JUDGE_9, READ, READ_9,
+    REWRITTEN,
 };
+use crate::mutator::writings::OtherLines;
 use crate::old_fuels;
 use crate::opacities;
 use crate::reference::kinds::Kind;
+use crate::reference::places::{triples_of, Triple};
 use crate::reference::tables::{
     table, Entry, Section, AC2, ACC, DRIFT, FILES, GAS, IDENTIFICATION, SUSPENSION,
 };
@@ -22,13 +26,12 @@ use crate::speeds;
 const NUMBERS: usize = 20;
 
 /// File, heading and name of an entry.
-type EntryOf = (u32, String, String);
+pub type EntryOf = (u32, String, String);
 
-/// Refusals for which the entries are noted, besides judge 9, judge 12, judge 19 and read 9.
+/// Refusals for which the entries are noted, besides judge 9, judge 12, judge 13, judge 19 and read 9.
 const JUDGE_8: &str = "judge 8";
 const JUDGE_10_EMPTY: &str = "judge 10, due and empty";
 const JUDGE_10_FILLED: &str = "judge 10, filled and not due";
-const JUDGE_13: &str = "judge 13";
 const WRITE_9: &str = "write 9";
 const WRITE_17: &str = "write 17";
 const COLUMN_DUE: &str = "column, due";
@@ -112,7 +115,7 @@ pub struct Report {
     counts: [[u64; NUMBERS]; 8],
     /// How often each noted refusal was reached at each entry.
     reached: BTreeMap<&'static str, BTreeMap<EntryOf, u64>>,
-    /// Refused files, idle speeds, what opacity brought, old fuels, look-ups and devices.
+    /// Refused files, idle speeds, what opacity brought, old fuels, look-ups, devices and lines.
     met: Met,
     /// Written files that were read back.
     pub read_back: u64,
@@ -121,7 +124,7 @@ pub struct Report {
 }
 
 /// The entry at a line of a text, with its value.
-fn entry_at(file: u32, text: &[u8], line: u32) -> Option<(EntryOf, String)> {
+pub fn entry_at(file: u32, text: &[u8], line: u32) -> Option<(EntryOf, String)> {
     let mut heading = String::new();
     let mut last = String::new();
     for bytes in text.split(|byte| *byte == b'\n').take(line as usize) {
@@ -186,15 +189,19 @@ fn is_free((file, _, name): &EntryOf) -> bool {
     free_entries(*file).contains(&name.as_str())
 }
 
-/// 01, row 12: the entries whose lines it names.
-fn has_booking_rule(entry: &EntryOf) -> bool {
+/// Whether 10, 12, 13 or 19 can be refused at the line of an entry: 01, rows 10, 12 and 13; 02, 5/14.
+pub fn can_be_refused(number: u32, entry: &EntryOf) -> bool {
     let (file, _, name) = entry;
-    match *file {
-        AC2 => matches!(
+    match (number, *file) {
+        (10, _) => !is_free(entry),
+        (12, AC2) => matches!(
             name.as_str(),
             "TipoVeicolo" | "AzionamentoFrenoStazionamento"
         ),
-        file => file == ACC,
+        (12, file) => file == ACC,
+        (13, file) => file == SUSPENSION && name == "Differenza%",
+        (19, file) => due_dates(file).contains(&name.as_str()),
+        _ => false,
     }
 }
 
@@ -216,15 +223,13 @@ fn may_begin_with_hash_in_set(entry: &EntryOf) -> bool {
     may_begin_with_hash(entry) && (*file != ACC || name == "Alimentazione_1")
 }
 
-/// The entries of a file that was read, each with start and length of its value.
-fn values_of(file: u32, outcome: &Outcome) -> impl Iterator<Item = (EntryOf, usize, usize)> + '_ {
-    let pairs = outcome.places[2 * table(file).first_pair..].chunks(2);
-    // No value starts at 0, so such a pair is that of an entry that was not read.
-    let read = listed(file).zip(pairs).filter(|(_, pair)| pair[0] > 0);
-    read.map(move |((section, entry), pair)| {
-        let (start, length) = (pair[0] as usize, pair[1] as usize);
-        (named(file, section, entry), start, length)
-    })
+/// The entries of a file that was read, each with its triple.
+pub fn values_of(file: u32, outcome: &Outcome) -> impl Iterator<Item = (EntryOf, Triple)> + '_ {
+    let triples = triples_of(file, &outcome.places);
+    let read = listed(file)
+        .zip(triples)
+        .filter(|(_, triple)| triple.is_used());
+    read.map(move |((section, entry), triple)| (named(file, section, entry), triple))
 }
 
 /// The entries at which each noted refusal can be reached.
@@ -232,20 +237,15 @@ fn reachable() -> Vec<(&'static str, Vec<EntryOf>)> {
     let fitting =
         |fits: &dyn Fn(&EntryOf) -> bool| all_entries().into_iter().filter(fits).collect();
     let conditional = |(file, _, name): &EntryOf| is_conditional(*file, name);
+    let refused = |number| fitting(&|entry| can_be_refused(number, entry));
     vec![
         (JUDGE_8, fitting(&|_| true)),
         (JUDGE_9, fitting(&|_| true)),
-        (JUDGE_10_EMPTY, fitting(&|entry| !is_free(entry))),
+        (JUDGE_10_EMPTY, refused(10)),
         (JUDGE_10_FILLED, fitting(&conditional)),
-        (JUDGE_12, fitting(&has_booking_rule)),
-        (
-            JUDGE_13,
-            fitting(&|(file, _, name)| *file == SUSPENSION && name == "Differenza%"),
-        ),
-        (
-            JUDGE_19,
-            fitting(&|(file, _, name)| due_dates(*file).contains(&name.as_str())),
-        ),
+        (JUDGE_12, refused(12)),
+        (JUDGE_13, refused(13)),
+        (JUDGE_19, refused(19)),
         (READ_9, fitting(&|_| true)),
         (WRITE_9, fitting(&|_| true)),
         (WRITE_17, fitting(&|_| true)),
@@ -284,7 +284,7 @@ fn entry_of(call: &Call, refusal: Refusal) -> Option<(&'static str, EntryOf)> {
 }
 
 /// What a run must meet besides numbers and entries.
-fn wanted() -> [(&'static str, Vec<Wanted>); 6] {
+fn wanted() -> [(&'static str, Vec<Wanted>); 7] {
     [
         ("refused files", refused_files()),
         ("idle speeds", speeds::wanted()),
@@ -292,6 +292,7 @@ fn wanted() -> [(&'static str, Vec<Wanted>); 6] {
         ("old fuels", old_fuels::wanted()),
         ("look-ups", look_ups::wanted()),
         ("devices", devices::wanted()),
+        ("lines", lines_beside::wanted()),
     ]
 }
 
@@ -302,6 +303,7 @@ impl Report {
         self.counts[place][refusal.number as usize] += 1;
         self.met
             .count(CALLS[place].0, refused(refusal.file, refusal.number));
+        lines_beside::note_lent(&mut self.met, CALLS[place].0, call, refusal.number);
         if let Some((what, entry)) = entry_of(call, refusal) {
             self.note(what, entry);
         }
@@ -322,6 +324,7 @@ impl Report {
                 self.meet(READ, call, outcome);
                 self.note_hashes(READ_HASH, *file, text, outcome);
             }
+            (Call::Due { .. }, 0) => self.meet(COLUMN, call, outcome),
             (Call::Judge { set, .. }, 9) => {
                 self.note_refused(JUDGE_9, set.slice(refusal.file), refusal);
             }
@@ -343,6 +346,7 @@ impl Report {
         speeds::note(&mut self.met, what, call, outcome);
         opacities::note(&mut self.met, what, call, outcome);
         devices::note(&mut self.met, what, call, outcome);
+        lines_beside::note(&mut self.met, what, call, outcome);
         if let Call::Judge { set, .. } = call {
             old_fuels::note(&mut self.met, what, set);
             look_ups::note(&mut self.met, what, set, outcome);
@@ -354,13 +358,28 @@ impl Report {
         look_ups::note_orders(&mut self.met, REWRITTEN, set, outcome);
     }
 
+    /// Notes two accepted calls whose files have the same lines in two orders.
+    pub fn meet_orders(&mut self, what: &'static str, both: [Made; 2]) {
+        lines_beside::note_orders(&mut self.met, what, both);
+    }
+
+    /// Notes a set refused at a line that its file has beside an entry.
+    pub fn meet_refused_line(&mut self, number: u32, file: u32) {
+        lines_beside::note_refused(&mut self.met, number, file);
+    }
+
+    /// Notes a writing that was answered alike with other third numbers.
+    pub fn meet_other_lines(&mut self, lines: OtherLines, number: u32) {
+        lines_beside::note_written(&mut self.met, lines, number);
+    }
+
     /// Notes the values of an accepted file that begin with `#`, where the answer has no mark.
     fn note_hashes(&mut self, what: &'static str, file: u32, text: &[u8], outcome: &Outcome) {
         if outcome.answer[BY_HAND] != 0 {
             return;
         }
-        for (entry, start, length) in values_of(file, outcome) {
-            if text[start..start + length].starts_with(b"#") {
+        for (entry, triple) in values_of(file, outcome) {
+            if triple.value(text).starts_with(b"#") {
                 self.note(what, entry);
             }
         }
@@ -368,9 +387,9 @@ impl Report {
 
     /// Notes which free entries of a file of an accepted set are filled and which are empty.
     fn note_free(&mut self, file: u32, outcome: &Outcome) {
-        for (entry, _, length) in values_of(file, outcome) {
+        for (entry, triple) in values_of(file, outcome) {
             if is_free(&entry) {
-                let what = match length {
+                let what = match triple.length {
                     0 => JUDGE_FREE_EMPTY,
                     _ => JUDGE_FREE_FILLED,
                 };

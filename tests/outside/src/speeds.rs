@@ -2,6 +2,7 @@
 
 use crate::judge::{Call, Outcome, BY_HAND};
 use crate::met::{Met, Wanted, JUDGED, JUDGED_AGAIN, JUDGE_9, READ, READ_9, READ_BACK};
+use crate::reference::places::triples_of;
 use crate::reference::tables::{table, GAS};
 
 /// With the mark in the answer; without it; none that could have it.
@@ -39,9 +40,8 @@ pub fn idle_speed<'a>(text: &'a [u8], places: &[u32]) -> &'a [u8] {
     let sections = table(GAS).sections.iter();
     let mut entries = sections.flat_map(|section| &section.entries);
     let at = entries.position(|entry| entry.name == ENTRY);
-    let place = 2 * (table(GAS).first_pair + at.expect("an entry of gas"));
-    let (start, length) = (places[place] as usize, places[place + 1] as usize);
-    &text[start..start + length]
+    let triple = triples_of(GAS, places).nth(at.expect("an entry of gas"));
+    triple.expect("one for each entry").value(text)
 }
 
 /// Notes the speed of an accepted set, or of gas read alone.

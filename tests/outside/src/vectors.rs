@@ -16,9 +16,13 @@ macro_rules! vectors_in {
     };
 }
 
-/// Those after 02, 5/14, which landed last, and those after 4/14, 3/14 and 2/14: all files read alone and writings, and the
-/// sets that hold on. In the accepted ones of these, number 10 was put in for 4/14, and 11 to 14 for 5/14.
-const FILES: [File; 6] = [
+/// Those after 02, 7/14, which landed last, and those after 5/14, 4/14, 3/14 and 2/14: all files read alone and writings,
+/// and the sets that hold on. In the accepted ones of these, number 10 was put in for 4/14, and 11 to 14 for 5/14; in all
+/// places of these, the third numbers for 7/14.
+const FILES: [File; 9] = [
+    vectors_in!("02/7/sets.txt", set_vector),
+    vectors_in!("02/7/reads.txt", read_vector),
+    vectors_in!("02/7/writes.txt", write_vector),
     vectors_in!("02/5/sets.txt", set_vector),
     vectors_in!("02/4/sets.txt", set_vector),
     vectors_in!("02/3/sets.txt", set_vector),

@@ -7,6 +7,7 @@ use std::collections::BTreeSet;
 use mctc::{Asked, Condition, Reason, Test, TESTS};
 use outside::comparison::{column_case, set_case};
 use outside::judge::{make, places_before, Call, Outcome, Reference, Set};
+use outside::reference::places::{triples_of, Triple};
 use outside::reference::tables::{table, AC2, ACC, FILES, GAS, IDENTIFICATION, OPACITY};
 use outside::reference::PLACES;
 
@@ -17,19 +18,13 @@ const SETS: u64 = 20_000;
 /// The values of a file by the implementation's places.
 struct Values<'a> {
     text: &'a [u8],
-    places: Vec<u32>,
-    first: usize,
+    triples: Vec<Triple>,
 }
 
 impl<'a> Values<'a> {
     fn new(file: u32, text: &'a [u8], places: &[u32]) -> Values<'a> {
-        let places = places.to_vec();
-        let first = table(file).first_pair;
-        Values {
-            text,
-            places,
-            first,
-        }
+        let triples = triples_of(file, places).collect();
+        Values { text, triples }
     }
 
     /// A file read alone by the implementation.
@@ -46,9 +41,7 @@ impl<'a> Values<'a> {
     }
 
     fn value(&self, entry: u32) -> &'a [u8] {
-        let at = 2 * (self.first + entry as usize);
-        let (start, length) = (self.places[at] as usize, self.places[at + 1] as usize);
-        &self.text[start..start + length]
+        self.triples[entry as usize].value(self.text)
     }
 }
 
@@ -122,7 +115,8 @@ fn reasons_give_the_due_column() {
             entries.insert((file, entry));
         }
     }
-    assert_eq!(2 * entries.len(), PLACES, "every entry was met");
+    let numbers = Triple::NUMBERS * entries.len();
+    assert_eq!(numbers, PLACES, "every entry was met");
     // NotL and NineStem are of files
     let own = |test: &u32| ![number(Test::NotL), number(Test::NineStem)].contains(test);
     for test in (0..TESTS.len() as u32).filter(own) {
@@ -224,9 +218,12 @@ fn fields_are_gas_values() {
     assert_eq!(different, BTreeSet::from_iter(3..10));
 }
 
-/// Calls that lend nothing but the answer array, by numbers in and out of range.
-fn calls() -> Vec<(bool, u32, Box<dyn Fn(&mut [u32]) -> u32>)> {
-    let mut calls: Vec<(bool, u32, Box<dyn Fn(&mut [u32]) -> u32>)> = Vec::new();
+/// A call that is lent nothing but the answer array.
+type Explaining = Box<dyn Fn(&mut [u32]) -> u32>;
+
+/// Such calls by numbers in and out of range: whether there is what they ask for, and the file of the refusal.
+fn calls() -> Vec<(bool, u32, Explaining)> {
+    let mut calls: Vec<(bool, u32, Explaining)> = Vec::new();
     for file in 0..10 {
         let has_entries = FILES.contains(&file);
         let count = has_entries.then(|| table(file).most_entries() as u32);

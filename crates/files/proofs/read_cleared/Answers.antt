@@ -13,18 +13,18 @@ returns-then-is_empty c = rw c.refused.ensures (cleared-empty _ _ c.args.places.
 pub returns-in_err-read : goal.returns-in_err-read
 returns-in_err-read c =
     let p = err_from_is_err_and c.from_residual.result c.from_residual.ensures.1 in
-    rw (p.1, p.2) (cleared-faulty c.args.file c.args.text.now c.args.places.now (eqb-false _ _ (sym c.if-is_empty.ensures)) c.read_text.new.places c.read_text.new.lines _ c.in_err-read.ensures)
+    rw (p.1, p.2) (cleared-faulty c.args.file c.args.text.now c.args.places.now (eqb-false _ _ (sym c.if-is_empty.ensures)) c.read_text.new.places _ c.in_err-read.ensures)
 
 pub overflow_sub-axles : goal.overflow_sub-axles
-overflow_sub-axles c = omega (arith, c.fixed_section_count.ensures, count-in c.args.file c.args.text.now _ _ _ _ c.in_ok-read.ensures)
+overflow_sub-axles c = omega (arith, c.fixed_section_count.ensures, count-in c.args.file c.args.text.now _ _ _ c.in_ok-read.ensures)
 
 pub is_by_hand-byhand-requires : goal.is_by_hand-byhand-requires
 is_by_hand-byhand-requires c =
-    read_held c.args.file c.args.text.now _ (eqb-false _ _ (sym c.if-is_empty.ensures)) _ _ c.requires.0 c.requires.1 _ c.in_ok-read.ensures _ (ap (λ (k : ℕ). c.in_ok-read.read.sections - k) c.fixed_section_count.ensures)
+    read_held c.args.file c.args.text.now _ (eqb-false _ _ (sym c.if-is_empty.ensures)) _ c.requires.0 c.requires.1 _ c.in_ok-read.ensures _ (ap (λ (k : ℕ). c.in_ok-read.read.sections - k) c.fixed_section_count.ensures)
 
 pub overflow_cast-result : goal.overflow_cast-result
-overflow_cast-result c = omega (arith, count-in c.args.file c.args.text.now _ _ _ _ c.in_ok-read.ensures)
+overflow_cast-result c = omega (arith, count-in c.args.file c.args.text.now _ _ _ c.in_ok-read.ensures)
 
 pub returns : goal.returns
 returns c =
-    cleared-read c.args.file c.args.text.now _ (eqb-false _ _ (sym c.if-is_empty.ensures)) _ _ c.requires.0 c.requires.1 _ c.in_ok-read.ensures _ (ap (λ (k : ℕ). c.in_ok-read.read.sections - k) c.fixed_section_count.ensures) _ c.is_by_hand-byhand.ensures
+    cleared-read c.args.file c.args.text.now _ (eqb-false _ _ (sym c.if-is_empty.ensures)) _ c.requires.0 c.requires.1 _ c.in_ok-read.ensures _ (ap (λ (k : ℕ). c.in_ok-read.read.sections - k) c.fixed_section_count.ensures) _ c.is_by_hand-byhand.ensures

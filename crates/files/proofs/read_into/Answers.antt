@@ -24,16 +24,16 @@ was_err P Q R (Err x) e h p = (x, p, h)
 
 pub write_read-requires : goal.write_read-requires
 write_read-requires c =
-    (c.requires.2.0, text-ready c.args.file c.args.text.now c.requires.2.1 _ _ _ _ c.read_slots.ensures.ready c.requires.0 c.requires.1)
+    (c.requires.1.0, text-ready c.args.file c.args.text.now c.requires.1.1 _ _ _ c.read_slots.ensures.ready c.requires.0)
 
 pub returns-in_err-read : goal.returns-in_err-read
 returns-in_err-read c =
     let p = err_from_is_err_and c.from_residual.result c.from_residual.ensures.1 in
     let m = was_err _ _ (λ r. ReadsSlots c.args.file c.args.text.now (slots_of c.read_slots.new.slots) r) c.read_slots.result c.in_err-read.ensures.variant c.in_err-read.ensures.cases c.read_slots.ensures in
     let k : c.in_err-read.field-0.0 ≡ refusal_with m.0.kind c.args.file m.0.line = search (rules, m.2) in
-    rw (p.1, p.2, k) (text-faulty _ _ c.requires.2.1 _ _ _ c.args.lines.now m.1)
+    rw (p.1, p.2, k) (text-faulty _ _ c.requires.1.1 _ _ _ m.1)
 
 pub returns : goal.returns
 returns c =
     let w = was_ok _ _ (λ r. ReadsSlots c.args.file c.args.text.now (slots_of c.read_slots.new.slots) r) c.read_slots.result c.in_ok-read.ensures.variant c.in_ok-read.ensures.cases c.read_slots.ensures in
-    text-read _ _ c.requires.2.1 _ _ _ _ _ w c.write_read.ensures
+    text-read _ _ c.requires.1.1 _ _ _ _ w c.write_read.ensures

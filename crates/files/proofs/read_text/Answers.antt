@@ -11,7 +11,7 @@ use Rattle.files.proofs.read_text.Goals as goal
 pub returns-then-text-gt-MOST_BYTES : goal.returns-then-text-gt-MOST_BYTES
 returns-then-text-gt-MOST_BYTES c =
     let x = c.args in
-    text-long x.file x.text.now x.places.now x.lines.now c.if-text-gt-MOST_BYTES.true
+    text-long x.file x.text.now x.places.now c.if-text-gt-MOST_BYTES.true
 
 pub write_kinds-requires : goal.write_kinds-requires
 write_kinds-requires c = rows_few c.args.file
@@ -30,4 +30,4 @@ slice_bounds-read_into-end-2 c = simp length-take (omega (arith, c.row_count-n.e
 
 pub read_into-requires : goal.read_into-requires
 read_into-requires c =
-    (c.requires.0, c.requires.1, (kinds-part c.args.file c.row_count-n.result _ c.row_count-n.ensures c.write_kinds.ensures, c.if-text-gt-MOST_BYTES.false, empty-part c.row_count-n.result (row_count (table_of c.args.file)) most_rows c.row_count-n.ensures (rows_few c.args.file)))
+    (c.requires, (kinds-part c.args.file c.row_count-n.result _ c.row_count-n.ensures c.write_kinds.ensures, c.if-text-gt-MOST_BYTES.false, empty-part c.row_count-n.result (row_count (table_of c.args.file)) most_rows c.row_count-n.ensures (rows_few c.args.file)))

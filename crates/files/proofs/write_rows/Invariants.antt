@@ -12,4 +12,4 @@ abbrev pub K : List ℕ → ℕ → List (Option Kind)
 K kinds rows = take rows (map row_kind kinds)
 
 abbrev pub invariant-loop-r : goal.invariant-loop-r
-invariant-loop-r l = Written (K l.kinds l.rows) l.slots l.first l.initial.places l.places l.lines l.e l.r
+invariant-loop-r l = Written (K l.kinds l.rows) l.slots l.first l.initial.places l.places l.k l.r

@@ -6,6 +6,7 @@ use crate::generator::{self, any_axles, join_lines, Size, Values};
 use crate::random::Random;
 use crate::reference::kinds::Kind;
 use crate::reference::lines::{LONGEST_FILE, LONGEST_LINE};
+use crate::reference::places::Triple;
 use crate::reference::tables::{table, FILES};
 
 type Lines = Vec<Vec<u8>>;
@@ -28,6 +29,22 @@ pub fn lines_of(text: &[u8]) -> Lines {
         lines.push(line);
     }
     lines
+}
+
+/// A text with its sections, and the entries of each, in the opposite order.
+pub fn turned(text: &[u8]) -> Vec<u8> {
+    let mut sections: Vec<Lines> = Vec::new();
+    for line in lines_of(text) {
+        match sections.last_mut() {
+            Some(section) if !is_heading(&line) => section.push(line),
+            _ => sections.push(vec![line]),
+        }
+    }
+    for section in &mut sections {
+        section[1..].reverse();
+    }
+    sections.reverse();
+    join_lines(&sections.concat())
 }
 
 fn is_heading(line: &[u8]) -> bool {
@@ -529,11 +546,11 @@ fn line_form(random: &mut Random, _file: u32, lines: &mut Lines) -> Option<()> {
     Some(())
 }
 
-/// A file to be read alone; its values and their pairs, if nothing was changed.
+/// A file to be read alone; its values and where they stand, if nothing was changed.
 pub struct Alone {
     pub file: u32,
     pub text: Vec<u8>,
-    pub lawful: Option<(Values, Vec<u32>)>,
+    pub lawful: Option<(Values, Vec<Triple>)>,
     pub changes: Vec<&'static str>,
 }
 
@@ -542,14 +559,14 @@ pub fn alone(random: &mut Random) -> Alone {
     let mut file = random.pick(PICKED_FILES);
     let axles = any_axles(random, file);
     let values = Values::by_kinds(random, file, axles);
-    let (mut text, pairs) = values.text_and_places(random);
+    let (mut text, triples) = values.text_and_triples(random);
     let mut changes = Vec::new();
     match random.below(100) {
         0..=24 => {
             return Alone {
                 file,
                 text,
-                lawful: Some((values, pairs)),
+                lawful: Some((values, triples)),
                 changes,
             }
         }

@@ -10,6 +10,7 @@ pub mod values;
 pub mod writings;
 
 use crate::random::Random;
+use crate::reference::places::ENTRIES;
 use crate::reference::tables::{AC2, ACC, DRIFT, GAS, OPACITY, SUSPENSION};
 use crate::reference::PLACES;
 
@@ -27,10 +28,13 @@ fn one_of(random: &mut Random, texts: &str) -> Vec<u8> {
     random.pick(&texts).as_bytes().to_vec()
 }
 
+/// The least number of places before 02, 7/14: two for each entry.
+pub const PLACES_BEFORE: usize = 2 * ENTRIES;
+
 /// A length of places: right, too short, or longer.
 pub fn places_length(random: &mut Random) -> usize {
     match random.below(100) {
-        0 => 0,
+        0 => random.pick(&[0, PLACES_BEFORE]),
         1 => random.below(PLACES - 1),
         2..=3 => PLACES - 1,
         4..=6 => PLACES + 1,

@@ -1,10 +1,12 @@
 //! Writings, changed or not.
 
+use super::files::lines_of;
 use super::values::edge_value;
 use super::{places_length, PICKED_FILES, WRONG_FILES};
 use crate::generator::{any_axles, Values};
 use crate::random::Random;
 use crate::reference::kinds::Kind;
+use crate::reference::places::{put_triples, triples, Triple, ENTRIES};
 use crate::reference::tables::{table, FILES};
 
 /// A writing; its values, if nothing was changed.
@@ -23,8 +25,8 @@ pub fn writing(random: &mut Random) -> Writing {
     let mut file = random.pick(PICKED_FILES);
     let axles = any_axles(random, file);
     let values = Values::by_kinds(random, file, axles);
-    let (mut text, mut pairs) = if random.chance(50) {
-        values.text_and_places(random)
+    let (mut text, mut triples) = if random.chance(50) {
+        values.text_and_triples(random)
     } else {
         packed(random, &values)
     };
@@ -33,12 +35,11 @@ pub fn writing(random: &mut Random) -> Writing {
         let kinds: Vec<Kind> = values.kinds().collect();
         for _ in 0..random.pick(&[1, 1, 1, 2, 4]) {
             let at = random.below(kinds.len());
-            let pair = &mut pairs[2 * at..2 * at + 2];
-            changes.push(change_pair(random, kinds[at], &mut text, pair));
+            changes.push(change_pair(random, kinds[at], &mut text, &mut triples[at]));
         }
     }
-    let output_length = output_length(random, file, axles, &pairs);
-    let places = lend_places(random, values.first_place(), &pairs);
+    let output_length = output_length(random, file, axles, &triples);
+    let places = lend_places(random, file, &triples);
     let mut axles = axles as u32;
     if random.chance(8) {
         changes.push("file or axles");
@@ -60,11 +61,71 @@ pub fn writing(random: &mut Random) -> Writing {
     }
 }
 
-/// Values between other bytes, in any order; start and length of each, in entry order.
-fn packed(random: &mut Random, values: &Values) -> (Vec<u8>, Vec<u32>) {
+/// Third numbers that writing ignores (02, 7/14): what becomes of those that are lent.
+#[derive(Clone, Copy, Debug, PartialEq, Eq)]
+pub enum OtherLines {
+    Zero,
+    One,
+    Largest,
+    /// Each is that of the next entry.
+    Swapped,
+    OneMore,
+    /// Behind the last line of the text.
+    PastLast,
+}
+
+impl OtherLines {
+    pub const ALL: [OtherLines; 6] = [
+        OtherLines::Zero,
+        OtherLines::One,
+        OtherLines::Largest,
+        OtherLines::Swapped,
+        OtherLines::OneMore,
+        OtherLines::PastLast,
+    ];
+
+    pub fn name(self) -> &'static str {
+        match self {
+            OtherLines::Zero => "each line 0",
+            OtherLines::One => "each line 1",
+            OtherLines::Largest => "each line the largest number",
+            OtherLines::Swapped => "each line that of the next entry",
+            OtherLines::OneMore => "each line one more",
+            OtherLines::PastLast => "each line past the last",
+        }
+    }
+
+    /// Places with other third numbers, those of other files too, and with other numbers past the least.
+    pub fn put(self, places: &[u32], text: &[u8]) -> Vec<u32> {
+        let last = lines_of(text).len() as u32;
+        let lent: Vec<Triple> = triples(places).take(ENTRIES).collect();
+        let others = (0..lent.len()).map(|at| Triple {
+            line: self.line(&lent, at, last),
+            ..lent[at]
+        });
+        let mut other: Vec<u32> = others.flat_map(Triple::numbers).collect();
+        let past = places[other.len()..].iter();
+        other.extend(past.map(|number| !number));
+        other
+    }
+
+    fn line(self, lent: &[Triple], at: usize, last: u32) -> u32 {
+        match self {
+            OtherLines::Zero => 0,
+            OtherLines::One => 1,
+            OtherLines::Largest => u32::MAX,
+            OtherLines::Swapped => lent[(at + 1) % lent.len()].line,
+            OtherLines::OneMore => lent[at].line.wrapping_add(1),
+            OtherLines::PastLast => last + 1 + at as u32,
+        }
+    }
+}
+
+/// Values between other bytes, in any order; where each stands, in entry order, with any line, since the text has none.
+fn packed(random: &mut Random, values: &Values) -> (Vec<u8>, Vec<Triple>) {
     let values: Vec<&Vec<u8>> = values.all().collect();
     let mut text = Vec::new();
-    let mut pairs = vec![0; 2 * values.len()];
+    let mut triples = vec![Triple::default(); values.len()];
     let mut order: Vec<usize> = (0..values.len()).collect();
     random.shuffle(&mut order);
     for at in order {
@@ -72,38 +133,39 @@ fn packed(random: &mut Random, values: &Values) -> (Vec<u8>, Vec<u32>) {
             let count = random.below(4);
             text.extend(random.bytes(count));
         }
-        pairs[2 * at] = text.len() as u32;
-        pairs[2 * at + 1] = values[at].len() as u32;
+        triples[at] = Triple {
+            start: text.len() as u32,
+            length: values[at].len() as u32,
+            line: random.number() as u32,
+        };
         text.extend(values[at]);
     }
     // An empty value may start anywhere in the text, or at its end.
-    for pair in pairs.chunks_mut(2).filter(|pair| pair[1] == 0) {
-        pair[0] = match random.below(4) {
+    for empty in triples.iter_mut().filter(|triple| triple.length == 0) {
+        empty.start = match random.below(4) {
             0 => 0,
             1 => text.len() as u32,
             _ => random.below(text.len() + 1) as u32,
         };
     }
-    (text, pairs)
+    (text, triples)
 }
 
-/// Places that hold these pairs from number `first` on; the others 0, the largest, or any.
-fn lend_places(random: &mut Random, first: usize, pairs: &[u32]) -> Vec<u32> {
+/// Places that hold these triples of a file; the others 0, the largest, or any.
+fn lend_places(random: &mut Random, file: u32, triples: &[Triple]) -> Vec<u32> {
     let length = places_length(random);
     let mut places = match random.below(3) {
         0 => vec![0; length],
         1 => vec![u32::MAX; length],
         _ => (0..length).map(|_| random.number() as u32).collect(),
     };
-    for (place, number) in places.iter_mut().skip(first).zip(pairs) {
-        *place = *number;
-    }
+    put_triples(&mut places, file, triples.iter().copied());
     places
 }
 
-/// A length near that of the file that these pairs would give.
-fn output_length(random: &mut Random, file: u32, axles: usize, pairs: &[u32]) -> usize {
-    let mut length: usize = pairs.chunks(2).map(|pair| pair[1] as usize).sum();
+/// A length near that of the file that these triples would give.
+fn output_length(random: &mut Random, file: u32, axles: usize, triples: &[Triple]) -> usize {
+    let mut length: usize = triples.iter().map(|triple| triple.length as usize).sum();
     for section in table(file).sections(axles) {
         length += section.heading.len() + 2;
         for entry in &section.entries {
@@ -121,15 +183,19 @@ fn output_length(random: &mut Random, file: u32, axles: usize, pairs: &[u32]) ->
     }
 }
 
-/// Changes one pair, or the bytes that it names; the name of the change.
+/// Changes start and length of one triple, or the bytes that they name; the name of the change.
 fn change_pair(
     random: &mut Random,
     kind: Kind,
     text: &mut Vec<u8>,
-    pair: &mut [u32],
+    triple: &mut Triple,
 ) -> &'static str {
     let end = text.len() as u32;
-    let (start, length) = (pair[0], pair[1]);
+    let Triple {
+        start,
+        length,
+        line,
+    } = *triple;
     let (name, start, length) = match random.below(20) {
         0 => ("ends one past the text", end.saturating_sub(3), 4),
         1 => ("ends with the text", end.saturating_sub(length), length),
@@ -165,7 +231,10 @@ fn change_pair(
             ("value at its edge", end, value.len() as u32)
         }
     };
-    pair[0] = start;
-    pair[1] = length;
+    *triple = Triple {
+        start,
+        length,
+        line,
+    };
     name
 }

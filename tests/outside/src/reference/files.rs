@@ -2,22 +2,15 @@
 
 use super::kinds;
 use super::lines::{line_at, Line, LONGEST_FILE};
+use super::places::{put_triples, Triple};
 use super::tables::{table, Entry, Table, MOST_AXLES};
 use super::Refusal;
-
-/// Where an entry stands: its line, and start and length of its value.
-#[derive(Clone, Copy, Debug)]
-pub struct EntryFound {
-    pub line: u32,
-    pub start: usize,
-    pub length: usize,
-}
 
 /// Where a section stands: its heading's line, and its entries in table order.
 #[derive(Clone, Debug)]
 struct SectionFound {
     line: u32,
-    entries: Vec<Option<EntryFound>>,
+    entries: Vec<Option<Triple>>,
 }
 
 /// What the lines of a file hold.
@@ -35,17 +28,17 @@ pub struct FileRead<'a> {
     /// 02, 4/14: "for each entry line, the place of its name in its section's table, counted from 1", in all.
     pub names_compared: u32,
     /// Sections in table order (axles 1 to the count), entries in table order.
-    sections: Vec<Vec<EntryFound>>,
+    sections: Vec<Vec<Triple>>,
 }
 
 impl<'a> FileRead<'a> {
     /// The value of a found entry.
-    pub fn bytes(&self, found: EntryFound) -> &'a [u8] {
-        &self.text[found.start..found.start + found.length]
+    pub fn bytes(&self, found: Triple) -> &'a [u8] {
+        found.value(self.text)
     }
 
     /// An entry of a fixed section, by its name.
-    pub fn entry(&self, name: &str) -> EntryFound {
+    pub fn entry(&self, name: &str) -> Triple {
         for (section, found) in self.table.sections(0).iter().zip(&self.sections) {
             if let Some(at) = section.entries.iter().position(|entry| entry.name == name) {
                 return found[at];
@@ -69,24 +62,21 @@ impl<'a> FileRead<'a> {
     }
 
     /// The entries of axle 1 to the count.
-    pub fn axle(&self, axle: usize) -> &[EntryFound] {
+    pub fn axle(&self, axle: usize) -> &[Triple] {
         &self.sections[self.table.fixed + axle - 1]
     }
 
     /// All entries in entry order.
-    pub fn entries(&self) -> impl Iterator<Item = (&'static Entry, EntryFound)> + '_ {
+    pub fn entries(&self) -> impl Iterator<Item = (&'static Entry, Triple)> + '_ {
         let sections = self.table.sections(self.axles).iter().zip(&self.sections);
         sections.flat_map(|(section, found)| section.entries.iter().zip(found.iter().copied()))
     }
 
     /// 01, Judging: "for each entry start and length of its value in its file, entries in
-    /// the order above, axles by number".
+    /// the order above, axles by number"; 02, 7/14: and the line on which it stands.
     pub fn fill_places(&self, places: &mut [u32]) {
-        let pairs = self.table.first_pair..;
-        for (pair, (_, found)) in pairs.zip(self.entries()) {
-            places[2 * pair] = found.start as u32;
-            places[2 * pair + 1] = found.length as u32;
-        }
+        let found = self.entries().map(|(_, found)| found);
+        put_triples(places, self.table.file, found);
     }
 }
 
@@ -162,10 +152,11 @@ fn find_lines(table: &Table, text: &[u8]) -> Result<LinesFound, Refusal> {
                 if section.entries[entry].is_some() {
                     return Err(refused(6));
                 }
-                section.entries[entry] = Some(EntryFound {
+                // 02, 7/14: the line, one more than the lines before it.
+                section.entries[entry] = Some(Triple {
+                    start: start as u32,
+                    length: length as u32,
                     line,
-                    start,
-                    length,
                 });
             }
         }
@@ -201,12 +192,12 @@ fn judge_presence(
     table: &Table,
     axles: usize,
     found: &[Option<SectionFound>],
-) -> Result<Vec<Vec<EntryFound>>, Refusal> {
+) -> Result<Vec<Vec<Triple>>, Refusal> {
     let mut sections = Vec::new();
     for section in &found[..table.fixed + axles] {
         let section = section.as_ref().expect("7 is judged before 8");
         let absent = Refusal::new(8, table.file, section.line);
-        let entries: Option<Vec<EntryFound>> = section.entries.iter().copied().collect();
+        let entries: Option<Vec<Triple>> = section.entries.iter().copied().collect();
         sections.push(entries.ok_or(absent)?);
     }
     Ok(sections)

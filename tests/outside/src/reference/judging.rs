@@ -230,7 +230,7 @@ pub fn read_alone(file: u32, text: &[u8], places: &mut [u32]) -> Result<FileAcce
     })
 }
 
-/// 01, row 1: "places too short; they stay (file 0)"; otherwise all pairs are 0 at first.
+/// 01, row 1: "places too short; they stay (file 0)"; otherwise all triples are 0 at first.
 fn clear_places(places: &mut [u32]) -> Result<(), Refusal> {
     if places.len() < PLACES {
         return Err(Refusal::new(1, 0, 0));

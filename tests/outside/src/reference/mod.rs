@@ -1,7 +1,7 @@
-//! Document 01 as a program, in the order of the paper, with the requests of document 02 that have landed: 1/14 to 6/14.
+//! Document 01 as a program, in the order of the paper, with the requests of document 02 that have landed: 1/14 to 7/14.
 //!
 //! - `lines`: line form. - `names`: two names compared. - `kinds`: kinds of value. - `tables`: headings and entries.
-//! - `files`: one file, 3 to 9. - `due`: due entries. - `bookings`: rules of AC2 and ACC.
+//! - `places`: where values stand. - `files`: one file, 3 to 9. - `due`: due entries. - `bookings`: rules of AC2 and ACC.
 //! - `identification`: the identification answer. - `devices`: day numbers, measures and due dates.
 //! - `judging`: a whole set, or one file alone. - `writing`: one file written.
 
@@ -16,11 +16,11 @@ pub mod judging;
 pub mod kinds;
 pub mod lines;
 pub mod names;
+pub mod places;
 pub mod tables;
 pub mod writing;
 
-/// 01, Judging: "at least 278 numbers of 32 bits"; 02, 2/14: with opacity it grows "by two for each entry".
-pub const PLACES: usize = 278 + 2 * 55;
+pub use places::PLACES;
 
 /// 01, Judging: "a refusal that carries its number, file and line (from 1; 0 for none)".
 #[derive(Clone, Copy, Debug, PartialEq, Eq)]

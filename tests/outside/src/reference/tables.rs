@@ -34,8 +34,9 @@ pub struct Section {
 /// One file: its fixed sections, then (drift, suspension) the sections of axles 1 to 9.
 pub struct Table {
     pub file: u32,
-    /// 01, Judging: "files' first pairs at 0, 12, 18, 43, 86"; 02, 2/14: opacity's "start at 139".
-    pub first_pair: usize,
+    /// 01, Judging: "files' first pairs at 0, 12, 18, 43, 86"; 02, 2/14: opacity's "start at 139"; 7/14: "Each pair in
+    /// places becomes three numbers", and "The blocks keep their order".
+    pub first_triple: usize,
     pub fixed: usize,
     pub sections: Vec<Section>,
 }
@@ -62,7 +63,7 @@ impl Table {
     }
 }
 
-/// The name of an entry, numbered from 0 in the order of the file's pairs, and the number of its section.
+/// The name of an entry, numbered from 0 in the order of the file's triples, and the number of its section.
 pub fn entry_name(file: u32, entry: u32) -> Option<(&'static str, u32)> {
     let (entry, section) = entry_of(file, entry)?;
     Some((&entry.name, section))
@@ -159,7 +160,7 @@ fn ac2() -> Table {
     ];
     Table {
         file: AC2,
-        first_pair: 0,
+        first_triple: 0,
         fixed: 1,
         sections: vec![section("[DatiLibrettoVeicolo]", entries)],
     }
@@ -177,7 +178,7 @@ fn acc() -> Table {
     ];
     Table {
         file: ACC,
-        first_pair: 12,
+        first_triple: 12,
         fixed: 1,
         sections: vec![section("[DatiLibrettoVeicolo]", entries)],
     }
@@ -229,7 +230,7 @@ fn drift() -> Table {
     }
     Table {
         file: DRIFT,
-        first_pair: 18,
+        first_triple: 18,
         fixed: 1,
         sections,
     }
@@ -249,7 +250,7 @@ fn suspension() -> Table {
     }
     Table {
         file: SUSPENSION,
-        first_pair: 43,
+        first_triple: 43,
         fixed: 1,
         sections,
     }
@@ -324,7 +325,7 @@ fn gas() -> Table {
     ];
     Table {
         file: GAS,
-        first_pair: 86,
+        first_triple: 86,
         fixed: 2,
         sections: vec![
             section("[AnalisiGas]", entries),
@@ -372,7 +373,7 @@ fn opacity() -> Table {
     entries.extend(from_error_to_operator());
     Table {
         file: OPACITY,
-        first_pair: 139,
+        first_triple: 139,
         fixed: 1,
         sections: vec![section("[AnalisiOpacita]", entries)],
     }

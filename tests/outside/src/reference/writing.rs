@@ -1,10 +1,11 @@
 //! 01, Writing: one file from text, places, file and axle count.
 
 use super::kinds;
+use super::places::{triples_of, Triple};
 use super::tables::{table, Entry, Section, FILES, MOST_AXLES};
 use super::{Refusal, PLACES};
 
-/// An entry to be written: the line that it would have, and its pair.
+/// An entry to be written: the line that it would have, and start and length of its value.
 struct EntryDue<'a> {
     entry: &'a Entry,
     line: u32,
@@ -30,7 +31,7 @@ pub fn write_file(
         return Err(Refusal::new(16, file, 0));
     }
     let sections = table(file).sections(axles as usize);
-    let entries = entries_due(sections, &places[2 * table(file).first_pair..]);
+    let entries = entries_due(sections, triples_of(file, places));
     // 01, row 17: "start plus length of a pair of this file and its axles is above the
     // text's length, for length 0 too".
     for due in &entries {
@@ -78,20 +79,23 @@ fn may_have_axles(file: u32, axles: u32) -> bool {
 }
 
 /// The entries of these sections in table order, each with "the line that the entry would
-/// have" and its pair.
-fn entries_due<'a>(sections: &'a [Section], places: &[u32]) -> Vec<EntryDue<'a>> {
+/// have". 02, 7/14: "Writing ignores the third number."
+fn entries_due(
+    sections: &[Section],
+    mut triples: impl Iterator<Item = Triple>,
+) -> Vec<EntryDue<'_>> {
     let mut entries = Vec::new();
     let mut line = 0;
     for section in sections {
         line += 1;
         for entry in &section.entries {
             line += 1;
-            let pair = entries.len();
+            let Triple { start, length, .. } = triples.next().expect("one for each entry");
             entries.push(EntryDue {
                 entry,
                 line,
-                start: places[2 * pair],
-                length: places[2 * pair + 1],
+                start,
+                length,
             });
         }
     }

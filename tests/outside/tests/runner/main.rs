@@ -1,6 +1,7 @@
 //! The runner itself: it finds the faults of wrong judges, and its calls can be made again.
 
 mod devices;
+mod lines_beside;
 mod look_up;
 mod old_fuel;
 mod opacity;
@@ -10,14 +11,19 @@ use outside::comparison::{
     Amounts, ONE_RUN,
 };
 use outside::devices as met_devices;
-use outside::judge::{make, Arrays, Call, Judge, Reference, BY_HAND, NAMES_COMPARED, SECONDS};
+use outside::judge::{
+    make, Arrays, Call, Judge, Outcome, Reference, BY_HAND, NAMES_COMPARED, SECONDS,
+};
+use outside::lines_beside as met_lines;
 use outside::look_ups;
 use outside::old_fuels;
+use outside::reference::places::Triple;
 use outside::reference::tables::{table, GAS, OPACITY};
 use outside::reference::PLACES;
 use outside::replay;
 
 use devices::Devices;
+use lines_beside::Lines;
 use look_up::LookUp;
 use old_fuel::OldFuel;
 use opacity::Opacity;
@@ -46,6 +52,7 @@ enum Fault {
     OldFuel(OldFuel),
     LookUp(LookUp),
     Devices(Devices),
+    Lines(Lines),
 }
 
 /// A fault in the mark of the idle speed (02, 1/14): where it is set, or whence it is taken.
@@ -214,6 +221,7 @@ impl Judge for Wrong {
             (Fault::Opacity(fault), call) => fault.spoil(call, places, column, answer),
             (Fault::LookUp(fault), call) => fault.spoil(call, places, answer),
             (Fault::Devices(fault), call) => fault.spoil(call, answer),
+            (Fault::Lines(fault), call) => fault.spoil(call, places, output, answer),
             _ => {}
         }
         answer[0]
@@ -334,6 +342,38 @@ fn what_was_not_reached_of_devices_is_missing() {
 }
 
 #[test]
+fn what_was_not_reached_of_lines_is_missing() {
+    let report = run_of(&Reference, NONE).expect("no difference");
+    let missing = report.missing();
+    for line in [
+        "judge 0: never file 1, [DatiLibrettoVeicolo] an entry on line 2",
+        "read 0: never file 4, [SospensioniAsse_9] an entry on the last line",
+        "due 0: never file 5, [AnalisiGasAlimentazione_1] behind another section",
+        "judge 0: never file 3, [Deriva] behind a section that the table has later",
+        "judge 0: never file 7 not given, 0",
+        "due 0: never file 2 given and not read, 0",
+        "read 0: never file 3 without axle 9, 0",
+        "due: never refused, 0",
+        "write: never one place less than the least",
+        "judge: never as many places as before 7/14, too few",
+        "judged again: never file 7 with the same values on other lines",
+        "judged in the opposite order: never file 5 with the same values on other lines",
+        "judge 13: never file 4 at the line that it has read alone",
+        "write: never each line the largest number, answered by 17",
+    ] {
+        assert!(missing.contains(&line.to_string()), "{line}");
+    }
+    let wanted = met_lines::wanted();
+    let never = |(call, what): &(&str, String)| missing.contains(&format!("{call}: never {what}"));
+    // Of sets, files read alone and columns: 25 sections in two places, 22 that can stand behind another, 19 of them behind
+    // a later one, and 16 axles that need not be there. Files not given or not read, and refusals. Numbers of places by four
+    // calls; each file in two orders by four; lines of refusals; six other third numbers with six answers.
+    let read = 3 * (2 * 25 + 22 + 19 + 16) + (5 + 2 * 6 + 2) + 3;
+    assert_eq!(wanted.len(), read + 5 * 4 + 6 * 4 + (6 + 2 + 1 + 4) + 6 * 6);
+    assert!(wanted.iter().all(never));
+}
+
+#[test]
 fn names_compared_are_held_to_the_sum_over_the_sections() {
     let mut accepted = 0;
     for case in (0..50).map(set_case) {
@@ -382,6 +422,46 @@ fn devices_and_lengths_are_held_to_dates_and_times() {
         }
     }
     assert!(accepted > 50 && refused > 5);
+}
+
+#[test]
+fn places_are_held_to_the_texts() {
+    let (mut used, mut unused, mut refused) = (0, 0, 0);
+    let cases = (0..60).flat_map(|seed| [set_case(seed), read_case(seed), column_case(seed)]);
+    for case in cases {
+        let outcome = make(&Reference, &case.call);
+        assert!(met_lines::is_right(&case.call, &outcome));
+        let is_right = |place: usize, number: u32| {
+            let mut places = outcome.places.clone();
+            places[place] = number;
+            let spoilt = Outcome {
+                places,
+                ..outcome.clone()
+            };
+            met_lines::is_right(&case.call, &spoilt)
+        };
+        for place in 0..outcome.places.len() {
+            let number = outcome.places[place];
+            assert!(!is_right(place, number.wrapping_add(1)), "place {place}");
+        }
+        // A line that another entry has, and none.
+        let triples = outcome
+            .places
+            .chunks_exact(Triple::NUMBERS)
+            .take(PLACES / Triple::NUMBERS);
+        for (triple, at) in triples.zip(0..) {
+            let line = Triple::NUMBERS * at + 2;
+            match (outcome.answer[0], triple[0]) {
+                (0, 0) => unused += 1,
+                (0, _) => {
+                    used += 1;
+                    assert!(!is_right(line, 0) && !is_right(line, triple[2] - 1));
+                }
+                _ => refused += 1,
+            }
+        }
+    }
+    assert!(used > 1_000 && unused > 1_000 && refused > 1_000);
 }
 
 #[cfg(feature = "library")]
@@ -464,6 +544,29 @@ fn faults_of_devices_are_found() {
     }
     for fault in devices::FAULTS_OF_OTHER_CALLS {
         assert_found_by_19_or_length(fault, FEW);
+    }
+}
+
+#[test]
+fn faults_of_lines_are_found() {
+    for fault in lines_beside::FAULTS {
+        let call = assert_found(Fault::Lines(fault), FEW);
+        let [right, found] = [
+            make(&Reference, &call),
+            make(&Wrong(Fault::Lines(fault)), &call),
+        ];
+        match fault {
+            Lines::Writing(_) => assert!(matches!(call, Call::Write { .. }), "{fault:?}"),
+            Lines::LeastAsBefore => assert_eq!((right.answer[0], found.answer[0]), (1, 0)),
+            // By the places and nothing else.
+            _ => {
+                assert_eq!(
+                    (&right.answer, &right.column),
+                    (&found.answer, &found.column)
+                );
+                assert_ne!(right.places, found.places, "{fault:?}");
+            }
+        }
     }
 }
 

@@ -1,6 +1,7 @@
 //! Faults in what 02, 2/14 asks.
 
 use outside::judge::{Call, Set, BY_HAND, OPACITY_MARK};
+use outside::reference::places::{first_place, Triple};
 use outside::reference::tables::{table, AC2, IDENTIFICATION, OPACITY};
 use outside::reference::PLACES;
 
@@ -12,7 +13,7 @@ pub enum Opacity {
     AskedOfL,
     AsksForSlice6,
     LeastPlacesAsBefore,
-    PairsOneOff,
+    TriplesOneOff,
     MarkInNumber7,
     NeverMarked,
     NotReadAlone,
@@ -31,7 +32,7 @@ pub const FAULTS: [Opacity; 28] = [
     Opacity::AskedOfL,
     Opacity::AsksForSlice6,
     Opacity::LeastPlacesAsBefore,
-    Opacity::PairsOneOff,
+    Opacity::TriplesOneOff,
     Opacity::MarkInNumber7,
     Opacity::NeverMarked,
     Opacity::NotReadAlone,
@@ -57,9 +58,6 @@ pub const FAULTS: [Opacity; 28] = [
     Opacity::KeptOut("Esito", "I"),
 ];
 
-/// The least number of places before opacity, which is also the number of its first place.
-const FIRST_PLACE: usize = 278;
-
 /// Whether a line of a text behind its heading is this entry with this value.
 fn has(text: &[u8], name: &str, value: &str) -> bool {
     holds(text, &format!("\n{name}={value}\r\n"))
@@ -81,8 +79,9 @@ impl Opacity {
     pub fn spoil(self, call: &Call, places: &mut [u32], column: &mut [u32], answer: &mut [u32]) {
         let accepted = answer[0] == 0;
         match (self, call) {
+            // As many as there are before opacity's.
             (Opacity::LeastPlacesAsBefore, Call::Judge { .. })
-                if answer[0] == 1 && places.len() >= FIRST_PLACE =>
+                if answer[0] == 1 && places.len() >= first_place(OPACITY) =>
             {
                 answer.fill(0);
             }
@@ -121,7 +120,9 @@ impl Opacity {
             Opacity::AsksForSlice6 if has(opacity, "TipoCollegamento", "RS SENZA ESITO") => {
                 refuse(answer, [11, IDENTIFICATION, 0]);
             }
-            Opacity::PairsOneOff => places[FIRST_PLACE..PLACES].rotate_right(2),
+            Opacity::TriplesOneOff => {
+                places[first_place(OPACITY)..PLACES].rotate_right(Triple::NUMBERS);
+            }
             Opacity::MarkInNumber7 => answer.swap(7, OPACITY_MARK),
             Opacity::NeverMarked => answer[OPACITY_MARK] = 0,
             Opacity::MadeDue(name) if has(opacity, name, "") => refuse(answer, [10, OPACITY, 2]),

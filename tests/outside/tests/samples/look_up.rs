@@ -1,6 +1,7 @@
 //! The samples of 02, 4/14: the number of entry names compared.
 
 use outside::judge::{column_before, make, places_before, Call, Reference, Set, NAMES_COMPARED};
+use outside::mutator::files::turned;
 use outside::reference::files::read_file;
 use outside::reference::tables::{
     table, AC2, ACC, DRIFT, FILES, GAS, IDENTIFICATION, OPACITY, SUSPENSION,
@@ -45,23 +46,6 @@ fn without(mut set: Set, files: &[u32]) -> Set {
         set.slice_mut(*file).clear();
     }
     set
-}
-
-/// A text with its sections, and the entries of each, in the opposite order.
-fn turned(text: &[u8]) -> Vec<u8> {
-    let text = std::str::from_utf8(text).expect("a text");
-    let mut sections: Vec<Vec<&str>> = Vec::new();
-    for line in text.split_inclusive('\n') {
-        match sections.last_mut() {
-            Some(section) if !line.starts_with('[') => section.push(line),
-            _ => sections.push(vec![line]),
-        }
-    }
-    for section in &mut sections {
-        section[1..].reverse();
-    }
-    sections.reverse();
-    sections.concat().concat().into_bytes()
 }
 
 /// The texts of the samples, by file.

@@ -2,6 +2,7 @@
 //! samples, the misreadings and the settled readings; then those of document 02.
 
 mod devices;
+mod lines_beside;
 mod look_up;
 mod old_fuel;
 mod opacity;
@@ -12,6 +13,7 @@ use outside::random::Random;
 use outside::reference::bookings::old_fuel;
 use outside::reference::identification::{answer, checksum, fields, SEVEN_ENTRIES};
 use outside::reference::kinds::{drift_hundredths, fits, revs, Kind, Revs};
+use outside::reference::places::first_place;
 use outside::reference::tables::{table, AC2, ACC, DRIFT, FILES, GAS, OPACITY, SUSPENSION};
 use outside::reference::PLACES;
 
@@ -201,6 +203,31 @@ fn judged(set: &Set) -> Outcome {
     judged_with(set, places_before(PLACES))
 }
 
+/// The first entry of each file among those of all files.
+const FIRST_ENTRIES: [(u32, usize); 6] = [
+    (AC2, 0),
+    (ACC, 12),
+    (DRIFT, 18),
+    (SUSPENSION, 43),
+    (GAS, 86),
+    (OPACITY, 139),
+];
+
+/// The three numbers of an entry among the places.
+const START: usize = 0;
+const LENGTH: usize = 1;
+const LINE: usize = 2;
+
+/// The place of a number of an entry, by its number among the entries of all files, from 0.
+fn place(entry: usize, number: usize) -> usize {
+    3 * entry + number
+}
+
+/// Start, length and line of an entry.
+fn triple(places: &[u32], entry: usize) -> [u32; 3] {
+    [START, LENGTH, LINE].map(|number| places[place(entry, number)])
+}
+
 /// Number, file and line of the answer.
 fn refusal(outcome: &Outcome) -> (u32, u32, u32) {
     (outcome.answer[0], outcome.answer[1], outcome.answer[2])
@@ -250,37 +277,32 @@ fn the_sample_is_accepted() {
         places_before(PLACES + 22)[PLACES..]
     );
     // TargaNominale, the start after `=`; CodiceCIC, empty.
-    assert_eq!(outcome.places[..2], [37, 7]);
+    assert_eq!(triple(&outcome.places, 0), [37, 7, 2]);
     let cic = AC2_TEXT.replace('\n', "\r\n").find("CodiceCIC=").unwrap() + 10;
-    assert_eq!(outcome.places[6..8], [cic as u32, 0]);
+    assert_eq!(triple(&outcome.places, 3), [cic as u32, 0, 5]);
     // Drift: axles by number, not as they arrive; axle 3 is not there.
     let axle = |n: usize| {
-        let at = 2 * (18 + 16 + n - 1);
-        let (start, length) = (outcome.places[at] as usize, outcome.places[at + 1] as usize);
-        text(DRIFT_TEXT)[start..start + length].to_vec()
+        let [start, length, line] = triple(&outcome.places, 18 + 16 + n - 1);
+        let end = (start + length) as usize;
+        (text(DRIFT_TEXT)[start as usize..end].to_vec(), line)
     };
-    assert_eq!(axle(1), b"-5.00");
-    assert_eq!(axle(2), b"-0.00");
-    assert_eq!(outcome.places[2 * 36..2 * 43], [0; 14]);
+    assert_eq!(axle(1), (b"-5.00".to_vec(), 21));
+    assert_eq!(axle(2), (b"-0.00".to_vec(), 2));
+    assert_eq!(outcome.places[place(36, 0)..place(43, 0)], [0; 3 * 7]);
 }
 
 #[test]
-fn the_tables_have_the_files_first_pairs() {
-    let mut pair = 0;
-    for (file, first) in [
-        (AC2, 0),
-        (ACC, 12),
-        (DRIFT, 18),
-        (SUSPENSION, 43),
-        (GAS, 86),
-        (OPACITY, 139),
-    ] {
-        assert_eq!(table(file).first_pair, first);
-        assert_eq!(pair, first);
-        pair += table(file).most_entries();
+fn the_tables_have_the_files_first_triples() {
+    let first_places = FIRST_ENTRIES.map(|(file, _)| first_place(file));
+    assert_eq!(first_places, [0, 36, 54, 129, 258, 417]);
+    let mut entries = 0;
+    for (file, first) in FIRST_ENTRIES {
+        assert_eq!(table(file).first_triple, first);
+        assert_eq!(entries, first);
+        entries += table(file).most_entries();
     }
-    assert_eq!(2 * pair, 388);
-    assert_eq!(PLACES, 388);
+    assert_eq!(3 * entries, 582);
+    assert_eq!(PLACES, 582);
 }
 
 #[test]
@@ -432,10 +454,10 @@ fn row_11_acc_with_l() {
     assert_refused(&set, (11, 2, 0));
     set.stem = b"AA912345".to_vec();
     assert_accepted(&set);
-    // Not read, even if too long; its pairs are 0.
+    // Not read, even if too long; its triples are 0.
     set.slices[1] = vec![b'x'; 16_385];
     assert_accepted(&set);
-    assert_eq!(judged(&set).places[24..36], [0; 12]);
+    assert_eq!(judged(&set).places[36..54], [0; 18]);
     set.stem = b"AA192345".to_vec();
     assert_refused(&set, (11, 2, 0));
 }
@@ -533,23 +555,23 @@ fn row_16_file_and_axles() {
 fn row_17_pair_outside() {
     // Start 9, text 8, length 0.
     let mut places = vec![0; PLACES];
-    places[0] = 9;
+    places[START] = 9;
     assert_eq!(
         refusal(&written(&[b'x'; 8], &places, 1, 0, 4000)),
         (17, 1, 2)
     );
-    places[0] = 8;
+    places[START] = 8;
     assert_eq!(written(&[b'x'; 8], &places, 1, 0, 4000).returned, 0);
     // No wrap at 32 bits.
-    places[0] = u32::MAX;
-    places[1] = 1;
+    places[START] = u32::MAX;
+    places[LENGTH] = 1;
     assert_eq!(
         refusal(&written(&[b'x'; 8], &places, 1, 0, 4000)),
         (17, 1, 2)
     );
-    // Pairs of axles past the count are not looked at; the line of axle 2's entry is 21.
+    // Triples of axles past the count are not looked at; the line of axle 2's entry is 21.
     let mut places = vec![0; PLACES];
-    places[2 * (18 + 16 + 1)] = 1;
+    places[place(18 + 16 + 1, START)] = 1;
     assert_eq!(written(b"", &places, 3, 1, 4000).returned, 0);
     assert_eq!(refusal(&written(b"", &places, 3, 2, 4000)), (17, 3, 21));
 }
@@ -579,14 +601,14 @@ fn writing_judges_1_16_17_9_18_in_this_order() {
         refusal(&written(&text, &places[..PLACES - 1], 6, 0, 0)),
         (1, 0, 0)
     );
-    places[2 * 4 + 1] = 7; // DataPrimaImm of seven digits.
-    places[2 * 11] = 1 << 20; // PosAssiStaz outside.
+    places[place(4, LENGTH)] = 7; // DataPrimaImm of seven digits.
+    places[place(11, START)] = 1 << 20; // PosAssiStaz outside.
     assert_eq!(refusal(&written(&text, &places, 1, 1, 0)), (16, 1, 0));
     assert_eq!(refusal(&written(&text, &places, 1, 0, 0)), (17, 1, 13));
-    places[2 * 11] = 0;
-    places[2 * 11 + 1] = 0;
+    places[place(11, START)] = 0;
+    places[place(11, LENGTH)] = 0;
     assert_eq!(refusal(&written(&text, &places, 1, 0, 0)), (9, 1, 6));
-    places[2 * 4 + 1] = 8;
+    places[place(4, LENGTH)] = 8;
     assert_eq!(refusal(&written(&text, &places, 1, 0, 0)), (18, 1, 0));
 }
 
@@ -597,8 +619,8 @@ fn one_file_alone() {
     assert_eq!(refusal(&read(2, b"", PLACES)), (11, 2, 0));
     let outcome = read(2, &acc, PLACES + 2);
     assert_eq!(outcome.answer[..4], [0, 0, 0, 0]);
-    assert_eq!(outcome.places[..24], [0; 24]);
-    assert_eq!(outcome.places[24], 35);
+    assert_eq!(outcome.places[..36], [0; 36]);
+    assert_eq!(outcome.places[36..39], [35, 7, 2]);
     assert_eq!(
         outcome.places[PLACES..],
         places_before(PLACES + 2)[PLACES..]

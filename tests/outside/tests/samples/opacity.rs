@@ -7,8 +7,8 @@ use outside::reference::tables::{table, AC2, ACC, GAS, IDENTIFICATION, OPACITY};
 use outside::reference::PLACES;
 
 use super::{
-    assert_accepted, assert_refused, judged, judged_with, motorcycle, read, refusal, replace,
-    sample, text, written,
+    assert_accepted, assert_refused, judged, judged_with, motorcycle, place, read, refusal,
+    replace, sample, text, triple, written, LENGTH, START,
 };
 
 /// In printed order, so that entry n of 001, 3.3.3.7 stands at line n + 1.
@@ -115,13 +115,14 @@ fn a_diesel_with_opacity_is_accepted() {
     // Axle counts 2 and 1, drift marked; opacity's revs by hand set no mark. The names compared, the lengths.
     let right = [0, 0, 0, 2, 1, 1, 0, 0, 0, 0, 1919, 900, 900, 0, 900, 0];
     assert_eq!(outcome.answer, right);
-    // Pairs 139 to 193: the first and the last entry.
-    assert_eq!(outcome.places[278..280], [34, 2]);
+    // Triples 139 to 193: the first and the last entry.
+    assert_eq!(outcome.places[417..420], [34, 2, 2]);
     let last = text(OPACITY_TEXT).len() as u32 - 3;
-    assert_eq!(outcome.places[386..388], [last, 1]);
-    assert_eq!(outcome.places[388..], places_before(389)[388..]);
-    // Pairs of gas, which is not given.
-    assert_eq!(outcome.places[172..278], [0; 106]);
+    assert_eq!(triple(&outcome.places, 193), [last, 1, 56]);
+    assert_eq!(outcome.places[579..582], [last, 1, 56]);
+    assert_eq!(outcome.places[582..], places_before(583)[582..]);
+    // Triples of gas, which is not given.
+    assert_eq!(outcome.places[258..417], [0; 159]);
 }
 
 #[test]
@@ -401,8 +402,8 @@ fn number_9_stays_with_gas() {
 fn file_7_read_alone_and_written_with_0_axles() {
     let text = text(OPACITY_TEXT);
     let alone = read(OPACITY, &text, PLACES);
-    assert_eq!(alone.places[..278], [0; 278]);
-    assert_eq!(alone.places[278..], judged(&diesel()).places[278..]);
+    assert_eq!(alone.places[..417], [0; 417]);
+    assert_eq!(alone.places[417..], judged(&diesel()).places[417..]);
     let outcome = written(&text, &alone.places, OPACITY, 0, 4000);
     let length = outcome.answer[3] as usize;
     assert_eq!(outcome.output[..length], text[..]);
@@ -412,13 +413,13 @@ fn file_7_read_alone_and_written_with_0_axles() {
     );
     // 17 and 9 with the line that the entry would have.
     let mut places = alone.places.clone();
-    places[2 * (139 + 14)] = u32::MAX;
+    places[place(139 + 14, START)] = u32::MAX;
     assert_eq!(
         refusal(&written(&text, &places, OPACITY, 0, 4000)),
         (17, 7, 16)
     );
     let mut places = alone.places;
-    places[2 * (139 + 14) + 1] = 3;
+    places[place(139 + 14, LENGTH)] = 3;
     assert_eq!(
         refusal(&written(&text, &places, OPACITY, 0, 4000)),
         (9, 7, 16)

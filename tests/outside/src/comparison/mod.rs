@@ -1,5 +1,9 @@
 //! Generated calls, made by a judge and by the reference and compared: the answer, every
 //! place, every number of a column, every output byte.
+//!
+//! - `lines`: what is asked of the lines beside values.
+
+mod lines;
 
 use crate::devices;
 use crate::generator::{self, Record};
@@ -10,15 +14,21 @@ use crate::judge::{
 use crate::look_ups;
 use crate::met::{JUDGED_AGAIN, READ_BACK};
 use crate::mutator;
+use crate::mutator::writings::OtherLines;
 use crate::random::Random;
+use crate::reference::places::{is_read, put_triples, triples_of, Triple};
 use crate::reference::tables::{
-    entry_name, entry_word, heading_name, table, DRIFT, FILES, GAS, OPACITY, RESULT_FILES,
-    SUSPENSION,
+    entry_name, entry_word, heading_name, DRIFT, FILES, GAS, OPACITY, RESULT_FILES, SUSPENSION,
 };
 use crate::reference::PLACES;
 use crate::replay::to_text;
 use crate::report::Report;
 use crate::speeds::idle_speed;
+
+use lines::{
+    check_places, compare_orders, compare_other_lines, compare_refused_line, compare_turned,
+    written_lines,
+};
 
 /// How many calls of each sort are generated.
 #[derive(Clone, Copy)]
@@ -55,6 +65,9 @@ const OTHER_ANSWERS: u64 = 500;
 /// One accepted set in so many is written anew and judged again.
 const REWRITTEN: u64 = 5;
 
+/// One accepted set, file read alone or column in so many is made again with its lines in the opposite order.
+const TURNED: u64 = 5;
+
 const FIRST_SET: u64 = 1 << 40;
 const FIRST_READ: u64 = 2 << 40;
 const FIRST_WRITE: u64 = 3 << 40;
@@ -68,6 +81,18 @@ pub struct Case {
     pub changes: Vec<&'static str>,
     /// What the generator itself says that it must give, where it knows.
     pub known: Option<Outcome>,
+}
+
+impl Case {
+    /// A call that follows from this case.
+    fn further(&self, call: Call, change: &'static str) -> Case {
+        Case {
+            seed: self.seed,
+            call,
+            changes: vec![change],
+            known: None,
+        }
+    }
 }
 
 /// An acceptance with the values from [3] on; what stands at a number of its own is 0.
@@ -128,10 +153,9 @@ pub fn read_case(seed: u64) -> Case {
     let alone = mutator::files::alone(&mut random);
     let places = places_before(mutator::places_length(&mut random));
     let known = match &alone.lawful {
-        Some((values, pairs)) if places.len() >= PLACES => {
+        Some((values, triples)) if places.len() >= PLACES => {
             let mut first = vec![0; PLACES];
-            let at = values.first_place();
-            first[at..at + pairs.len()].copy_from_slice(pairs);
+            put_triples(&mut first, values.file, triples.iter().copied());
             let after = places_after(&places, &first);
             let mut known = accepted(&[values.axles as u32], after, Vec::new());
             known.answer[BY_HAND] = u32::from(values.by_hand());
@@ -333,6 +357,7 @@ pub fn compare(subject: &dyn Judge, case: &Case) -> Result<Outcome, String> {
             ));
         }
     }
+    check_places(case, &right)?;
     Ok(right)
 }
 
@@ -373,8 +398,8 @@ fn compare_other_answers(subject: &dyn Judge, case: &Case) -> Result<(), String>
     Ok(())
 }
 
-/// 01, Writing: "By this call a written file reads back", with the same values and so with the
-/// mark of the idle speed that was written (02, 1/14).
+/// 01, Writing: "By this call a written file reads back", with the same values, each on the line that it has in the
+/// table's order, and so with the mark of the idle speed that was written (02, 1/14).
 fn compare_read_back(
     subject: &dyn Judge,
     report: &mut Report,
@@ -392,16 +417,12 @@ fn compare_read_back(
         return Ok(());
     };
     let written = &outcome.output[..outcome.answer[3] as usize];
-    let again = Case {
-        seed: case.seed,
-        call: Call::Read {
-            file: *file,
-            text: written.to_vec(),
-            places: places_before(PLACES),
-        },
-        changes: vec!["read after write"],
-        known: None,
+    let call = Call::Read {
+        file: *file,
+        text: written.to_vec(),
+        places: places_before(PLACES),
     };
+    let again = case.further(call, "read after write");
     let read = compare(subject, &again)?;
     let wrong = |what: &str| {
         let name = subject.name();
@@ -410,14 +431,13 @@ fn compare_read_back(
     if !read.accepted() || read.answer[3] != *axles {
         return wrong("a written file does not read back");
     }
-    for at in 0..table(*file).entry_count(*axles as usize) {
-        let place = 2 * (table(*file).first_pair + at);
-        let value = |bytes: &[u8], places: &[u32]| {
-            let (start, length) = (places[place] as usize, places[place + 1] as usize);
-            bytes[start..start + length].to_vec()
-        };
-        if value(text, places) != value(written, &read.places) {
+    let lent = triples_of(*file, places).zip(triples_of(*file, &read.places));
+    for (line, (before, after)) in written_lines(*file, *axles as usize).zip(lent) {
+        if before.value(text) != after.value(written) {
             return wrong("a value read back differs");
+        }
+        if after.line != line {
+            return wrong("a line read back is not that of the table's order");
         }
     }
     let by_hand = *file == GAS && idle_speed(text, places).starts_with(b"#");
@@ -430,7 +450,7 @@ fn compare_read_back(
 }
 
 /// The files of an accepted set written from its places: the set of the written files is
-/// accepted with the same answer, all marks and the names compared included.
+/// accepted with the same answer, all marks and the names compared included, and the same values.
 fn compare_rewritten(
     subject: &dyn Judge,
     report: &mut Report,
@@ -441,51 +461,34 @@ fn compare_rewritten(
         return Ok(());
     };
     let mut rewritten = set.clone();
-    for file in FILES {
-        // No pairs of a file that was not read.
-        let first = 2 * table(file).first_pair;
-        if outcome.places[first] == 0 {
-            continue;
-        }
-        let writing = Case {
-            seed: case.seed,
-            call: Call::Write {
-                text: set.slice(file).to_vec(),
-                places: outcome.places.clone(),
-                file,
-                axles: match file {
-                    DRIFT => outcome.answer[3],
-                    SUSPENSION => outcome.answer[4],
-                    _ => 0,
-                },
-                output: vec![OUTPUT_BEFORE; set.slice(file).len()],
-            },
-            changes: vec!["file of an accepted set"],
-            known: None,
+    for file in FILES
+        .into_iter()
+        .filter(|file| is_read(*file, &outcome.places))
+    {
+        let call = Call::Write {
+            text: set.slice(file).to_vec(),
+            places: outcome.places.clone(),
+            file,
+            axles: outcome.axles(file),
+            output: vec![OUTPUT_BEFORE; set.slice(file).len()],
         };
-        let written = compare(subject, &writing)?;
+        let written = compare(subject, &case.further(call, "file of an accepted set"))?;
         let slice = rewritten.slice_mut(file);
         *slice = written.output[..written.answer[3] as usize].to_vec();
     }
-    let again = Case {
-        seed: case.seed,
-        call: Call::Judge {
-            set: rewritten,
-            places: places_before(PLACES),
-        },
-        changes: vec!["all files written"],
-        known: None,
+    let call = Call::Judge {
+        set: rewritten,
+        places: places_before(PLACES),
     };
+    let again = case.further(call, "all files written");
     let judged = compare(subject, &again)?;
-    if judged.answer != outcome.answer {
-        let name = subject.name();
-        return Err(difference(
-            "the set of the written files has another answer",
-            &again,
-            (name, &judged),
-            (name, outcome),
-        ));
-    }
+    compare_orders(
+        subject,
+        report,
+        JUDGED_AGAIN,
+        (case, outcome),
+        (&again, &judged),
+    )?;
     report.meet(JUDGED_AGAIN, &again.call, &judged);
     report.meet_rewritten(set, outcome);
     report.rewritten += 1;
@@ -510,16 +513,23 @@ fn check_set(case: &Case, outcome: &Outcome) -> Result<(), String> {
     Err(difference(wrong, case, both, both))
 }
 
+/// The first entry of a file, in entry order, that is not filled or empty as its accepted column says.
+fn first_not_as_due(file: u32, outcome: &Outcome) -> Option<Triple> {
+    let column = &outcome.column[..outcome.answer[4] as usize];
+    let mut entries = column.iter().zip(triples_of(file, &outcome.places));
+    let disagrees = |(due, triple): &(&u32, Triple)| match triple.length {
+        0 => **due == 1,
+        _ => **due == 2,
+    };
+    entries.find(disagrees).map(|(_, triple)| triple)
+}
+
 /// In a lawful file each entry is filled or empty as the column says.
 fn check_column_of_lawful(case: &Case, outcome: &Outcome) -> Result<(), String> {
     let Call::Due { file, .. } = &case.call else {
         return Ok(());
     };
-    let first = table(*file).first_pair;
-    let pairs = outcome.places[2 * first..].chunks(2);
-    let column = &outcome.column[..outcome.answer[4] as usize];
-    let agrees = |(due, pair): (&u32, &[u32])| *due == if pair[1] > 0 { 1 } else { 2 } || *due == 3;
-    if column.iter().zip(pairs).all(agrees) {
+    if first_not_as_due(*file, outcome).is_none() {
         return Ok(());
     }
     let name = Reference.name();
@@ -532,18 +542,22 @@ fn check_column_of_lawful(case: &Case, outcome: &Outcome) -> Result<(), String> 
     ))
 }
 
-/// Makes the cases of one sort, with answer arrays of other lengths too; `then` looks at each outcome.
+/// Makes the cases of one sort, with answer arrays of other lengths too; `then` looks at each outcome, given the number of
+/// its case.
 fn run_sort(
     subject: &dyn Judge,
     report: &mut Report,
     cases: impl Iterator<Item = Case>,
-    mut then: impl FnMut(&mut Report, &Case, &Outcome) -> Result<(), String>,
+    mut then: impl FnMut(&mut Report, u64, &Case, &Outcome) -> Result<(), String>,
 ) -> Result<(), String> {
     for (case, at) in cases.zip(0..) {
         let outcome = compare(subject, &case)?;
         report.add(&case.call, outcome.refusal());
         report.add_values(&case.call, &outcome);
-        then(report, &case, &outcome)?;
+        then(report, at, &case, &outcome)?;
+        if outcome.accepted() && at % TURNED == 0 {
+            compare_turned(subject, report, &case, &outcome)?;
+        }
         if at < OTHER_ANSWERS {
             compare_other_answers(subject, &case)?;
         }
@@ -555,26 +569,26 @@ fn run_sort(
 pub fn run_of(subject: &dyn Judge, amounts: Amounts) -> Result<Report, String> {
     let mut report = Report::default();
     let sets = (0..amounts.sets).map(|at| set_case(FIRST_SET + at));
-    let mut at = 0;
-    run_sort(subject, &mut report, sets, |report, case, outcome| {
+    run_sort(subject, &mut report, sets, |report, at, case, outcome| {
         check_set(case, outcome)?;
+        compare_refused_line(subject, report, case, outcome)?;
         if outcome.accepted() && at % REWRITTEN == 0 {
             compare_rewritten(subject, report, case, outcome)?;
         }
-        at += 1;
         Ok(())
     })?;
     let reads = (0..amounts.reads).map(|at| read_case(FIRST_READ + at));
-    run_sort(subject, &mut report, reads, |_, _, _| Ok(()))?;
+    run_sort(subject, &mut report, reads, |_, _, _, _| Ok(()))?;
     let writes = (0..amounts.writes).map(|at| write_case(FIRST_WRITE + at));
-    run_sort(subject, &mut report, writes, |report, case, outcome| {
+    run_sort(subject, &mut report, writes, |report, at, case, outcome| {
         if outcome.accepted() {
             compare_read_back(subject, report, case, outcome)?;
         }
-        Ok(())
+        let lines = OtherLines::ALL[at as usize % OtherLines::ALL.len()];
+        compare_other_lines(subject, report, case, outcome, lines)
     })?;
     let columns = (0..amounts.columns).map(|at| column_case(FIRST_COLUMN + at));
-    run_sort(subject, &mut report, columns, |report, case, outcome| {
+    run_sort(subject, &mut report, columns, |report, _, case, outcome| {
         if outcome.accepted() {
             report.add_column(&case.call, outcome);
             if case.changes.is_empty() {
@@ -584,7 +598,7 @@ pub fn run_of(subject: &dyn Judge, amounts: Amounts) -> Result<Report, String> {
         Ok(())
     })?;
     for cases in [name_cases(), kind_cases(), word_cases()] {
-        run_sort(subject, &mut report, cases.into_iter(), |_, _, _| Ok(()))?;
+        run_sort(subject, &mut report, cases.into_iter(), |_, _, _, _| Ok(()))?;
     }
     Ok(report)
 }
