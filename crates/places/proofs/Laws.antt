@@ -7,20 +7,21 @@ use lib.Seq.{get_or-set_same, get_or-set_other, drop-set-lt, take_at, drop_at, d
 use lib.ListN.{length, get_or, set, take, drop, replicate, replicate-append-replicate, length-set, length-append, length-replicate, length-drop, length-map, get_or-eq_default}
 use Rattle.places.specs.Places.{place_size, Pair, start_of, length_of, line_of, set_triple, set_triples, pairs_at, lines_at, value_at, values_at, cleared, SamePairs}
 
--- the numbers of a triple are one after the other, and there are no others
+-- as many places as before
 triple-length : (k : ℕ) (x : Pair) (l : ℕ) (p : List ℕ) → length (set_triple k x l p) ≡ length p
 triple-length k x l p =
     length-set (set (set p (place_size * k) x.0) (place_size * k + 1) x.1) (place_size * k + 2) l
     ∙ length-set (set p (place_size * k) x.0) (place_size * k + 1) x.1
     ∙ length-set p (place_size * k) x.0
 
--- a number that is none of them stays
+-- a number that is none of the triple's stays
 triple-other : (k : ℕ) (x : Pair) (l : ℕ) (p : List ℕ) (j : ℕ) → ¬ (j ≡ place_size * k) → ¬ (j ≡ place_size * k + 1) → ¬ (j ≡ place_size * k + 2) → get_or (set_triple k x l p) j 0 ≡ get_or p j 0
 triple-other k x l p j a b c =
     get_or-set_other (set (set p (place_size * k) x.0) (place_size * k + 1) x.1) (place_size * k + 2) j l 0 c
     ∙ get_or-set_other (set p (place_size * k) x.0) (place_size * k + 1) j x.1 0 b
     ∙ get_or-set_other p (place_size * k) j x.0 0 a
 
+-- and these are its three
 triple-start : (k : ℕ) (x : Pair) (l : ℕ) (p : List ℕ) → place_size * (k + 1) ≤ length p → start_of (set_triple k x l p) k ≡ x.0
 triple-start k x l p h =
     get_or-set_other (set (set p (place_size * k) x.0) (place_size * k + 1) x.1) (place_size * k + 2) (place_size * k) l 0 (λ q. omega arith)
