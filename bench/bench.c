@@ -1,6 +1,7 @@
 /* Measures one call on one set: judging by libmctc.a, or parsing by inih or by GLib's GKeyFile.
  *
- *     bench check SET          prints the sixteen numbers of mctc_judge's answer, then a sum over the places
+ *     bench check SET          prints the sixteen numbers of mctc_judge's answer, then a sum over the places; then those of
+ *                              mctc_join's on the drift file, taken twice, and a sum over the output
  *     bench parsers SET        prints for each file what ini_parse_string returns, 0 or the first line that it finds
  *                              wrong, then what g_key_file_load_from_data returns, 1 or 0 for a wrong file
  *     bench time WHAT SET      prints the nanoseconds of one call, the least of ROUNDS averages
@@ -12,7 +13,8 @@
  *     inih           ini_parse_string on each file that is given, but the identification answer
  *     gkeyfile       GKeyFile made, loaded and freed for each of these
  *
- * and with -gas or -opacity behind it that file alone: mctc_read in place of judging.
+ * and with -gas or -opacity behind it that file alone: mctc_read in place of judging. With -join the drift file twice:
+ * mctc_join in place of judging.
  */
 #include <glib.h>
 #include <ini.h>
@@ -26,6 +28,9 @@
 
 /* Longer than any file of a set; one byte is left for the zero that ini_parse_string needs. */
 #define ROOM 20000
+
+/* Longer than any joined file. */
+#define JOINED_ROOM 2000
 
 #define ROUNDS 20
 #define ROUND_NANOSECONDS 10000000.0
@@ -44,6 +49,7 @@ static const char *const names[TEXTS] = {"stem", "ac2",            "acc",    "dr
 static struct text texts[TEXTS];
 static uint32_t places[MCTC_PLACES_SIZE];
 static uint32_t answer[MCTC_ANSWER_SIZE];
+static uint8_t output[JOINED_ROOM];
 
 /* How many entries inih has handed over. */
 static size_t found;
@@ -109,6 +115,13 @@ static void read_opacity(void)
     read_text(OPACITY);
 }
 
+static void join(void)
+{
+    mctc_join(bytes(DRIFT), texts[DRIFT].length,
+              bytes(DRIFT), texts[DRIFT].length,
+              output, JOINED_ROOM, answer, MCTC_ANSWER_SIZE);
+}
+
 /* The least that inih lets a caller do with an entry. */
 static int count_entry(void *user, const char *section, const char *name, const char *value)
 {
@@ -130,6 +143,12 @@ static void inih_gas(void)
 static void inih_opacity(void)
 {
     inih_text(OPACITY);
+}
+
+static void inih_join(void)
+{
+    inih_text(DRIFT);
+    inih_text(DRIFT);
 }
 
 /* A file that is not given is left out, here and below. */
@@ -158,6 +177,12 @@ static void gkeyfile_opacity(void)
     gkeyfile_text(OPACITY);
 }
 
+static void gkeyfile_join(void)
+{
+    gkeyfile_text(DRIFT);
+    gkeyfile_text(DRIFT);
+}
+
 static void gkeyfile(void)
 {
     for (int i = 0; i < TEXTS; i++)
@@ -175,12 +200,15 @@ static call *call_of(const char *what)
     } calls[] = {{"judge", judge},
                  {"read-gas", read_gas},
                  {"read-opacity", read_opacity},
+                 {"join", join},
                  {"inih", inih},
                  {"inih-gas", inih_gas},
                  {"inih-opacity", inih_opacity},
+                 {"inih-join", inih_join},
                  {"gkeyfile", gkeyfile},
                  {"gkeyfile-gas", gkeyfile_gas},
-                 {"gkeyfile-opacity", gkeyfile_opacity}};
+                 {"gkeyfile-opacity", gkeyfile_opacity},
+                 {"gkeyfile-join", gkeyfile_join}};
     for (size_t i = 0; i < sizeof calls / sizeof *calls; i++)
         if (strcmp(what, calls[i].what) == 0)
             return calls[i].call;
@@ -226,12 +254,23 @@ static void print_time(call *call)
 
 static void print_answer(void)
 {
-    judge();
     for (int i = 0; i < MCTC_ANSWER_SIZE; i++)
         printf("%u ", answer[i]);
+}
+
+static void print_answers(void)
+{
+    judge();
+    print_answer();
     uint32_t sum = 0;
     for (int i = 0; i < MCTC_PLACES_SIZE; i++)
         sum = sum * 31 + places[i];
+    printf("%u ", sum);
+    join();
+    print_answer();
+    sum = 0;
+    for (int i = 0; i < JOINED_ROOM; i++)
+        sum = sum * 31 + output[i];
     printf("%u\n", sum);
 }
 
@@ -239,7 +278,7 @@ int main(int count, char **words)
 {
     if (count == 3 && strcmp(words[1], "check") == 0) {
         load(words[2]);
-        print_answer();
+        print_answers();
     } else if (count == 3 && strcmp(words[1], "parsers") == 0) {
         load(words[2]);
         for (int i = 0; i < TEXTS; i++)

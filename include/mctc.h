@@ -1,5 +1,5 @@
-/* The judge of MCTCNet2 test sets: a whole set judged, one file read, one file written, names of entries and headings,
- * the kinds of entries and their words, the due column of one file, and what the judge goes by.
+/* The judge of MCTCNet2 test sets: a whole set judged, one file read, one file written, two drift files joined, names of
+ * entries and headings, the kinds of entries and their words, the due column of one file, and what the judge goes by.
  *
  * Linked from libmctc.a. Every function answers for whatever bytes and numbers it is lent, keeps no state, allocates
  * nothing and always returns.
@@ -53,11 +53,12 @@
  * Answer: at least 16 numbers, of which the first 16 are all set.
  *
  *     number   acceptance                         refusal
- *     0        0                                  1 to 19, below
- *     1        0                                  file, 0 for none
+ *     0        0                                  1 to 21, below
+ *     1        0                                  file, 0 for none; join: 1 or 2 for the input
  *     2        0                                  line from 1, 0 for none
  *     3        judge: axles of drift              0
- *              read, due: axles; write: length
+ *              read, due: axles
+ *              write, join: length
  *              names, word: length
  *     4        judge: axles of suspension         0
  *              names, word: heading; due: entries
@@ -142,6 +143,9 @@ extern "C" {
 #define MCTC_LONGEST_HEADING 27
 #define MCTC_LONGEST_WORD 14
 
+/* How many bytes the longest file that mctc_join writes has: room for any joined file. */
+#define MCTC_JOINED_MOST 1401
+
 /* Returned where the answer has fewer than 16 numbers. */
 #define MCTC_ANSWER_TOO_SHORT UINT32_C(4294967295)
 
@@ -170,7 +174,8 @@ extern "C" {
 #define MCTC_WRONG_KIND 9
 /* A value is filled and not due, or due and empty: its line. */
 #define MCTC_NOT_AS_DUE 10
-/* A slice is missing or not due, or ACC is given with category L and a stem whose first digit is not 9: line 0. */
+/* A slice is missing or not due, or ACC is given with category L and a stem whose first digit is not 9: line 0. From
+ * mctc_read, mctc_due and mctc_join: a text, or an input, is empty. */
 #define MCTC_SLICE_NOT_AS_DUE 11
 /* A rule of the bookings. AC2: the line of TipoVeicolo or AzionamentoFrenoStazionamento; ACC: of the rule's entry. */
 #define MCTC_BOOKING_RULE 12
@@ -185,11 +190,17 @@ extern "C" {
 #define MCTC_FILE_OR_AXLES 16
 /* Start plus length of a pair is above the text's length: the line that the entry would have. */
 #define MCTC_PAIR_OUTSIDE 17
-/* The output is too short, or the column: line 0. */
+/* The output is too short, or the column: line 0; from mctc_join file 0 too. */
 #define MCTC_OUTPUT_TOO_SHORT 18
 /* A device is out of date on the day on which the measure ends: the line of its due date, the first such one in the
  * order of the file's table. It comes after 10 and before 13 of the same file. */
 #define MCTC_DEVICE_OUT_OF_DATE 19
+/* The [Deriva] sections of two drift files differ in another entry than InizioMisura and FineMisura: file 2, the line of
+ * the first such entry, in the order of the file's table, in the second input. Either input may be the one that is
+ * wrong. */
+#define MCTC_HEADINGS_DISAGREE 20
+/* Two drift files have more than nine axles together: file 0, line 0. */
+#define MCTC_TOO_MANY_AXLES 21
 
 /* Judges a whole set: the stem of its files and seven slices, each empty where it is not given, in the order of the
  * files' numbers. Refuses with 1 to 15, 19, in this order: 1, 2, then file by file in the order of their numbers, each
@@ -237,6 +248,32 @@ uint32_t mctc_write(const uint8_t *text, size_t text_length,
                     uint32_t file, uint32_t axles,
                     uint8_t *output, size_t output_length,
                     uint32_t *answer, size_t answer_length);
+
+/* Joins two drift files of one truck, which was measured in two parts, into one. The values of their [Deriva] sections
+ * must be the same bytes in fourteen entries: all but InizioMisura and FineMisura, so in Note, CodErrore and DataMisura
+ * too. An empty value and a filled one differ.
+ *
+ * The joined file has these fourteen values, the first input's InizioMisura, the second's FineMisura, and the axles of
+ * both: the first's with their own numbers, then the second's, numbered on. The axles of each file are numbered from 1,
+ * those of the second input too: numbered on already they are refused with 7. The joined file is written as mctc_write
+ * writes drift, and has at most MCTC_JOINED_MOST bytes. The order of sections and entries in the inputs changes no byte of
+ * it, and it passes 3 to 10.
+ *
+ * Refuses, in this order: the first input with 11 where it is empty, then 3 to 10, as drift in a set; the second input
+ * likewise; 20; 21; 18. A refusal 3 to 11 carries as its file the number of the input, 1 or 2, and the line there; 20
+ * carries 2, and the line in the second input; 21 and 18 carry file 0 and line 0.
+ *
+ * No due date is looked at: DataScadenza is only compared, and InizioMisura and FineMisura of both inputs may be in any
+ * order. The joined file is held to its due date when it comes in a set. Its measure begins at the first input's
+ * InizioMisura and ends at the second's FineMisura, on the next day where that is below; so a set with the joined file may
+ * be refused with 19 where neither input would be.
+ *
+ * Accepted: answer 3 is the length of the joined file; output bytes past it stay. Refused: the output stays. No places
+ * are lent. The inputs may be the same array, or overlap. */
+uint32_t mctc_join(const uint8_t *first, size_t first_length,
+                   const uint8_t *second, size_t second_length,
+                   uint8_t *output, size_t output_length,
+                   uint32_t *answer, size_t answer_length);
 
 /* Copies the name of a file's entry, by its number. Refuses, in this order, with 16 where there is no such file or
  * entry, 18 where the output is shorter than the name. A refusal carries the file as handed in and line 0.

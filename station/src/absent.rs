@@ -4,14 +4,16 @@ use mctc::{Asked, Due};
 
 use crate::case::{Case, Refused};
 use crate::edit::{Action, Edit};
+use crate::explain::Subject;
 use crate::finding::Finding;
+use crate::misnumbered;
 use crate::reasons::Why;
 use crate::shown::listed;
 use crate::table::{self, Entry};
 use crate::words;
 
 /// Refusal 7.
-pub fn section(refused: &Refused) -> Option<Finding> {
+pub fn section(refused: &Refused, subject: Option<&Subject>) -> Option<Finding> {
     let (_, missing) = table::missing_section(refused.refusal.file, refused.text())?;
     let heading = missing.heading;
     let names: Vec<&str> = missing
@@ -20,13 +22,17 @@ pub fn section(refused: &Refused) -> Option<Finding> {
         .map(|entry| entry.name.as_str())
         .collect();
     let sections = table::sections(refused.refusal.file);
-    let axles = match table::axles_like(&sections, heading.as_bytes()).as_slice() {
-        [] => "",
-        _ => "; axles count from 1 without a gap",
-    };
-    let finding = Finding::default().meaning(format!("{}: {heading}", words::meaning(7)));
-    let names = shortened(&names);
-    Some(finding.advice(format!("add {heading} with its entries ({names}){axles}")))
+    let axles = table::axles_like(&sections, heading.as_bytes());
+    let add = format!("add {heading} with its entries ({})", shortened(&names));
+    let finding = misnumbered::finding(refused, subject, &heading, &axles, &add);
+    let finding = finding.unwrap_or_else(|| {
+        let count = match axles.as_slice() {
+            [] => "",
+            _ => "; axles count from 1 without a gap",
+        };
+        Finding::default().advice(add + count)
+    });
+    Some(finding.meaning(format!("{}: {heading}", words::meaning(7))))
 }
 
 /// The names, or the first and how many more.

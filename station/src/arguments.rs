@@ -48,6 +48,12 @@ pub enum Command {
         path: PathBuf,
         new: Option<PathBuf>,
     },
+    Join {
+        /// The first before the second.
+        files: [PathBuf; 2],
+        new: Option<PathBuf>,
+        json: bool,
+    },
 }
 
 pub fn parse(words: &[OsString]) -> Result<Command, Trouble> {
@@ -75,7 +81,7 @@ fn grammar(name: &OsStr) -> Result<&'static Grammar, Trouble> {
     })
 }
 
-const GRAMMARS: [Grammar; 6] = [JUDGE, DUE, EXPLAIN, RULES, READ, FORMAT];
+const GRAMMARS: [Grammar; 7] = [JUDGE, DUE, EXPLAIN, RULES, READ, FORMAT, JOIN];
 
 /// A subcommand: the options that it knows, and what is made of its words.
 struct Grammar {
@@ -140,6 +146,16 @@ const FORMAT: Grammar = Grammar {
     flag: Some("--mend"),
     make: format,
     ..READ
+};
+
+const JOIN: Grammar = Grammar {
+    name: "join",
+    help: help::JOIN,
+    json: true,
+    file: false,
+    flag: None,
+    make: join,
+    ..FORMAT
 };
 
 /// The words behind a subcommand, sorted.
@@ -302,6 +318,20 @@ fn format(given: Given) -> Result<Command, Trouble> {
         };
     }
     Ok(Command::Format { input, new })
+}
+
+fn join(given: Given) -> Result<Command, Trouble> {
+    let files = exactly(given.words, "two drift files, the first before the second")?;
+    let (new, json) = (given.output.map(PathBuf::from), given.json);
+    if json && new.is_none() {
+        let why = "--json needs --output NEW, as without it the joined file itself goes to standard output";
+        return Err(Trouble(why.to_string()));
+    }
+    Ok(Command::Join {
+        files: files.map(PathBuf::from),
+        new,
+        json,
+    })
 }
 
 fn folder_and_stem(words: Vec<OsString>, what: &str) -> Result<(PathBuf, OsString), Trouble> {

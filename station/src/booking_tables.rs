@@ -38,7 +38,7 @@ pub fn booking(file: u32, values: &Values) -> Vec<u8> {
 /// Whether the library lets bookings pass: it accepts, or refuses a file behind them.
 fn passes(ac2: &Values, acc: Option<&Values>) -> bool {
     let set = Set {
-        stem: b"AB123456",
+        stem: made_up::STEM,
         ac2: &booking(AC2, ac2),
         acc: &acc.map_or(Vec::new(), |acc| booking(ACC, acc)),
         ..Set::default()

@@ -16,6 +16,7 @@ use crate::not_as_due;
 use crate::other_type;
 use crate::out_of_date;
 use crate::page::{labelled, verbatim};
+use crate::pair::TOO_MANY_AXLES;
 use crate::rules;
 use crate::shown::{self, counted, Line};
 use crate::words;
@@ -38,12 +39,19 @@ pub enum Presence {
     InSet,
     /// As one of a set, and the folder does not have it.
     Absent,
+    /// As one of two that are joined: the first or the second.
+    Input(u32),
 }
 
 impl<'a> Subject<'a> {
     /// A file that is read alone.
     pub fn alone(file: &'a FileOnDisk) -> Subject<'a> {
         Subject::on_disk(file, Presence::Alone)
+    }
+
+    /// One of two files that are joined, numbered as the library numbers them.
+    pub fn input(file: &'a FileOnDisk, number: u32) -> Subject<'a> {
+        Subject::on_disk(file, Presence::Input(number))
     }
 
     fn on_disk(file: &'a FileOnDisk, presence: Presence) -> Subject<'a> {
@@ -74,6 +82,8 @@ pub struct Explained {
     pub refusal: Refusal,
     /// The file's name, None for file 0.
     pub name: Option<String>,
+    /// Which of two files that are joined it is.
+    input: Option<u32>,
     pub meaning: String,
     /// Why, where more is known than the meaning.
     pub cause: Option<String>,
@@ -90,19 +100,7 @@ pub struct Explained {
 pub fn explain(case: Case, refusal: Refusal, subject: Option<Subject>) -> Explained {
     let refused = Refused { case, refusal };
     let finding = finding(&refused, subject.as_ref()).unwrap_or_default();
-    let number = refusal.number;
-    let text = subject.as_ref().map_or(&[][..], |subject| subject.text);
-    let or = |said: Option<String>, general: &str| said.unwrap_or_else(|| general.to_string());
-    Explained {
-        refusal,
-        meaning: or(finding.meaning, words::meaning(number)),
-        cause: finding.cause,
-        expected: finding.expected,
-        advice: or(finding.advice, &words::advice(number)),
-        mend: finding.mend,
-        line: shown::line(text, refusal.line),
-        name: subject.map(|subject| subject.name),
-    }
+    Explained::new(refusal, subject, finding)
 }
 
 fn finding(refused: &Refused, subject: Option<&Subject>) -> Option<Finding> {
@@ -116,10 +114,11 @@ fn finding(refused: &Refused, subject: Option<&Subject>) -> Option<Finding> {
     }
     match number {
         2 => Some(stem(refused)),
+        3 => Some(Finding::default().advice(words::as_made(refused.case.is_of_set()))),
         4 => line_form::finding(refused),
         5 => misnamed::heading(refused),
         6 => misnamed::entry(refused),
-        7 => absent::section(refused),
+        7 => absent::section(refused, subject),
         8 => absent::entries(refused),
         9 => wrong_value::finding(refused),
         10 => not_as_due::entry(refused),
@@ -190,6 +189,31 @@ fn wrong_byte(refused: &Refused) -> Option<String> {
 }
 
 impl Explained {
+    /// The refusal, the file that it names, and what is found out about it.
+    pub fn new(refusal: Refusal, subject: Option<Subject>, finding: Finding) -> Explained {
+        let number = refusal.number;
+        let text = subject.as_ref().map_or(&[][..], |subject| subject.text);
+        let input = match &subject {
+            Some(Subject {
+                presence: Presence::Input(input),
+                ..
+            }) => Some(*input),
+            _ => None,
+        };
+        let or = |said: Option<String>, general: &str| said.unwrap_or_else(|| general.to_string());
+        Explained {
+            refusal,
+            meaning: or(finding.meaning, words::meaning(number)),
+            cause: finding.cause,
+            expected: finding.expected,
+            advice: or(finding.advice, &words::advice(number)),
+            mend: finding.mend,
+            line: shown::line(text, refusal.line),
+            input,
+            name: subject.map(|subject| subject.name),
+        }
+    }
+
     /// The labelled lines of a page.
     pub fn page(&self) -> String {
         let mut page = labelled("meaning", &self.meaning);
@@ -234,9 +258,16 @@ impl Explained {
 
     fn file_words(&self) -> String {
         let number = self.refusal.file;
+        let which = match self.input {
+            Some(input) => format!("input {input}"),
+            None => format!("file {number}"),
+        };
         match (&self.name, by_number(number)) {
-            (Some(name), Some(file)) => format!("{name} (file {number}, {})", file.title),
-            (Some(name), None) => format!("{name} (file {number})"),
+            (Some(name), Some(file)) => format!("{name} ({which}, {})", file.title),
+            (Some(name), None) => format!("{name} ({which})"),
+            (None, _) if self.refusal.number == TOO_MANY_AXLES => {
+                "none: the refusal is about both files together".to_string()
+            }
             (None, _) => "none: the refusal is about the stem".to_string(),
         }
     }

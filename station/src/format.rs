@@ -1,24 +1,20 @@
 //! `mctc format FILE`: the file written in table order, or with `--mend` as it stands but for its line ends.
 
-use std::fs::{self, File, OpenOptions};
-use std::io::{self, ErrorKind, Write};
 use std::os::unix::ffi::OsStrExt;
 use std::path::Path;
-
-use mctc::{FileAcceptance, Refusal};
 
 use crate::disk::{read_file, MOST};
 use crate::file_types::{split_name, IDENTIFICATION};
 use crate::identification;
 use crate::line_ends::{self, Mended, NoText};
+use crate::new_file::write_new;
 use crate::output::{say, Output, Status, Trouble};
-use crate::read::{FileRead, Input};
+use crate::read::Input;
 use crate::shown::{self, counted};
 
 pub fn run(input: &Input, new: Option<&Path>, out: &mut Output) -> Result<Status, Trouble> {
     let read = input.read()?;
-    let in_order = |acceptance: FileAcceptance| in_table_order(&read, acceptance.axles);
-    let written = match read.verdict.and_then(in_order) {
+    let written = match read.in_table_order() {
         Ok(written) => written,
         // Standard output is for the file alone.
         Err(refusal) => {
@@ -54,7 +50,7 @@ pub fn mend(path: &Path, new: Option<&Path>, out: &mut Output) -> Result<Status,
         return Err(Trouble(why));
     }
     if let Some(no_text) = NoText::of(&file.text) {
-        let (cause, advice) = (no_text.cause(), no_text.advice());
+        let (cause, advice) = (no_text.cause(), no_text.advice(false));
         return Err(Trouble(format!("{name}: not mended, as {cause}; {advice}")));
     }
     let mended = line_ends::mended(&file.text);
@@ -91,36 +87,4 @@ fn changes(mended: &Mended) -> String {
         [] => "nothing was to be mended, every byte is the same".to_string(),
         changes => format!("{}; all else is the same{cut_off}", changes.join(", ")),
     }
-}
-
-/// A file that was read holds each line of its table once and nothing else, so what is written has the same length.
-fn in_table_order(read: &FileRead, axles: u32) -> Result<Vec<u8>, Refusal> {
-    let text = &read.file.text;
-    let mut output = vec![0; text.len()];
-    let length = mctc::write(text, &read.places, read.number, axles, &mut output)?;
-    output.truncate(length);
-    Ok(output)
-}
-
-/// Writes a file that does not exist yet; nothing is left of one that could not be written whole.
-fn write_new(path: &Path, bytes: &[u8]) -> Result<(), Trouble> {
-    let name = shown::name(path);
-    let mut file = create(path).map_err(|error| match error.kind() {
-        ErrorKind::AlreadyExists => Trouble(format!(
-            "{name} exists already and stays as it is; name a file that does not exist"
-        )),
-        _ => Trouble(format!("{name} cannot be made there: {error}")),
-    })?;
-    let written = file.write_all(bytes).and_then(|()| file.sync_all());
-    written.map_err(|error| {
-        let rest = match fs::remove_file(path) {
-            Ok(()) => "nothing of it was left there".to_string(),
-            Err(error) => format!("remove what is left of it ({error})"),
-        };
-        Trouble(format!("{name}: not written, {error}; {rest}"))
-    })
-}
-
-fn create(path: &Path) -> io::Result<File> {
-    OpenOptions::new().write(true).create_new(true).open(path)
 }

@@ -64,6 +64,8 @@ mctc: judges MCTCNet2 test sets with the proved library
                                     one file written in table order
   mctc format --mend FILE [--output NEW]
                                     one file with its line ends mended
+  mctc join FIRST SECOND [--output NEW [--json]]
+                                    two drift files of one truck made one
   mctc help COMMAND                 more about a command
   mctc --version
 
@@ -202,7 +204,7 @@ pub const EXPLAIN: Help = Help::plain(
 mctc explain NUMBER
 mctc explain ENTRY
 
-Says what refusals with this number (1 to 19) mean, what they carry, in which
+Says what refusals with this number (1 to 21) mean, what they carry, in which
 calls they come, and what to do; or for each file that has an entry of this
 name, its section, what its value must look like, when it is filled, and its
 rule.
@@ -217,7 +219,7 @@ mctc rules
 
 Prints the rules of a set as Markdown: the files, each entry with its kind and
 when it is filled, the rules between values, devices in date, the identification
-answer, and the refusals. docs/RULES.md is this text.
+answer, joining two drift files, and the refusals. docs/RULES.md is this text.
 
 Exit status: 0 printed; 2 bad usage.
 ",
@@ -276,3 +278,47 @@ Exit status: 0 written; 1 refused; 2 bad usage, FILE cannot be read or NEW
 cannot be written.
 ",
 };
+
+pub const JOIN: Help = Help::plain(
+    "\
+mctc join FIRST SECOND [--output NEW [--json]]
+
+Joins two drift files into one, as for a truck whose axles were measured in two
+parts: to standard output or to a new file. Both are read as drift files,
+whatever their names. The values of their [Deriva] sections must be the same,
+byte for byte, in all entries but InizioMisura and FineMisura. The joined file
+has these values, FIRST's InizioMisura, SECOND's FineMisura, and the axles of
+both: those of FIRST, then those of SECOND, numbered on. The axles of each file
+are numbered from 1, in SECOND too. The joined file is written in table order,
+whatever the order of lines in FIRST and SECOND.
+
+A refusal goes to standard error: of FIRST alone (3 to 11), then of SECOND
+alone, then where values differ (20), then where there are more than nine axles
+together (21). `mctc explain NUMBER` says more.
+
+Joining looks at no due date. `mctc judge` does, when the joined file comes in a
+set: a measure whose FineMisura is below its InizioMisura ends on the day after
+DataMisura (`mctc explain 19`). Notes on standard error say where the joined
+file would be refused for that, where its measure goes over midnight, and where
+FIRST and SECOND look exchanged or have the same values.
+
+  --output NEW  a file that does not exist yet; none is ever overwritten
+  --json        the same for programs, on standard output, a refusal and notes
+                too; only with --output, as else the joined file stands there
+
+With --json one object: first and second (FIRST and SECOND), accepted, number,
+input (1 for FIRST, 2 for SECOND, 0 for none), line (in that file, 0 for none),
+name (of that file), meaning, text, remark, to_do, cause, expected and mend as
+from `mctc judge --json` (file in mend is 3, as of any drift file), differences,
+new (NEW, null where it is refused), length (of NEW in bytes), first_axles,
+second_axles, axles (of NEW) and notes; or first, second and error where a file
+cannot be read or written. differences is an array of objects, with 20 one for
+each entry that differs, in table order: entry (its name), first_line,
+first_value, second_line, second_value (empty where nothing stands there).
+length and axles are 0 where it is refused, first_axles and second_axles where
+that file is refused by itself (3 to 9, 11).
+
+Exit status: 0 joined; 1 refused; 2 bad usage, FIRST or SECOND cannot be read or
+NEW cannot be written.
+",
+);

@@ -1,5 +1,7 @@
 //! Line ends and byte order marks: how a text has them, and a text with right ones.
 
+use crate::words;
+
 pub const BYTE_ORDER_MARK: &[u8] = b"\xEF\xBB\xBF";
 
 /// A text with right line ends and without a byte order mark, and what was changed for that.
@@ -118,10 +120,11 @@ impl NoText {
         }
     }
 
-    pub fn advice(&self) -> &'static str {
+    /// For a file of a set, or for one that a command names.
+    pub fn advice(&self, is_of_set: bool) -> &'static str {
         match self {
             NoText::Wide => "save the file as plain text (ASCII, not Unicode) with CR LF line ends",
-            NoText::Binary(..) => "put the file there as the device or the booking office made it",
+            NoText::Binary(..) => words::as_made(is_of_set),
         }
     }
 }

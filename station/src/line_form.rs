@@ -20,7 +20,8 @@ pub fn finding(refused: &Refused) -> Option<Finding> {
     let (text, line) = (refused.text(), refused.refusal.line);
     let whole = shown::whole_line(text, line)?;
     if let Some(no_text) = NoText::of(text) {
-        return Some(Finding::cause(no_text.cause()).advice(no_text.advice()));
+        let advice = no_text.advice(refused.case.is_of_set());
+        return Some(Finding::cause(no_text.cause()).advice(advice));
     }
     let form = Line { refused, whole };
     let finding = form.mark().or_else(|| form.line_end());
@@ -126,7 +127,8 @@ impl<'a> Line<'a> {
         if length == 0 {
             // Without it nothing may be left, and an empty file is not given.
             let mend = self.tried(Action::Delete);
-            return Some(Finding::cause("the line is empty").mend_or(mend, words::advice(3)));
+            let advice = words::as_made(self.refused.case.is_of_set());
+            return Some(Finding::cause("the line is empty").mend_or(mend, advice));
         }
         (length > LONGEST).then(|| {
             let over = counted(length - LONGEST, "byte");

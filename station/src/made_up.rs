@@ -2,6 +2,9 @@
 
 use crate::table;
 
+/// The stem of a set that is made up.
+pub const STEM: &[u8] = b"AB123456";
+
 /// Values by the names of their entries. What stands first counts.
 pub type Values<'a> = [(&'a str, &'a str)];
 

@@ -1,4 +1,5 @@
-//! The station program: judges MCTCNet2 test sets that stand in a folder, shows what is due, reads and formats files.
+//! The station program: judges MCTCNet2 test sets that stand in a folder, shows what is due, reads, formats and joins
+//! files.
 //!
 //! It decides nothing itself: every verdict is the library's. "01" is document 01, "MCTCNet2 test sets: booking, drift,
 //! suspension and gas"; "02" is the change requests to it, "001" the ministry's text that both go by.
@@ -24,6 +25,7 @@ mod fuels;
 mod further;
 mod help;
 mod identification;
+mod join;
 mod json;
 mod judge;
 mod kinds;
@@ -33,12 +35,15 @@ mod made_up;
 mod measure;
 mod measure_tables;
 mod misnamed;
+mod misnumbered;
 mod near;
+mod new_file;
 mod not_as_due;
 mod other_type;
 mod out_of_date;
 mod output;
 mod page;
+mod pair;
 mod placed;
 mod progress;
 mod read;
@@ -47,6 +52,7 @@ mod rulebook;
 mod rules;
 mod shown;
 mod table;
+mod trial_set;
 mod unknown_day;
 mod words;
 mod wrong_value;
@@ -78,6 +84,7 @@ fn run(command: Command) -> Result<Status, Trouble> {
         Command::Read { input, json } => read::run(input, *json, &mut out),
         Command::Format { input, new } => format::run(input, new.as_deref(), &mut out),
         Command::Mend { path, new } => format::mend(path, new.as_deref(), &mut out),
+        Command::Join { files, new, json } => join::run(files, new.as_deref(), *json, &mut out),
     }?;
     out.finish()?;
     Ok(status)

@@ -1,13 +1,12 @@
 //! The day on which a measure ends, and its length, as a table for `mctc rules`: drift files are made up and judged.
 
-use mctc::{Acceptance, Places};
+use mctc::Acceptance;
 
-use crate::booking_tables;
-use crate::case::{Case, Refused};
-use crate::file_types::{AC2, DRIFT};
+use crate::file_types::DRIFT;
 use crate::made_up;
-use crate::out_of_date::{covering, FIRST_DAY};
+use crate::out_of_date::FIRST_DAY;
 use crate::shown::{self, length};
+use crate::trial_set::TrialSet;
 
 /// DataMisura, InizioMisura and FineMisura.
 type When<'a> = [&'a str; 3];
@@ -53,18 +52,8 @@ fn drift([day, start, end]: When) -> Vec<u8> {
 
 /// The first due date that passes, and what the library then accepts the set with.
 fn passing(when: When) -> Option<(Vec<u8>, Acceptance)> {
-    let (ac2, drift) = (booking_tables::booking(AC2, &[]), drift(when));
-    let case = Case::made_up(b"AB123456", &[(AC2, &ac2), (DRIFT, &drift)]);
-    let refused = Refused {
-        case,
-        refusal: case.refusal()?,
-    };
-    let edit = covering(&refused)?;
-    let mended = edit.apply(&drift);
-    let (_, day) = shown::entry_on_line(&mended, edit.line)?;
-    let case = case.with_text(DRIFT, &mended);
-    let acceptance = mctc::judge(&case.lent(), &mut Places::default()).ok()?;
-    Some((day.to_vec(), acceptance))
+    let (day, set) = TrialSet::new(drift(when)).covered()?;
+    Some((day, set.acceptance()?))
 }
 
 /// When each measure was, the first due date that passes, and its length.

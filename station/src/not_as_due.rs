@@ -42,7 +42,7 @@ pub fn file(refused: &Refused, subject: &Subject) -> Option<Finding> {
     let (name, file) = (&subject.name, refused.refusal.file);
     let why = Why::file(&refused.case, file);
     let finding = match (subject.presence, subject.text) {
-        (Presence::Alone, _) => Finding::default()
+        (Presence::Alone | Presence::Input(_), _) => Finding::default()
             .meaning("the file is empty")
             .advice("name a file that has content"),
         (Presence::Absent, _) => {

@@ -23,7 +23,10 @@ pub fn finding(refused: &Refused) -> Option<Finding> {
     let cause = format!("this is {is} file, where {belongs} file belongs");
     let finding = Finding::cause(cause).meaning(meaning);
     let rename = renamed(&refused.case, "it", other);
-    let put = format!("put the {} file here", expected.title);
+    let put = match refused.case.is_of_set() {
+        true => format!("put the {} file here", expected.title),
+        false => format!("name the {} file", expected.title),
+    };
     let advice = match (is_wanted(&refused.case, other), due(&refused.case, number)) {
         (true, Some(Due::Due)) => format!("{rename}, and {put}"),
         (true, _) => rename,

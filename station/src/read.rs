@@ -93,6 +93,16 @@ impl FileRead {
         Contents { read: self, found }
     }
 
+    /// The file written in table order. One that was read holds each line of its table once and nothing else, so what is
+    /// written has the same length.
+    pub fn in_table_order(&self) -> Result<Vec<u8>, Refusal> {
+        let (text, axles) = (&self.file.text, self.verdict?.axles);
+        let mut output = vec![0; text.len()];
+        let length = mctc::write(text, &self.places, self.number, axles, &mut output)?;
+        output.truncate(length);
+        Ok(output)
+    }
+
     fn explained(&self, refusal: Refusal) -> Explained {
         let case = Case::file(self.number, &self.file.text);
         explain(case, refusal, Some(Subject::alone(&self.file)))

@@ -74,6 +74,24 @@ of date (19), then the rules (12 or 13). For the identification answer: 11, 14, 
 the verdict. An old booking is not read with category L, even if it is too long.
 ";
 
+const JOINING: &str = "
+## Joining two drift files
+
+`mctc join FIRST SECOND` makes one drift file of two, as of a truck of four axles that was measured two axles at a time. The
+values of both `[Deriva]` sections must be the same, byte for byte, in all entries but InizioMisura and FineMisura: in Note,
+CodErrore and DataMisura too, and nothing behind `=` is not the same as a value. The joined file has these values, the first
+file's InizioMisura, the second's FineMisura, and the axles of both, the second's numbered on. The axles of each file are
+numbered from 1, those of the second too. The joined file is written in table order, whatever the order of lines in the two.
+
+The first file is judged by itself, as a drift file of a set: empty (11), then 3 to 10. Then the second likewise; then values
+that differ (20), then more than nine axles together (21). A refusal of one file carries 1 or 2 for it, the first or the
+second.
+
+Due dates are not looked at here. When the joined file comes in a set, its measure begins at the first file's InizioMisura and
+ends at the second's FineMisura, on the day after DataMisura where that is below: so the set may be refused with 19 although
+neither file would be by itself.
+";
+
 const REFUSALS: &str = "
 ## Refusals
 
@@ -94,6 +112,7 @@ pub fn text() -> String {
         + ANSWER
         + &fields()
         + ORDER
+        + JOINING
         + REFUSALS
         + &refusals()
 }

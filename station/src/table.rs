@@ -85,6 +85,13 @@ pub fn absent_headings<'a>(sections: &'a [Section], text: &[u8]) -> Vec<&'a str>
     absent.collect()
 }
 
+/// The first line on which a heading stands.
+pub fn line_of_heading(text: &[u8], heading: &str) -> Option<u32> {
+    let mut lines = (1..).zip(shown::lines_from(text, 1)?);
+    let (line, _) = lines.find(|(_, line)| *line == heading.as_bytes())?;
+    Some(line)
+}
+
 /// The last heading above a line, with its line.
 pub fn heading_above(text: &[u8], line: u32) -> Option<(u32, &[u8])> {
     let lines = (1..line).zip(shown::lines_from(text, 1)?);
@@ -112,8 +119,7 @@ pub fn entry_at(file: u32, text: &[u8], line: u32) -> Option<usize> {
 
 /// The first line on which an entry stands under a heading, with its value.
 pub fn line_of<'a>(text: &'a [u8], heading: &str, name: &str) -> Option<(u32, &'a [u8])> {
-    let mut lines = (1..).zip(shown::lines_from(text, 1)?);
-    let (start, _) = lines.find(|(_, line)| *line == heading.as_bytes())?;
+    let start = line_of_heading(text, heading)?;
     lines_below(text, start).find_map(|(number, line)| {
         let (other, value) = shown::entry(line)?;
         (other == name.as_bytes()).then_some((number, value))

@@ -7,7 +7,7 @@ use crate::page::labelled;
 use crate::reasons;
 
 /// The last number of a refusal.
-pub const LAST: u32 = 19;
+pub const LAST: u32 = 21;
 
 /// All that is said of refusals with this number.
 pub fn page(number: u32) -> String {
@@ -34,11 +34,13 @@ pub fn page(number: u32) -> String {
 /// 01's table: what a refusal carries.
 pub fn place(number: u32) -> &'static str {
     match number {
-        1 | 2 => "no file and no line",
-        3 | 7 | 11 | 14 | 15 | 16 | 18 => "a file, and no line",
+        1 | 2 | 21 => "no file and no line",
+        3 | 7 | 11 | 14 | 15 | 16 => "a file, and no line",
         8 => "a file, and the line of the section's heading",
         9 => "a file and the line; in writing, the line that the entry would have",
         17 => "a file, and the line that the entry would have",
+        18 => "a file, and no line; in joining no file either",
+        20 => "2 for the second file, and the line there of the first such entry in the order of the table",
         _ => "a file and the line",
     }
 }
@@ -49,19 +51,28 @@ fn calls(number: u32) -> &'static str {
         1 => "in every call with places; never from this program, which lends enough",
         14 => "in judging a set, and in reading an identification answer alone (`mctc judge`, `mctc read`)",
         2 | 12 | 13 | 15 | 19 => "in judging a set (`mctc judge`)",
-        3..=8 => "in judging a set and in reading a file alone (`mctc judge`, `mctc due`, `mctc read`, `mctc format`)",
-        9 => {
-            "in judging a set, in reading a file alone and in writing one (`mctc judge`, `mctc due`, `mctc read`, \
-             `mctc format`)"
+        3..=8 => {
+            "in judging a set, in reading a file alone and in joining two (`mctc judge`, `mctc due`, `mctc read`, \
+             `mctc format`, `mctc join`)"
         }
-        10 => "in judging a set (`mctc judge`; `mctc due` shows all entries)",
-        11 => "in judging a set, and in reading a file alone that is empty (`mctc judge`, `mctc due`, `mctc read`)",
+        9 => {
+            "in judging a set, in reading a file alone, in writing one and in joining two (`mctc judge`, `mctc due`, \
+             `mctc read`, `mctc format`, `mctc join`)"
+        }
+        10 => {
+            "in judging a set and in joining two files (`mctc judge`, `mctc join`; `mctc due` shows all entries)"
+        }
+        11 => {
+            "in judging a set; of an empty file also in reading it alone and in joining (`mctc judge`, `mctc due`, \
+             `mctc read`, `mctc join`)"
+        }
         16 => {
             "in every call with a file's number but judging; from this program where an identification answer, which \
              has no entries, is to be written in table order (`mctc format`)"
         }
         17 => "in writing; never from this program, which writes what it has read",
-        _ => "in writing, names and due columns; never from this program, which lends enough",
+        20 | 21 => "in joining two drift files (`mctc join`)",
+        _ => "in writing, joining, names and due columns; never from this program, which lends enough",
     }
 }
 
@@ -87,6 +98,8 @@ pub fn meaning(number: u32) -> &'static str {
         17 => "a value lies outside the text",
         18 => "the output is too short",
         19 => "a device is out of date on the day on which the measure ends",
+        20 => "the [Deriva] sections of the two files differ in another entry than InizioMisura and FineMisura",
+        21 => "the two files have more than nine axles together",
         _ => "the library refuses with a number that this program does not know",
     }
 }
@@ -112,15 +125,26 @@ pub fn advice(number: u32) -> String {
     }
 }
 
+/// What to do about a file that is not as it was made: one of a set, or one that a command names.
+pub fn as_made(is_of_set: bool) -> &'static str {
+    match is_of_set {
+        true => "put the file there as the device or the booking office made it",
+        false => "name the file that the device or the booking office made",
+    }
+}
+
 fn fixed_advice(number: u32) -> &'static str {
     match number {
         2 => "give all files of the set one name of two capital letters and six digits, such as AB123456",
-        3 => "put the file there as the device or the booking office made it",
+        3 => as_made(true),
         4 => "retype the line: a heading in [ ], or name=value below a heading; 1 to 512 bytes of 20 to 7E hex, then \
               CR LF (0D 0A hex)",
         5 => "correct the heading; if it stands above already, move its entries there",
         6 => "correct the name, or move the line to its section; if the entry stands twice, remove one of the two",
-        7 => "add the section with all its entries",
+        7 => {
+            "add the section with all its entries; if it is an axle's and no measured axle is missing, number the axles \
+             from 1 without a gap"
+        }
         8 => "add the entry to this section",
         9 => "correct the value: `mctc explain ENTRY` says what an entry of that name must look like",
         10 => {
@@ -136,10 +160,18 @@ fn fixed_advice(number: u32) -> &'static str {
         14 => "have the analyser's answer recorded again: 02 hex, ten fields separated by 17 hex (GAS, address, ID and \
                seven values), the checksum as two capital hexadecimal digits, 03 hex; at most 512 bytes",
         17 => "lend the places that reading this text gave",
-        18 => "lend an output as long as the text that was read",
+        18 => "lend an output as long as the text that was read, in joining as both texts together",
         19 => {
             "correct the due date if it is not the one on the device's certificate, or DataMisura, InizioMisura or \
              FineMisura if one of them is wrong; else have the measure made again with a device in date"
+        }
+        20 => {
+            "find out which of the two values is right, and correct the other in its own file, which may be either; if \
+             each is right for its file, the two cannot be joined, and the measure is to be made again"
+        }
+        21 => {
+            "see that neither file is joined already, and that the two were not measured on the same axles; more than \
+             nine axles do not fit one drift file"
         }
         _ => "report this to whoever maintains the program",
     }

@@ -1,11 +1,13 @@
 //! Makes the sets of the benchmark, and measures the Rust implementation on one of them.
 //!
 //! - `bench-reference make FOLDER`: writes each set to a folder of its own in FOLDER and prints its name.
-//! - `bench-reference check SET`: prints the answer and a sum over the places, as `bench check SET` does.
+//! - `bench-reference check SET`: prints the answers with a sum over the places and one over the output, as
+//!   `bench check SET` does.
 //! - `bench-reference time WHAT SET`: prints the nanoseconds of one call, the least of several averages.
 //! - `bench-reference count WHAT SET`: makes one call as warm-up, then one in `measured`, for callgrind.
 //!
-//! WHAT is `judge`, the whole set, or `read-gas` or `read-opacity`, that file alone.
+//! WHAT is `judge`, the whole set, `read-gas` or `read-opacity`, that file alone, or `join`, the drift file joined with
+//! itself.
 
 mod sets;
 
@@ -15,9 +17,10 @@ use std::path::Path;
 use std::process::ExitCode;
 use std::time::Instant;
 
-use outside::judge::{Reference, Set};
+use outside::judge::{Outcome, Reference, Set};
+use outside::reference::joining;
 use outside::reference::judging::{judge_set, read_alone};
-use outside::reference::tables::{GAS, OPACITY};
+use outside::reference::tables::{DRIFT, GAS, OPACITY};
 use outside::reference::PLACES;
 
 /// The files of a set's folder, in the order of the slices.
@@ -30,6 +33,9 @@ const NAMES: [&str; 7] = [
     "identification",
     "opacity",
 ];
+
+/// Longer than any joined file; as in bench.c.
+const JOINED_ROOM: usize = 2000;
 
 const ROUNDS: usize = 20;
 const ROUND_NANOSECONDS: f64 = 10_000_000.0;
@@ -83,15 +89,29 @@ fn load(folder: &Path) -> Result<Set, String> {
 }
 
 fn check(set: &Set) {
-    let outcome = Reference.judge(set);
-    for number in outcome.answer {
-        print!("{number} ");
-    }
-    let sum = outcome
-        .places
-        .iter()
-        .fold(0u32, |sum, place| sum.wrapping_mul(31).wrapping_add(*place));
-    println!("{sum}");
+    let judged = Reference.judge(set);
+    let places = sum(judged.places.iter().copied());
+    let drift = set.slice(DRIFT);
+    let call = outside::judge::Call::Join {
+        first: drift.to_vec(),
+        second: drift.to_vec(),
+        output: vec![0; JOINED_ROOM],
+    };
+    let joined = outside::judge::make(&Reference, &call);
+    let output = sum(joined.output.iter().map(|byte| u32::from(*byte)));
+    let (judged, joined) = (numbers(&judged), numbers(&joined));
+    println!("{judged} {places} {joined} {output}");
+}
+
+fn numbers(outcome: &Outcome) -> String {
+    let numbers = outcome.answer.iter().map(u32::to_string);
+    numbers.collect::<Vec<_>>().join(" ")
+}
+
+fn sum(numbers: impl Iterator<Item = u32>) -> u32 {
+    numbers.fold(0, |sum: u32, number| {
+        sum.wrapping_mul(31).wrapping_add(number)
+    })
 }
 
 type Call = fn(&Set, &mut [u32]);
@@ -101,6 +121,7 @@ fn prepare(what: &str, folder: &str) -> Result<(Call, Set), String> {
         "judge" => judge,
         "read-gas" => read_gas,
         "read-opacity" => read_opacity,
+        "join" => join,
         _ => return Err(format!("nothing to measure: {what}")),
     };
     Ok((call, load(Path::new(folder))?))
@@ -116,6 +137,13 @@ fn read_gas(set: &Set, places: &mut [u32]) {
 
 fn read_opacity(set: &Set, places: &mut [u32]) {
     let _ = black_box(read_alone(OPACITY, set.slice(OPACITY), places));
+}
+
+/// No places are lent.
+fn join(set: &Set, _: &mut [u32]) {
+    let (drift, mut output) = (set.slice(DRIFT), [0; JOINED_ROOM]);
+    let _ = black_box(joining::join(drift, drift, &mut output));
+    black_box(output);
 }
 
 /// callgrind counts from the entry of this function to its return.

@@ -52,6 +52,17 @@ extern "C" {
         answer_length: usize,
     ) -> u32;
 
+    fn mctc_join(
+        first: *const u8,
+        first_length: usize,
+        second: *const u8,
+        second_length: usize,
+        output: *mut u8,
+        output_length: usize,
+        answer: *mut u32,
+        answer_length: usize,
+    ) -> u32;
+
     fn mctc_due(
         file: u32,
         ac2: *const u8,
@@ -182,6 +193,22 @@ pub fn write(
             places.len(),
             file,
             axles,
+            output.as_mut_ptr(),
+            output.len(),
+            answer.as_mut_ptr(),
+            answer.len(),
+        )
+    }
+}
+
+/// Joins two drift files.
+pub fn join(first: &[u8], second: &[u8], output: &mut [u8], answer: &mut [u32]) -> u32 {
+    unsafe {
+        mctc_join(
+            first.as_ptr(),
+            first.len(),
+            second.as_ptr(),
+            second.len(),
             output.as_mut_ptr(),
             output.len(),
             answer.as_mut_ptr(),

@@ -31,6 +31,9 @@ const TRIPLE: usize = 3;
 /// How many numbers an answer has at least.
 pub const ANSWER: usize = 16;
 
+/// How many bytes the longest joined file has, room for any that [`join`] writes (document 02, 8/14).
+pub const JOINED_MOST: usize = 1401;
+
 /// The first triple of opacity.
 const FIRST_OF_OPACITY: usize = 139;
 
@@ -59,9 +62,10 @@ pub struct Set<'a> {
 /// Why a call was refused.
 #[derive(Clone, Copy, Debug, PartialEq, Eq)]
 pub struct Refusal {
-    /// 1 to 18, as in document 01; 19, a device that is out of date (document 02, 5/14).
+    /// 1 to 18, as in document 01; 19, a device that is out of date (document 02, 5/14); 20 and 21, of two drift files
+    /// that do not join (document 02, 8/14).
     pub number: u32,
-    /// 0 for none.
+    /// 0 for none; from [`join`] the number of the input, 1 or 2.
     pub file: u32,
     /// From 1; 0 for none.
     pub line: u32,
@@ -494,6 +498,33 @@ pub fn write(
 ) -> Result<usize, Refusal> {
     answered(|answer| lent::write(text, &places.0, file, axles, output, answer))
         .map(|[length, ..]| length as usize)
+}
+
+/// Joins two drift files of one truck into one, in the order of its table: with the first's InizioMisura, the second's
+/// FineMisura and the axles of both, the second's numbered on. The axles of each file are numbered from 1, those of the
+/// second too: numbered on already they are refused (7). All other values of their `[Deriva]` sections must agree (20), and
+/// nine axles are the most (21). The length of what is written, at most [`JOINED_MOST`].
+///
+/// A refusal 3 to 11 of an input carries 1 or 2 as its file, 20 carries 2, and 21 and 18 carry 0 and no line. Refused,
+/// `output` stays; bytes past the length stay too. Due dates are not looked at: the joined file is held to its own when it
+/// comes in a set.
+///
+/// ```
+/// let first = include_bytes!(concat!(
+///     env!("CARGO_MANIFEST_DIR"),
+///     "/../../samples/joining/accepted/first.DER"
+/// ));
+/// let second = include_bytes!(concat!(
+///     env!("CARGO_MANIFEST_DIR"),
+///     "/../../samples/joining/accepted/second.DER"
+/// ));
+/// let mut output = [0; mctc::JOINED_MOST];
+/// let length = mctc::join(first, second, &mut output).unwrap();
+/// let joined = mctc::read(3, &output[..length], &mut mctc::Places::default());
+/// assert_eq!(joined.unwrap().axles, 4);
+/// ```
+pub fn join(first: &[u8], second: &[u8], output: &mut [u8]) -> Result<usize, Refusal> {
+    answered(|answer| lent::join(first, second, output, answer)).map(|[length, ..]| length as usize)
 }
 
 /// What is due in one file, by the values of AC2 and of that file; AC2's own text is handed in twice for file 1. The

@@ -3,7 +3,7 @@
 use std::fs;
 use std::path::{Path, PathBuf};
 
-use mctc::{Acceptance, Due, FileAcceptance, Places, Refusal, Set};
+use mctc::{Acceptance, Due, FileAcceptance, Form, Places, Refusal, Set};
 
 fn samples() -> PathBuf {
     Path::new(env!("CARGO_MANIFEST_DIR")).join("../../samples")
@@ -31,6 +31,7 @@ fn defined(name: &str) -> usize {
 fn the_sizes_are_those_of_the_header() {
     assert_eq!(mctc::PLACES, defined("MCTC_PLACES_SIZE"));
     assert_eq!(mctc::ANSWER, defined("MCTC_ANSWER_SIZE"));
+    assert_eq!(mctc::JOINED_MOST, defined("MCTC_JOINED_MOST"));
 }
 
 #[test]
@@ -106,6 +107,156 @@ fn a_file_is_read_and_written() {
             Err(refusal(16, file, 0))
         );
     }
+}
+
+/// The two drift files of a folder of `joining`.
+fn pair(folder: &str) -> [Vec<u8>; 2] {
+    ["first", "second"].map(|name| sample(&format!("joining/{folder}/{name}.DER")))
+}
+
+/// What joining two files answers, with an output of this size, and the output after it.
+fn joined(first: &[u8], second: &[u8], size: usize) -> (Result<usize, Refusal>, Vec<u8>) {
+    let mut output = vec![b'~'; size];
+    let answer = mctc::join(first, second, &mut output);
+    (answer, output)
+}
+
+#[test]
+fn two_drift_files_are_joined() {
+    let [first, second] = pair("accepted");
+    let right = sample("accepted-joined/AH117044.DER");
+    let length = right.len();
+    assert_eq!(joined(&first, &second, length), (Ok(length), right.clone()));
+    let longer = [&right[..], b"~~~"].concat();
+    assert_eq!(joined(&first, &second, length + 3), (Ok(length), longer));
+    let mut places = Places::default();
+    let read = mctc::read(3, &right, &mut places).expect("it is read");
+    assert_eq!(read.axles, 4);
+
+    // The same lines in another order: as they are written in the order of the table.
+    let in_order = [&first, &second].map(|text| {
+        let read = mctc::read(3, text, &mut places).expect("it is read");
+        let mut output = vec![0; text.len()];
+        mctc::write(text, &places, 3, read.axles, &mut output).expect("it is written");
+        output
+    });
+    assert_ne!(in_order[1], second);
+    let [one, other] = &in_order;
+    assert_eq!(joined(one, other, length), (Ok(length), right));
+}
+
+/// A longest value that an entry of drift may have.
+fn longest(entry: u32) -> String {
+    let kind = mctc::kind(3, entry).expect("its kind");
+    let most = kind.most as usize;
+    match kind.form {
+        Form::Text => "A".repeat(most),
+        Form::Number => "1".repeat(most),
+        Form::Day => "01012030".to_string(),
+        Form::Time => "091500".to_string(),
+        Form::Deriva => "-10.00".to_string(),
+        Form::Word => kind
+            .words
+            .into_iter()
+            .max_by_key(String::len)
+            .expect("a word"),
+        other => panic!("no entry of drift has the form {other:?}"),
+    }
+}
+
+/// A drift file with so many axles and the longest values.
+fn longest_drift(axles: u32) -> String {
+    let mut text = String::new();
+    let mut entries = (0..).map_while(|entry| Some((entry, mctc::entry_name(3, entry).ok()?)));
+    let mut next = entries.next();
+    for section in 0..=axles {
+        text += &format!("{}\r\n", mctc::heading_name(3, section).expect("a heading"));
+        while let Some((number, entry)) = next.take_if(|(_, entry)| entry.section == section) {
+            text += &format!("{}={}\r\n", entry.name, longest(number));
+            next = entries.next();
+        }
+    }
+    text
+}
+
+#[test]
+fn no_joined_file_is_longer_than_the_longest() {
+    let [first, second] = [5, 4].map(longest_drift);
+    let [first, second] = [first.as_bytes(), second.as_bytes()];
+    let (answer, output) = joined(first, second, mctc::JOINED_MOST);
+    assert_eq!(answer, Ok(mctc::JOINED_MOST));
+    assert_eq!(output, longest_drift(9).as_bytes());
+}
+
+#[test]
+fn the_axles_of_each_file_are_numbered_from_one() {
+    let [first, second] = pair("accepted").map(|text| String::from_utf8(text).expect("a text"));
+    let numbered_on = second
+        .replace("Asse_2]", "Asse_4]")
+        .replace("Asse_1]", "Asse_3]");
+    let (first, numbered_on) = (first.as_bytes(), numbered_on.as_bytes());
+    assert_not_joined(first, numbered_on, 2000, refusal(7, 2, 0));
+    assert_not_joined(numbered_on, first, 2000, refusal(7, 1, 0));
+}
+
+/// Refused with this, and the output stays.
+fn assert_not_joined(first: &[u8], second: &[u8], size: usize, right: Refusal) {
+    let stays = vec![b'~'; size];
+    assert_eq!(joined(first, second, size), (Err(right), stays), "{right}");
+}
+
+#[test]
+fn drift_files_that_do_not_join_are_refused() {
+    let [first, second] = pair("accepted");
+    let length = sample("accepted-joined/AH117044.DER").len();
+    assert_not_joined(&first, &second, length - 1, refusal(18, 0, 0));
+    assert_not_joined(&first, &second, 0, refusal(18, 0, 0));
+    let [one, other] = pair("refused-20");
+    assert_not_joined(&one, &other, 0, refusal(20, 2, 11));
+    assert_not_joined(&other, &one, 2000, refusal(20, 2, 5));
+    let [one, other] = pair("refused-21");
+    assert_not_joined(&one, &other, 0, refusal(21, 0, 0));
+
+    // The first file before the second, and both before they are compared.
+    let empty = sample("refused-10/AB120010.DER");
+    let short = sample("refused-09/AB120009.DER");
+    let suspension = sample("accepted-car/AA123456.SOS");
+    for (one, other, right) in [
+        (&b""[..], &b""[..], refusal(11, 1, 0)),
+        (&first, b"", refusal(11, 2, 0)),
+        (&empty, b"", refusal(10, 1, 2)),
+        (&short, &empty, refusal(9, 1, 19)),
+        (&first, &empty, refusal(10, 2, 2)),
+        (&first, &suspension, refusal(5, 2, 1)),
+    ] {
+        assert_not_joined(one, other, 2000, right);
+    }
+}
+
+#[test]
+fn joining_fills_the_numbers_of_the_answer() {
+    let [first, second] = pair("accepted");
+    let length = sample("accepted-joined/AH117044.DER").len() as u32;
+    let mut output = [b'~'; 2000];
+    let mut answer = [7; mctc::ANSWER + 1];
+    let number = mctc::lent::join(&first, &second, &mut output, &mut answer);
+    assert_eq!((number, answer[3], answer[mctc::ANSWER]), (0, length, 7));
+    let others = [&answer[..3], &answer[4..mctc::ANSWER]].concat();
+    assert!(others.iter().all(|number| *number == 0));
+
+    let headings_disagree = defined("MCTC_HEADINGS_DISAGREE") as u32;
+    let [one, other] = pair("refused-20");
+    let number = mctc::lent::join(&one, &other, &mut [], &mut answer);
+    assert_eq!(number, headings_disagree);
+    assert_eq!(answer[..4], [headings_disagree, 2, 11, 0]);
+    let [one, other] = pair("refused-21");
+    let number = mctc::lent::join(&one, &other, &mut [], &mut answer);
+    assert_eq!(number as usize, defined("MCTC_TOO_MANY_AXLES"));
+
+    let (mut output, mut short) = ([b'~'; 2000], [7; mctc::ANSWER - 1]);
+    let number = mctc::lent::join(&first, &second, &mut output, &mut short);
+    assert_eq!(number, u32::MAX, "the answer is too short");
+    assert_eq!((output, short), ([b'~'; 2000], [7; mctc::ANSWER - 1]));
 }
 
 /// The diesel's set, with this opacity file.
@@ -293,6 +444,11 @@ fn a_set_says_how_many_names_were_compared() {
         ("accepted-diesel/AE305518", with_axles + opacity),
         // Its old booking is not read.
         ("accepted-moped/AD900123", new_booking + gas),
+        // Drift of four axles.
+        (
+            "accepted-joined/AH117044",
+            new_booking + old_booking + drift + 2 * section(1),
+        ),
     ];
     for (stem, right) in right {
         assert_eq!(accepted(stem).names_compared, right, "{stem}");
@@ -307,6 +463,8 @@ fn a_set_says_how_long_its_measures_lasted() {
         ("accepted-moped/AD900123", [0, 0, 403, 0]),
         // Its drift went over midnight.
         ("accepted-midnight/AG280227", [40, 0, 0, 527]),
+        // From the start of the first file to the end of the second.
+        ("accepted-joined/AH117044", [466, 0, 0, 0]),
     ];
     for (stem, right) in right {
         let acceptance = accepted(stem);

@@ -23,6 +23,7 @@ use Rattle.tables.proofs.Values.{held_number}
 use Rattle.reading.proofs.Tables.{number-distinct}
 use Rattle.reading.proofs.Theorem.{sound}
 use Rattle.files.proofs.Theorem.{by-inv}
+use Rattle.files.proofs.Steps.{places-fit}
 use Rattle.files.proofs.Texts.{text-held, text-values}
 
 module _ (n : ℕ) (s p : List ℕ) where
@@ -60,7 +61,7 @@ module _ (n : ℕ) (s p : List ℕ) where
       by_hand =
           of_number_lem false (λ f. is_by_hand f (values_of f a s q)) file n number
           ∙ ap (λ (m : ℕ). is_by_hand file (values_of file m s q)) axles-are
-          ∙ ap (is_by_hand file) (text-values file n number s p q y v enough)
+          ∙ ap (is_by_hand file) (text-values file n number s p q y v (places-fit n p enough))
           ∙ sym (of_number_lem false (λ f. is_by_hand f (map (value_at s) v.0)) file n number)
 
       pub cleared-read : (h : Bool) → h ≡ by_hand_in n (λ f. values_of f a s q) → ReadsCleared n s p q (Ok (record { axles = a; byhand = h }))

@@ -148,13 +148,13 @@ module _ {n : ℕ} {s p q : List ℕ} {axles : ℕ} (x : AloneRead n s p q axles
   pub alone-pairs : pairs_at q (first_pair x.file) (length (entries x.file axles)) ≡ x.pairs
   alone-pairs =
       ap (λ (y : List ℕ). pairs_at y (first_pair x.file) (length (entries x.file axles))) x.places-are
-      ∙ own-pairs x.file axles x.pairs x.lines (cleared least_places p) x.is.same_many alone-many (pairs-fit x.file s x.count x.pairs x.lines x.is) (omega (arith, cleared-length least_places p x.enough, x.enough))
+      ∙ own-pairs x.file axles x.pairs x.lines (cleared least_places p) x.is.same_many alone-many (omega (arith, pairs-fit x.file s x.count x.pairs x.lines x.is, cleared-length least_places p x.enough, x.enough))
 
   -- 02, 7/14: and its lines
   pub alone-lines : lines_at q (first_pair x.file) (length (entries x.file axles)) ≡ x.lines
   alone-lines =
       ap (λ (y : List ℕ). lines_at y (first_pair x.file) (length (entries x.file axles))) x.places-are
-      ∙ own-lines x.file axles x.pairs x.lines (cleared least_places p) x.is.same_many alone-many (pairs-fit x.file s x.count x.pairs x.lines x.is) (omega (arith, cleared-length least_places p x.enough, x.enough))
+      ∙ own-lines x.file axles x.pairs x.lines (cleared least_places p) x.is.same_many alone-many (omega (arith, pairs-fit x.file s x.count x.pairs x.lines x.is, cleared-length least_places p x.enough, x.enough))
 
   pub alone-within : Within s (pairs_at q (first_pair x.file) (length (entries x.file axles)))
   alone-within = subst (Within s) (sym alone-pairs) x.is.within
@@ -193,5 +193,5 @@ alone-complete f n vs s h p l =
     let mark : by_hand_in (file_number f) (λ g. map (value_at s) ps) ≡ is_by_hand f (map (value_at s) ps) = of-file false (λ g. is_by_hand g (map (value_at s) ps)) f in
     let first : of_number 0 first_pair (file_number f) ≡ first_pair f = of-file 0 first_pair f in
     let m : length ps ≡ length (entries f n) = k.many ∙ ap (λ (i : ℕ). length (entries f i)) r.4 in
-    let there = own-pairs f n ps r.2 (cleared least_places p) k.same_many m (pairs-fit f s c ps r.2 k) (omega (arith, cleared-length least_places p l)) in
+    let there = own-pairs f n ps r.2 (cleared least_places p) k.same_many m (omega (arith, pairs-fit f s c ps r.2 k, cleared-length least_places p l)) in
     (rw (b, file, full, e, axles, mark, r.4, r.5), rw (b, file, full, e, first, there) r.5)

@@ -25,7 +25,7 @@ use Rattle.reading.proofs.Lookup.{rows-less}
 use Rattle.reading.proofs.Sections.{kinds-take}
 use Rattle.reading.proofs.Judging.{scan-refused, scan-judged}
 use Rattle.files.specs.Files.{read_by, read_numbered}
-use Rattle.files.specs.Steps.{KindsOf, slots_of, ValuesReady, ScansFile, JudgesSlots, slots_read, RowsReady, WriteReady, WritesRows, WritesRead, ReadsSlots, ReadsText}
+use Rattle.files.specs.Steps.{FilePlaces, KindsOf, slots_of, ValuesReady, ScansFile, JudgesSlots, slots_read, RowsReady, WriteReady, WritesRows, WritesRead, ReadsSlots, ReadsText}
 use Rattle.files.specs.declared.Fault.{Fault}
 use Rattle.files.specs.declared.Slot.{Slot}
 use Rattle.files.specs.declared.TextRead.{TextRead}
@@ -105,8 +105,12 @@ number_fits (suc (suc (suc (suc (suc (suc zero)))))) = omega arith
 number_fits (suc (suc (suc (suc (suc (suc (suc zero))))))) = omega (arith, file-in opacity)
 number_fits (suc (suc (suc (suc (suc (suc (suc (suc n)))))))) = omega arith
 
-pub pairs-fit : (n c : ℕ) (p : List ℕ) → least_places ≤ length p → place_size * (of_number 0 first_pair n + length (entries_of (take c (table_of n)))) ≤ length p
-pairs-fit n c p h = omega (arith, number_fits n, entries-first (table_of n) c)
+-- as many places as a caller lends are enough for each
+pub places-fit : (n : ℕ) (p : List ℕ) → least_places ≤ length p → FilePlaces n p
+places-fit n p h = omega (arith, number_fits n)
+
+pub pairs-fit : (n c : ℕ) (p : List ℕ) → FilePlaces n p → place_size * (of_number 0 first_pair n + length (entries_of (take c (table_of n)))) ≤ length p
+pairs-fit n c p h = omega (arith, h, entries-first (table_of n) c)
 
 -- ---- what write_read asks of its parts, and gives
 
@@ -168,7 +172,7 @@ module _ (n : ℕ) (s : List ℕ) where
     pub text-faulty : (x : Fault) (p : List ℕ) → ReadsSlots n s (slots_of xs) (Err x) → ReadsText n s (Err (refusal_with x.kind n x.line)) p p
     text-faulty x p w = (by-text ∙ w.is, refl, refl)
 
-    pub text-ready : (c : ℕ) (p : List ℕ) → Ready (table_of n) s (slots_of xs) → least_places ≤ length p → WriteReady n c xs p
+    pub text-ready : (c : ℕ) (p : List ℕ) → Ready (table_of n) s (slots_of xs) → FilePlaces n p → WriteReady n c xs p
     text-ready c p w h =
         record {
           rows_are = sym (lines-length xs) ∙ w.lines_are;

@@ -153,6 +153,15 @@ read-complete f n vs s h =
     let l = file-short f n vs s h in
     (c, r.0, r.1, rw (le-leb (length s) most_bytes l) r.2, (sectioned f n (has_axles f) refl h.count).axles-are, r.3)
 
+-- each entry stands on the line that reading gives
+pub entries-stand : (f : File) (n : ℕ) (vs : List (List ℕ)) (s : List ℕ) (h : IsFile f n vs s) (i : ℕ) → i < length (entries f n)
+    → (k : ℕ) × EntryStandsAt (sections f n) s i k (get_or (read-complete f n vs s h).2 i 0)
+entries-stand f n vs s h i l =
+    let r = read-complete f n vs s h in
+    let x = read-sound f s r.0 r.1 r.2 r.3 in
+    let k : ℕ = (get_or r.1 i (0, 0)).0 in
+    (k, subst (λ (m : ℕ). EntryStandsAt (sections f m) s i k (get_or r.2 i 0)) r.4 (x.stand i (omega (arith, l, x.many, ap (λ (m : ℕ). length (entries f m)) r.4))))
+
 -- 02, 7/14: an entry of a file stands at one start and on one line
 pub place-unique : (f : File) (n : ℕ) (vs : List (List ℕ)) (s : List ℕ) → IsFile f n vs s
     → (i j k l m : ℕ) → EntryStandsAt (sections f n) s i j l → EntryStandsAt (sections f n) s i k m → (j ≡ k) × (l ≡ m)

@@ -7,7 +7,7 @@ use Rattle.refusals.specs.declared.Refusal.{Refusal}
 use Rattle.refusals.specs.declared.RefusalKind.{RefusalKind}
 use Rattle.kinds.specs.Kind.{Kind}
 use Rattle.places.specs.Places.{Pair, set_triples, place_size, value_at}
-use Rattle.tables.specs.Section.{Section}
+use Rattle.tables.specs.Section.{Section, entries_of}
 use Rattle.tables.specs.Row.{row_count, row_kinds, row_kind, entries_before}
 use Rattle.orders.specs.AnyOrder.{zip}
 use Rattle.reading.specs.Tables.{most_bytes}
@@ -88,6 +88,10 @@ pub record ValuesReady (ks s : List ℕ) (xs : List Slot) (rows : ℕ) : Type 0 
 
 pub record JudgesSlots (t : List Section) (least : ℕ) (s : List ℕ) (a : Slots) (r : Result ℕ Fault) : Type 0 where
   pub is : judge_slots t least s a (sections_found t a.line_numbers) ≡ slots_read t r a
+
+-- there are places for the entries of file n, whatever its axles
+abbrev pub FilePlaces : ℕ → List ℕ → Type 0
+FilePlaces n p = place_size * (of_number 0 first_pair n + length (entries_of (table_of n))) ≤ length p
 
 -- The text s of the file of number n was read: places p before, q after. By cases of the answer, which has no room for the pairs and
 -- the lines: they are in the places.

@@ -12,7 +12,7 @@ ghost use Rattle.reading.specs.Tables.{most_bytes};
 ghost use Rattle.reading.specs.Reading.{sections_found, check_gap, check_absent, check_kinds, kept_row, owner_row};
 ghost use Rattle.reading.specs.Scanning.{Took, Ready};
 ghost use Rattle.files.specs.Files.{by_hand_in};
-ghost use Rattle.files.specs.Steps.{KindsOf, slots_of, ScansFile, SlotsEmpty, ValuesReady, RowsReady, WritesRows, failure, check_is, JudgesSlots, WriteReady, WritesRead, ReadsSlots, ReadsText};
+ghost use Rattle.files.specs.Steps.{KindsOf, slots_of, ScansFile, SlotsEmpty, ValuesReady, RowsReady, WritesRows, failure, check_is, JudgesSlots, WriteReady, WritesRead, ReadsSlots, FilePlaces, ReadsText};
 ghost use Rattle.files.specs.Alone.{refused_as, ReadsCleared, ReadsAlone};
 
 use kinds::numbers::KIND_COUNT;
@@ -311,8 +311,7 @@ fn read_into(
     slots: &mut [Slot],
     places: &mut [u32],
 ) -> Result<TextRead, Refusal>
-    requires { (least_places ≤ length places.old)
-        × SlotsEmpty file kinds.now text.now (slots_of slots.old) }
+    requires { FilePlaces file places.old × SlotsEmpty file kinds.now text.now (slots_of slots.old) }
     ensures { ReadsText file text.now result places.old places.new }
 {
     let read = read_slots(file, kinds, text, slots).map_err(|x| x.in_file(file))?;
@@ -322,7 +321,7 @@ fn read_into(
 
 // 3 to 9 of one file, the pairs and the lines of its entries into the places. Refused, these stay.
 pub fn read_text(file: u32, text: &[u8], places: &mut [u32]) -> Result<TextRead, Refusal>
-    requires { least_places ≤ length places.old }
+    requires { FilePlaces file places.old }
     ensures { ReadsText file text.now result places.old places.new }
 {
     if MOST_BYTES < text.len() {

@@ -153,10 +153,10 @@ module _ (stated : Stated) (S : Slices) (p : List ℕ) where
       given : is_given (S.file gas) ≡ true → Held gas 0 (S.file gas) v × (identification_judged (S.file gas) S.identification v ≡ identification_step stated S a)
       given e =
           let k : Passed gas a (S.file gas) g = (file-sound gas stated a (S.file gas) g s).read e in
-          let fit : place_size * (first_pair gas + length g.pairs) ≤ least_places = omega (arith, read-few gas a (S.file gas) g k, rooms-fit gas) in
+          let fit : place_size * (first_pair gas + length g.pairs) ≤ length q = omega (arith, read-few gas a (S.file gas) g k, rooms-fit gas, h.held.0) in
           let o : pairs_of gas 0 v ≡ g.pairs
           = ap (pairs_of gas 0) j.3 ∙ ap (λ (c : ℕ). pairs_at (set_triples (first_pair gas) g.pairs g.lines q) (first_pair gas) c) (gas-count 0 ∙ sym (gas-count g.axles))
-          ∙ own-pairs gas g.axles g.pairs g.lines q k.same_many k.many fit h.held.0 in (
+          ∙ own-pairs gas g.axles g.pairs g.lines q k.same_many k.many fit in (
             (omega (arith, ap length j.3, set-length (first_pair gas) g.pairs g.lines q, h.held.0), subst (Within (S.file gas)) (sym o) k.within),
             ap (λ (u : List (List ℕ)). judge_identification (is_given (S.file gas)) u S.identification) (ap (map (value_at (S.file gas))) o ∙ sym k.values ∙ ap (λ (z : FileRead). z.values) is),
           )
@@ -289,7 +289,7 @@ module _ (stated : Stated) (S : Slices) (p q : List ℕ) (l : least_places ≤ l
     fit = omega (arith, read-few ac2 b.values (S.file ac2) b w, rooms-fit ac2)
 
     own : pairs_of ac2 0 q ≡ b.pairs
-    own = ap (pairs_of ac2 0) h.4 ∙ sym (new-pairs b.axles (set_triples (first_pair ac2) b.pairs b.lines p)) ∙ own-pairs ac2 b.axles b.pairs b.lines p w.same_many w.many fit l
+    own = ap (pairs_of ac2 0) h.4 ∙ sym (new-pairs b.axles (set_triples (first_pair ac2) b.pairs b.lines p)) ∙ own-pairs ac2 b.axles b.pairs b.lines p w.same_many w.many (omega (arith, fit, l))
 
     values : new_values (S.file ac2) q ≡ b.values
     values = ap (map (value_at (S.file ac2))) own ∙ sym w.values

@@ -21,6 +21,7 @@ use Rattle.files.specs.Steps.{ReadsText}
 use Rattle.files.specs.declared.TextRead.{TextRead}
 use Rattle.files.proofs.Alone.{count-in}
 use Rattle.files.proofs.Theorem as T
+use Rattle.files.proofs.Steps.{places-fit}
 use Rattle.files.proofs.Texts.{few-axles, pairs-fit, read-numbered, text-read, text-is, text-set, text-pairs, text-lines, text-held}
 use Rattle.due.specs.Booking.{booking_in}
 use Rattle.due.specs.declared.Booking.{Booking}
@@ -90,10 +91,10 @@ module _ (file : ℕ) (number : IsNumber file) (t p q : List ℕ) (r : Result Te
     set = text-set f file (sym number) t p q y v
 
     own : pairs_of f (axles_of f c) q ≡ ps
-    own = text-pairs f file (sym number) t p q y v enough
+    own = text-pairs f file (sym number) t p q y v (places-fit file p enough)
 
     now-read : read_at f c t q ≡ file_read f t c ps ls
-    now-read = ap₂ (λ (x : List Pair) (l : List ℕ). file_read f t c x l) own (text-lines f file (sym number) t p q y v enough)
+    now-read = ap₂ (λ (x : List Pair) (l : List ℕ). file_read f t c x l) own (text-lines f file (sym number) t p q y v (places-fit file p enough))
 
     abbrev held : Held f (axles_of f c) t q
     held = text-held f file (sym number) t p q y v enough

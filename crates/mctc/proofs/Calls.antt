@@ -1,22 +1,26 @@
 -- A written file reads back, by what its call says; what a judged set promises in its call. Assumes nothing.
 use Prim.Native.Nat.{ℕ, ◌≤◌}
 use native.Mathlib.Omega.{arith}
-use mathlib.Core.Path.{◌≡◌, ap, sym, subst}
+use mathlib.Core.Path.{◌≡◌, ap, sym, subst, ◌∙◌}
 use mathlib.Core.List.{List, ◌++◌}
 use lib.ListN.{length, get_or, take, drop}
 use borrow.Author.Tests.{le-leb}
 use Rattle.std.specs.Prelude.{Result, Ok, Err}
+use mathlib.Core.Bool.{true, false, true≢false}
 use Rattle.refusals.specs.Answer.{answer_is, Answer}
 use Rattle.refusals.specs.declared.Refusal.{Refusal}
 use Rattle.refusals.proofs.Laws.{not-zero}
 use Rattle.tables.specs.File.{least_places}
-use Rattle.writing.specs.Writing.{answer_of, quote_for, output_after}
+use Rattle.writing.specs.Writing.{written, answer_of, quote_for, output_after}
 use Rattle.writing.specs.ReadBack.{IsReadBack}
 use Rattle.writing.proofs.Theorem.{reads-back}
 use Rattle.writing.proofs.Ignored.{lines-ignored}
 use Rattle.writing.specs.declared.WriteAcceptance.{WriteAcceptance}
 use Rattle.mctc.specs.Answers.{answer_size, answered, write_numbers, set_numbers, Filled}
-use Rattle.mctc.specs.Calls.{WriteCall, returned, answer_after, where_fits, SetFilled, JudgeCall}
+use Rattle.mctc.specs.Calls.{WriteCall, JoinCall, returned, answer_after, where_fits, SetFilled, JudgeCall}
+use Rattle.joining.specs.Joining.{join_answer, join_output}
+use Rattle.joining.specs.Promises as J
+use Rattle.joining.proofs.Promised.{promised}
 use mathlib.Core.Logic.{◌↔◌}
 use Rattle.sets.specs.Records.{Caller, Slices}
 use Rattle.sets.specs.declared.Acceptance.{Acceptance}
@@ -45,6 +49,32 @@ module _ (s p : List ℕ) (file n : ℕ) (o t a b : List ℕ) (r : ℕ) where
       → (answer_size ≤ length a → (x : Result WriteAcceptance Refusal) × (answer_is x ≡ answer_of file (quote_for file n s p o)))
       → WriteCall s p file n o t a b r
   write-call f g e l h = record { number = f; answer = g; output = e; reads-back = λ z. let w = h (l z) in back w.0 (l z) w.1 f g e z; lines-ignored = lines-ignored file n s p o }
+
+module _ (s t o u a b : List ℕ) (r : ℕ) where
+  -- 0 is returned exactly where two files are joined: no refusal has that number
+  zero-joins : (x : Result WriteAcceptance Refusal) → answer_is x ≡ join_answer s t o → r ≡ get_or (write_numbers (join_answer s t o)) 0 0 → (r ≡ 0) ↔ J.IsAccepted s t o
+  zero-joins (Ok x) h e = (λ z. (x.length, sym h), λ z. rw (← h) at e)
+  zero-joins (Err x) h e =
+      let v : r ≡ get_or (write_numbers (answer_is {A = WriteAcceptance} (Err x))) 0 0 = rw (← h) at e in
+      (λ z. absurd (omega (arith, not-zero x.kind, v)), λ z. let w : ◌≡◌ {A = Answer WriteAcceptance} (answer_is (Err x)) (written z.0) = h ∙ z.1 in let y : true ≡ false = cc in absurd (true≢false y))
+
+  pub join-call : r ≡ returned (write_numbers (join_answer s t o)) a
+      → b ≡ answer_after (write_numbers (join_answer s t o)) a
+      → u ≡ where_fits a (join_output s t o) o
+      → (r ≡ 0 → answer_size ≤ length a)
+      → (answer_size ≤ length a → (x : Result WriteAcceptance Refusal) × (answer_is x ≡ join_answer s t o))
+      → JoinCall s t o u a b r
+  join-call f g e l h =
+      let p = promised s t o in
+      let done : answer_size ≤ length a → (r ≡ 0) ↔ J.IsAccepted s t o
+      = λ k. let w = h k in zero-joins w.0 w.1 (rw (le-leb answer_size (length a) k) at f) in
+      record {
+        number = f;
+        answer = g;
+        output = e;
+        accepted = (λ z. (l z, p.exactly.0 ((done (l z)).0 z)), λ d. (done d.0).1 (p.exactly.1 d.1));
+        promised = p;
+      }
 
 -- 0 is returned exactly where a set is accepted: no refusal has that number
 zero-accepts : (x : Result Acceptance Refusal) (r : ℕ) → r ≡ get_or (set_numbers (answer_is x)) 0 0 → (r ≡ 0) ↔ IsAccepted (answer_is x)

@@ -9,6 +9,8 @@ use Rattle.files.specs.Alone.{alone_answer, alone_places}
 use Rattle.writing.specs.Writing as W
 use Rattle.writing.specs.Writing.{quote_for, output_after, LinesIgnored}
 use Rattle.writing.specs.ReadBack.{IsReadBack}
+use Rattle.joining.specs.Joining.{join_answer, join_output}
+use Rattle.joining.specs.Promises.{MakeOne, Promised}
 use Rattle.names.specs.Names as N
 use Rattle.rules.specs.Slices.{good_stem}
 use Rattle.sets.specs.Records.{Caller, Slices}
@@ -59,6 +61,15 @@ pub record WriteCall (s p : List ℕ) (file n : ℕ) (o t a b : List ℕ) (r : �
   pub reads-back : r ≡ 0 → (q : List ℕ) → least_places ≤ length q → IsReadBack file n s p (take (get_or b 3 0) t) q
   -- 02, 7/14: "Writing ignores the third number"
   pub lines-ignored : LinesIgnored file n s p o
+
+-- two drift files made one (02, 8/14): inputs s and t, output o before and u after
+pub record JoinCall (s t o u a b : List ℕ) (r : ℕ) : Type 0 where
+  pub number : r ≡ returned (write_numbers (join_answer s t o)) a
+  pub answer : b ≡ answer_after (write_numbers (join_answer s t o)) a
+  pub output : u ≡ where_fits a (join_output s t o) o
+  -- 0 exactly when the answer array is long enough, and the inputs are good drift files that make one, for which the output has room
+  pub accepted : (r ≡ 0) ↔ ((answer_size ≤ length a) × MakeOne s t (length o))
+  pub promised : Promised s t o
 
 -- the name x copied, `entry_name`, `heading_name` or `entry_word` (`names` Names) of the file and numbers: output o before and t after
 pub record NameCall (file : ℕ) (x : Option N.Name) (o t a b : List ℕ) (r : ℕ) : Type 0 where

@@ -1,6 +1,6 @@
-// The interface for C (include/mctc.h), which mctc_c exports: a whole set judged, one file read alone, one file written,
-// names of entries and headings copied, the kinds of entries and their words, the due column of one file. Each call fills
-// an array of numbers that the caller lends with its answer, and returns the first of them.
+// The interface for C (include/mctc.h), which mctc_c exports: a whole set judged, one file read alone, one file written, two drift
+// files made one, names of entries and headings copied, the kinds of entries and their words, the due column of one file. Each
+// call fills an array of numbers that the caller lends with its answer, and returns the first of them.
 #![tactic(auto)]
 
 pub mod asked; // asked.rt: what the judge goes by, for whoever explains a refusal
@@ -10,7 +10,7 @@ ghost use Rattle.refusals.specs.Answer.{answer_is};
 ghost use Rattle.names.specs.Names as N;
 ghost use Rattle.sets.specs.Records.{caller_of, slices_of};
 ghost use Rattle.mctc.specs.Answers.{refusal_numbers, numbers_of, read_carried, write_carried, name_carried, kind_carried, set_carried, due_carried, Room, Filled};
-ghost use Rattle.mctc.specs.Calls.{AnsweredBy, ReadCall, WriteCall, NameCall, KindCall, SetFilled, JudgeCall, DueCall};
+ghost use Rattle.mctc.specs.Calls.{AnsweredBy, ReadCall, WriteCall, JoinCall, NameCall, KindCall, SetFilled, JudgeCall, DueCall};
 ghost use Rattle.judge.specs.Judged.{slices_in};
 
 use columns::ColumnAcceptance;
@@ -222,6 +222,16 @@ pub fn mctc_write(
     answered(
         answer,
         &mut |numbers| { fill_answer(numbers, writing::write_file(values, file, axles, output)) },
+    )
+}
+
+// Two drift files made one (02, 8/14).
+pub fn mctc_join(first: &[u8], second: &[u8], output: &mut [u8], answer: &mut [u32]) -> u32
+    ensures { JoinCall first.now second.now output.old output.new answer.old answer.new result }
+{
+    answered(
+        answer,
+        &mut |numbers| { fill_answer(numbers, joining::join_files(first, second, output)) },
     )
 }
 

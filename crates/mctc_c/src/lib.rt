@@ -4,7 +4,7 @@
 
 ghost use Rattle.names.specs.Names as N;
 ghost use Rattle.sets.specs.Records.{caller_of, slices_of};
-ghost use Rattle.mctc.specs.Calls.{ReadCall, WriteCall, NameCall, KindCall, JudgeCall, DueCall, AskCall};
+ghost use Rattle.mctc.specs.Calls.{ReadCall, WriteCall, JoinCall, NameCall, KindCall, JudgeCall, DueCall, AskCall};
 ghost use Rattle.mctc.specs.Asked.{condition_numbers, file_numbers, test_numbers, identification_numbers, entry_numbers};
 
 // A whole set judged (01, Judging; slice 7: 02, 2/14).
@@ -60,6 +60,19 @@ pub extern "C" fn mctc_write(
     ensures { WriteCall text.now places.now file axles output.old output.new answer.old answer.new result }
 {
     mctc::mctc_write(text, places, file, axles, output, answer)
+}
+
+// Two drift files made one (02, 8/14).
+#[unsafe(no_mangle)]
+pub extern "C" fn mctc_join(
+    first: &[u8],
+    second: &[u8],
+    output: &mut [u8],
+    answer: &mut [u32],
+) -> u32
+    ensures { JoinCall first.now second.now output.old output.new answer.old answer.new result }
+{
+    mctc::mctc_join(first, second, output, answer)
 }
 
 // The name of an entry (01, Judging).

@@ -1,6 +1,6 @@
--- The checks after the scan: what a check that passes says, and one turn of a loop that makes it. Assumes nothing.
+-- The checks after the scan: what a check says that passes or fails, and one turn of a loop that makes it. Assumes nothing.
 use Prim.Native.Nat.{ℕ, zero, suc, ◌+◌, ◌-◌, ◌<◌, ◌≤◌}
-use mathlib.Core.Path.{◌≡◌, refl, ap, ◌∙◌}
+use mathlib.Core.Path.{◌≡◌, refl, ap, sym, ◌∙◌}
 use mathlib.Core.Bool.{Bool, true, false, cond}
 use mathlib.Core.List.{List}
 use native.Mathlib.Decide.{ℕ_discrete}
@@ -54,6 +54,47 @@ module _ (wrong : ℕ → Bool) (number : ℕ) (line : ℕ → ℕ) where
     wrong-end l =
         let q : e - r ≡ 0 = omega arith in
         rw q
+
+-- ---- the first row that is wrong: a check fails there, and nowhere else
+
+module _ (wrong : ℕ → Bool) where
+  -- of the n rows from r on, row i is the first that is wrong
+  pub record FirstIs (n r i : ℕ) : Type 0 where
+    pub from : r ≤ i
+    pub below : i < r + n
+    pub here : wrong i ≡ true
+    pub before : (j : ℕ) → r ≤ j → j < i → wrong j ≡ false
+
+  first-here : (n r : ℕ) → wrong r ≡ true → FirstIs (suc n) r r
+  first-here n r w = record { from = omega arith; below = omega arith; here = w; before = λ j p q. absurd (omega arith) }
+
+  first-later : (n r i : ℕ) → wrong r ≡ false → FirstIs n (r + 1) i → FirstIs (suc n) r i
+  first-later n r i w f =
+      record {
+        from = omega (arith, f.from);
+        below = omega (arith, f.below);
+        here = f.here;
+        before = λ j p q. elim (ℕ_discrete r j) [ yes e ↦ ap wrong (sym e) ∙ w | no m ↦ f.before j (omega arith) q ];
+      }
+
+  module _ (number : ℕ) (line : ℕ → ℕ) where
+    pub fails-first : (n r k l : ℕ) → first_wrong wrong number line n r ≡ fails k l → (i : ℕ) × FirstIs n r i × (k ≡ number) × (l ≡ line i)
+    unfolding first_wrong
+    fails-first zero r k l e = clash (cc)
+    fails-first (suc n) r k l e =
+        by-test (wrong r)
+        (λ w. let q : fails number (line r) ≡ fails k l = rw w at e in (r, first-here n r w, cc, cc))
+        (λ w. let x = fails-first n (r + 1) k l (rw w at e) in (x.0, first-later n r x.0 w x.1, x.2, x.3))
+
+    pub first-fails : (n r i : ℕ) → FirstIs n r i → first_wrong wrong number line n r ≡ fails number (line i)
+    unfolding first_wrong
+    first-fails zero r i f = absurd (omega (arith, f.from, f.below))
+    first-fails (suc n) r i f =
+        elim (ℕ_discrete r i) [
+          | yes e ↦ rw (e, f.here) refl
+          | no m ↦ rw (f.before r (omega arith) (omega (arith, f.from)))
+              (first-fails n (r + 1) i (record { from = omega (arith, f.from); below = omega (arith, f.below); here = f.here; before = λ j p q. f.before j (omega arith) q }))
+        ]
 
 -- ---- the sections that were found
 

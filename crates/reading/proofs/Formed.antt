@@ -1,5 +1,5 @@
 -- Every line of kept values is well formed and not too long, and the length of their text is known, by the tests of the table alone. Assumes nothing.
-use Prim.Native.Nat.{ℕ, zero, suc, ◌+◌, ◌≤◌}
+use Prim.Native.Nat.{ℕ, zero, suc, ◌+◌, ◌≤◌, ◌<◌}
 use mathlib.Core.Path.{◌≡◌, refl, ap, sym, ◌∙◌}
 use mathlib.Core.Bool.{true, ◌&&◌}
 use mathlib.Core.Option.{Option, none, some}
@@ -7,7 +7,7 @@ use mathlib.Core.List.Permᴰ
 use mathlib.Core.List.{List, [], ◌∷◌, ◌++◌, map}
 use native.Mathlib.Omega.{arith}
 use lib.Dec.{leb}
-use lib.ListN.{length, take, length-append, length-map}
+use lib.ListN.{length, get_or, set, take, length-append, length-map}
 use borrow.Author.Tests.{leb-true, le-leb}
 use Rattle.lines.specs.Bytes.{is_printable, all_printable}
 use Rattle.lines.specs.Line.{Line, heading, entry, line_bytes, written_line, written_length, text_of, good_length, opens, formed, well_formed, all_well_formed}
@@ -223,10 +223,17 @@ total-entries h [] (v ∷ vs) n = absurd (omega arith)
 total-entries h (e ∷ es) [] n = absurd (omega arith)
 total-entries h (e ∷ es) (v ∷ vs) n = let r = total-entries h es vs (omega arith) in omega arith
 
-values-append : (vs ws : List Value) → values_length (vs ++ ws) ≡ values_length vs + values_length ws
+pub values-append : (vs ws : List Value) → values_length (vs ++ ws) ≡ values_length vs + values_length ws
 unfolding values_length
 values-append [] ws = omega arith
 values-append (v ∷ vs) ws = let r = values-append vs ws in omega arith
+
+-- with another value for place i
+pub values-set : (vs : List Value) (i : ℕ) (v : Value) → i < length vs → values_length (set vs i v) + length (get_or vs i []) ≡ values_length vs + length v
+unfolding values_length
+values-set [] i v l = absurd (omega arith)
+values-set (u ∷ vs) zero v l = omega arith
+values-set (u ∷ vs) (suc i) v l = omega (arith, values-set vs i v (omega arith))
 
 total-table : (t : List Section) (v : Values) → SameShape (name_table t) v → total (zip (table_rows t) (row_values v)) ≡ table_length t + values_length (joined v)
 unfolding total table_length joined

@@ -1,14 +1,16 @@
--- The lines of values in table order fit these values. Assumes nothing.
-use Prim.Native.Nat.{suc, ◌≤◌}
+-- Values that are kept, and their lines in table order, which fit them. Assumes nothing.
+use Prim.Native.Nat.{ℕ, zero, suc, ◌≤◌, ◌<◌}
 use mathlib.Core.Path.{◌≡◌, refl, ap, sym, ◌∙◌}
+use mathlib.Core.Bool.{true}
 use mathlib.Core.List.Permᴰ
 use mathlib.Core.List.{List, [], ◌∷◌, ◌++◌}
 use native.Mathlib.Omega.{arith}
 use Rattle.std.proofs.lemmas.List.{nil_from_length}
-use lib.ListN.{length, take, drop, length-append, length-drop, length-map, take-append-drop}
+use lib.ListN.{length, get_or, take, drop, length-append, length-drop, length-map, take-append-drop}
 use lib.Seq.{length-take-le}
+use Rattle.kinds.specs.Value.{kind_kept}
 use Rattle.tables.specs.Section.{Entry, Section, entries_of}
-use Rattle.tables.specs.Row.{names}
+use Rattle.tables.specs.Row.{no_entry, names}
 use Rattle.orders.specs.AnyOrder.{Value, Values, zip, lines_of, Each, done, next}
 use Rattle.reading.specs.Fitting.{joined, name_table, FitsText, EachKept}
 use Rattle.reading.specs.Writing.{groups_of, write_text}
@@ -45,6 +47,20 @@ kept-length [] [] k = refl
 kept-length [] (v ∷ vs) k = absurd k
 kept-length (e ∷ es) [] k = absurd k
 kept-length (e ∷ es) (v ∷ vs) k = ap suc (kept-length es vs k.1)
+
+-- the value of an entry is empty or of its kind
+pub kept_at : (es : List Entry) (vs : List Value) → EachKept es vs → (i : ℕ) → i < length es → kind_kept (get_or es i no_entry).kind (get_or vs i []) ≡ true
+kept_at [] vs k i h = absurd (omega arith)
+kept_at (e ∷ es) [] k i h = absurd k
+kept_at (e ∷ es) (v ∷ vs) k zero h = k.0
+kept_at (e ∷ es) (v ∷ vs) k (suc i) h = kept_at es vs k.1 i (omega arith)
+
+-- a value for each entry, each of its kind, is what is kept
+pub each-kept : (es : List Entry) (vs : List Value) → length vs ≡ length es → ((i : ℕ) → i < length vs → kind_kept (get_or es i no_entry).kind (get_or vs i []) ≡ true) → EachKept es vs
+each-kept [] [] e f = tt
+each-kept [] (v ∷ vs) e f = absurd (omega arith)
+each-kept (x ∷ es) [] e f = absurd (omega arith)
+each-kept (x ∷ es) (v ∷ vs) e f = (f zero (omega arith), each-kept es vs (omega arith) (λ i l. f (suc i) (omega arith)))
 
 -- a value for each entry: the lines in table order are these values'
 pub written : (t : List Section) (vs : List Value) → length vs ≡ length (entries_of t) → FitsText t vs (write_text t vs)

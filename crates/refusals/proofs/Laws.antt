@@ -3,7 +3,7 @@ use Prim.Native.Nat.{◌≤◌}
 use native.Mathlib.Omega.{arith}
 use Rattle.refusals.specs.Refusals.{number_of}
 use Rattle.refusals.specs.declared.RefusalKind.{RefusalKind}
-use Rattle.refusals.specs.declared.RefusalKind.TheVariants.{PlacesTooShort, StemForm, FileTooLong, LineForm, HeadingNotExpected, EntryNotExpected, SectionAbsent, EntryAbsent, WrongKind, NotAsDue, SliceNotAsDue, BookingRule, DifferenceRule, IdentificationForm, IdentificationDiffers, FileOrAxles, PairOutside, OutputTooShort, DeviceOutOfDate}
+use Rattle.refusals.specs.declared.RefusalKind.TheVariants.{PlacesTooShort, StemForm, FileTooLong, LineForm, HeadingNotExpected, EntryNotExpected, SectionAbsent, EntryAbsent, WrongKind, NotAsDue, SliceNotAsDue, BookingRule, DifferenceRule, IdentificationForm, IdentificationDiffers, FileOrAxles, PairOutside, OutputTooShort, DeviceOutOfDate, HeadingsDisagree, TooManyAxles}
 
 pub not-zero : (k : RefusalKind) → 1 ≤ number_of k
 not-zero PlacesTooShort = omega arith
@@ -25,3 +25,5 @@ not-zero FileOrAxles = omega arith
 not-zero PairOutside = omega arith
 not-zero OutputTooShort = omega arith
 not-zero DeviceOutOfDate = omega arith
+not-zero HeadingsDisagree = omega arith
+not-zero TooManyAxles = omega arith

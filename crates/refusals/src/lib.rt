@@ -26,6 +26,8 @@ pub enum RefusalKind {
     PairOutside,
     OutputTooShort,
     DeviceOutOfDate,
+    HeadingsDisagree,
+    TooManyAxles,
 }
 
 #[derive(Debug, PartialEq, Eq, Clone, Copy)]
@@ -60,6 +62,8 @@ impl From<RefusalKind> for u32 {
             RefusalKind::PairOutside => 17,
             RefusalKind::OutputTooShort => 18,
             RefusalKind::DeviceOutOfDate => 19,
+            RefusalKind::HeadingsDisagree => 20,
+            RefusalKind::TooManyAxles => 21,
         }
     }
 }

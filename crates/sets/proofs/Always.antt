@@ -1,33 +1,25 @@
 -- An entry of gas that is always due holds a value of its kind, where kinds and due entries are kept. Assumes nothing.
-use Prim.Native.Nat.{ℕ, zero, suc, ◌<◌}
+use Prim.Native.Nat.{ℕ, ◌<◌}
 use Prim.Native.String.{String}
 use native.Mathlib.Omega.{arith}
 use mathlib.Core.Path.{◌≡◌, ap, sym, ◌∙◌}
 use mathlib.Core.Bool.{true}
-use mathlib.Core.List.{List, [], ◌∷◌}
+use mathlib.Core.List.{List, []}
 use lib.ListN.{length, get_or}
 use borrow.Author.Tests.{ltb-true, ne_eqb}
 use Rattle.kinds.specs.Kind.{Kind}
 use Rattle.kinds.specs.Value.{kind_ok, kind_kept}
-use Rattle.tables.specs.Section.{Entry}
 use Rattle.tables.specs.Row.{no_entry}
 use Rattle.tables.specs.File.{gas, entries}
 use Rattle.tables.specs.Value.{place_of, is_entry, of}
 use Rattle.reading.specs.Fitting.{EachKept}
-use Rattle.reading.proofs.Written.{kept-length}
+use Rattle.reading.proofs.Written.{kept-length, kept_at}
 use Rattle.due.specs.Conditions.{conditions_of}
 use Rattle.due.specs.Due as U
 use Rattle.due.specs.Due.{condition_at}
 use Rattle.due.specs.declared.Condition.TheVariants.{Always}
 use Rattle.due.proofs.FirstNotAsDue.{always-filled}
 use Rattle.sets.specs.Records.{EachAsDue}
-
--- the value of an entry is empty or of its kind
-kept_at : (es : List Entry) (vs : List (List ℕ)) → EachKept es vs → (i : ℕ) → i < length es → kind_kept (get_or es i no_entry).kind (get_or vs i []) ≡ true
-kept_at [] vs k i h = absurd (omega arith)
-kept_at (e ∷ es) [] k i h = absurd k
-kept_at (e ∷ es) (v ∷ vs) k zero h = k.0
-kept_at (e ∷ es) (v ∷ vs) k (suc i) h = kept_at es vs k.1 i (omega arith)
 
 -- a filled value
 kept-filled : (k : Kind) (v : List ℕ) → U.filled v ≡ true → kind_kept k v ≡ true → kind_ok k v ≡ true

@@ -53,10 +53,10 @@ use Rattle.sets.proofs.File.{file-sound, file-accepted}
 use Rattle.sets.proofs.Identification.{identification-sound, identification-complete}
 use Rattle.sets.proofs.Set.{record_of, same-record, of-each, SetPassed, passed-lawful, passed-fits, file-of}
 
-abbrev h : String → Line
+abbrev pub h : String → Line
 h s = heading (bytes s)
 
-abbrev e : String → String → Line
+abbrev pub e : String → String → Line
 e n v = entry (bytes n) (bytes v)
 
 -- ---- reading lines where they stand in their text
@@ -107,10 +107,10 @@ file-reads f ls w q =
     rw q
     (ap (λ (m : Layout). read_scan (all_sections f) (least_sections f) (text_of ls) (scan (all_sections f) (text_of ls) (length (all_sections f)) (empty_slots (row_count (all_sections f))) m)) (laid_out ls w))
 
-abbrev given : File → List Line → ℕ → List (List ℕ) → FileRead
+abbrev pub given : File → List Line → ℕ → List (List ℕ) → FileRead
 given f ls c vs = record { axles = axles_of f c; pairs = pairs_in (read_lines f ls); lines = numbers_in (read_lines f ls); values = vs; compared = names_compared (all_sections f) (text_of ls) }
 
-computed-accepted : (f : File) (st : Stated) (a : List (List ℕ)) (ls : List Line) (c : ℕ) (vs : List (List ℕ)) → Computed f st a ls c vs
+pub computed-accepted : (f : File) (st : Stated) (a : List (List ℕ)) (ls : List Line) (c : ℕ) (vs : List (List ℕ)) → Computed f st a ls c vs
     → judge_file f st a (text_of ls) ≡ acceptance (given f ls c vs)
 computed-accepted f st a ls c vs k =
     let r : Reading = read_lines f ls in

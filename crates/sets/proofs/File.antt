@@ -36,7 +36,7 @@ use Rattle.sets.proofs.Steps.{both-passed}
 
 -- ---- the checks
 
-due-passed : (f : File) (c : Conditions) (vs : List (List ℕ)) → check_due f c vs ≡ passed → (i : ℕ) → i < length vs → is_as_due f c i (get_or vs i []) ≡ true
+pub due-passed : (f : File) (c : Conditions) (vs : List (List ℕ)) → check_due f c vs ≡ passed → (i : ℕ) → i < length vs → is_as_due f c i (get_or vs i []) ≡ true
 due-passed f c vs e =
     let n = first_not_as_due f c vs in
     each-as-due f c vs
@@ -44,7 +44,7 @@ due-passed f c vs e =
     (λ q. let w : failed 10 n ≡ passed = rw q at e in clash (cc))
     (λ q. omega (arith, ltb-false n (length vs) q, first-le f c vs)))
 
-passed-due : (f : File) (c : Conditions) (vs : List (List ℕ)) → ((i : ℕ) → i < length vs → is_as_due f c i (get_or vs i []) ≡ true) → check_due f c vs ≡ passed
+pub passed-due : (f : File) (c : Conditions) (vs : List (List ℕ)) → ((i : ℕ) → i < length vs → is_as_due f c i (get_or vs i []) ≡ true) → check_due f c vs ≡ passed
 passed-due f c vs h =
     let e : first_not_as_due f c vs ≡ length vs = all-as-due f c vs h in
     rw (le-ltb (first_not_as_due f c vs) (length vs) (omega arith)) refl

@@ -1,14 +1,18 @@
 -- A file with n axles: a prefix of its whole table, and how many sections and entries it has. Assumes nothing.
-use Prim.Native.Nat.{ℕ, zero, suc, ◌+◌, ◌*◌, ◌≤◌}
+use Prim.Native.Nat.{ℕ, zero, suc, ◌+◌, ◌-◌, ◌*◌, ◌≤◌}
 use Prim.Native.String.{String}
 use native.Mathlib.Omega.{arith}
-use native.Mathlib.Nat.{suc-mul, mul-le-mul_right, le_of_suc-le-suc}
+use native.Mathlib.Nat.{add-zero, zero-add, suc-add, suc-mul, mul-le-mul_right, le_of_suc-le-suc}
+use mathlib.Core.Logic.{inl, inr}
 use mathlib.Core.Path.{◌≡◌, refl, ap, sym, ◌∙◌}
 use mathlib.Core.Bool.{true, false, false≢true}
 use mathlib.Core.List.{List, [], ◌∷◌, ◌++◌, append_assoc}
-use lib.ListN.{length, take, length-append}
+use lib.ListN.{length, get_or, take, length-append, get_or-eq_default}
+use Rattle.std.proofs.lemmas.Bool.{cases_lt}
+use Rattle.std.proofs.lemmas.List.{get_or_append_left, get_or-append_right}
 use Rattle.tables.specs.Section.{Entry, Section, entries_of}
 use Rattle.tables.specs.Entries.{sixteen, drift_axle, suspension_axle}
+use Rattle.tables.specs.Row.{no_entry}
 use Rattle.tables.specs.File.{
   axle_section,
   File,
@@ -32,7 +36,15 @@ use Rattle.tables.specs.File.{
 }
 
 module _ (h : String) (es : List Entry) where
-  axles-length : (k n : ℕ) → length (axles_from h es k n) ≡ n
+  -- axles k to k + n - 1, and those numbered on
+  pub axles-append : (k n m : ℕ) → axles_from h es k (n + m) ≡ axles_from h es k n ++ axles_from h es (k + n) m
+  unfolding axles_from
+  axles-append k zero m = rw (zero-add m, add-zero k)
+  axles-append k (suc n) m =
+      let z : k + suc n ≡ suc k + n = omega arith in
+      rw (suc-add n m, z) (ap (λ (t : List Section). axle_section h es k ∷ t) (axles-append (suc k) n m))
+
+  pub axles-length : (k n : ℕ) → length (axles_from h es k n) ≡ n
   unfolding axles_from
   axles-length k zero = refl
   axles-length k (suc n) = ap suc (axles-length (suc k) n)
@@ -43,7 +55,7 @@ module _ (h : String) (es : List Entry) where
   axles-prefix k (suc n) zero l = absurd (omega arith)
   axles-prefix k (suc n) (suc m) l = ap (λ (t : List Section). axle_section h es k ∷ t) (axles-prefix (suc k) n m (le_of_suc-le-suc l))
 
-  axles-entries : (k n : ℕ) → length (entries_of (axles_from h es k n)) ≡ n * length es
+  pub axles-entries : (k n : ℕ) → length (entries_of (axles_from h es k n)) ≡ n * length es
   unfolding axles_from entries_of
   axles-entries k zero = omega arith
   axles-entries k (suc n) = rw (length-append es (entries_of (axles_from h es (suc k) n)), axles-entries (suc k) n, suc-mul n (length es)) (omega arith)
@@ -110,3 +122,24 @@ entries-length f n = omega (arith, entries-sum f n, entries-sum f 0)
 pub entries-most : (f : File) (n : ℕ) → n ≤ most_axles → length (entries f n) ≤ room f
 unfolding room
 entries-most f n l = omega (arith, entries-sum f n, entries-sum f most_axles, mul-le-mul_right (length (axle_entries f)) l)
+
+-- ---- the entry at each place of drift, whatever the axles
+
+-- that of an axle
+abbrev pub axle_entry : Entry
+axle_entry = get_or drift_axle 0 no_entry
+
+each-axle : (k n i : ℕ) → get_or (entries_of (axles_from "[DerivaAsse_" (axle_entries drift) k n)) i axle_entry ≡ axle_entry
+unfolding axles_from axle_entries drift_axle entries_of
+each-axle k zero i = refl
+each-axle k (suc n) zero = refl
+each-axle k (suc n) (suc i) = each-axle (suc k) n i
+
+pub any-axles : (n i : ℕ) → get_or (entries drift n) i axle_entry ≡ get_or sixteen i axle_entry
+unfolding entries sections fixed_sections axle_sections entries_of
+any-axles n i =
+    let more = entries_of (axle_sections drift n) in
+    elim (cases_lt i (length sixteen)) [
+      | inl l ↦ get_or_append_left sixteen more axle_entry i l
+      | inr l ↦ get_or-append_right sixteen more (length sixteen) i axle_entry refl l ∙ each-axle 1 n (i - length sixteen) ∙ sym (get_or-eq_default sixteen axle_entry l)
+    ]

@@ -92,7 +92,7 @@ suspension-count n = omega (arith, entries-length suspension n)
 
 -- ---- a pair of a file that is held
 
-value-at : (t p : List ℕ) (a n k : ℕ) → k < n → get_or (map (value_at t) (pairs_at p a n)) k [] ≡ value_of t p (a + k)
+pub value-at : (t p : List ℕ) (a n k : ℕ) → k < n → get_or (map (value_at t) (pairs_at p a n)) k [] ≡ value_of t p (a + k)
 unfolding pairs_at
 value-at t p a zero k l = absurd (omega arith)
 value-at t p a (suc n) zero l = rw (add-zero a)

@@ -37,6 +37,9 @@ pub const OPACITY: u32 = 7;
 // As many rows as any table has: the size of an array with a number for each row.
 pub const MOST_ROWS: usize = 64;
 
+// As many axles as a file has at most.
+pub const MOST_AXLES: u32 = 9;
+
 // A section for all look-ups under its heading: its names, and how many rows of its table stand before it.
 #[derive(Clone, Copy)]
 pub struct SectionPlace<'a> {

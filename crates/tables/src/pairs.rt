@@ -40,6 +40,8 @@ pub const ACC_FRENO_STAZIONAMENTO: usize = 16;
 
 pub const ACC_NUM_ASSI_STAZIONAMENTO: usize = 17;
 
+pub const DRIFT_FIRST: usize = 18;
+
 pub const DRIFT_DATA_SCADENZA: usize = 22;
 
 pub const DRIFT_COD_ERRORE: usize = 29;

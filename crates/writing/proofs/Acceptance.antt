@@ -1,5 +1,5 @@
 -- What is accepted, and what then is written. Assumes nothing.
-use Prim.Native.Nat.{ℕ, ◌≤◌}
+use Prim.Native.Nat.{ℕ, ◌+◌, ◌≤◌}
 use native.Mathlib.Omega.{arith}
 use mathlib.Core.Path.{◌≡◌, refl, ap, ap₂, sym, ◌∙◌}
 use mathlib.Core.Bool.{Bool, true, false, cond}
@@ -103,7 +103,7 @@ module _ {file n : ℕ} (r : RightFile file n) {count first : ℕ} (ec : count �
   bytes-are s p = text-is s p ∙ sym (of_right r [] (λ g. write_text (sections g n) (values_of g n s p)))
 
   pub ready-to-write : (s p out : List ℕ) (m : ℕ) → quote_file file n s p ≡ quote m → m ≤ length out
-      → (count ≤ length (table_of file)) × Ready s p first (length (entries_of (take count (table_of file)))) out (sections_text (take count (table_of file)) s p first)
+      → (0 + count ≤ length (table_of file)) × Ready s p first (length (entries_of (take count (table_of file)))) out (sections_text (take count (table_of file)) s p first)
   unfolding f entries
   ready-to-write s p out m e h =
       let a = accepted file n s p m e r in

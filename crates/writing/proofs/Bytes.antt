@@ -6,9 +6,9 @@ use native.Mathlib.Omega.{arith}
 use mathlib.Core.Path.{◌≡◌, refl, ap, sym, ◌∙◌}
 use mathlib.Core.List.{List, [], ◌∷◌, ◌++◌, map, append_assoc, append-nil}
 use lib.ListN.{length, get_or, take, drop, length-append, length-drop, drop_of_length-le}
-use lib.Seq.{drop-cons, take_at, drop_at, get_or-take, length-take-le}
+use lib.Seq.{drop-cons, take_at, drop_at, get_or-take, length-take-le, take-length}
 use borrow.Rule.Slice.PartMut.{mid_of, put_mid}
-use Rattle.std.proofs.lemmas.List.{take_rest}
+use Rattle.std.proofs.lemmas.List.{take_rest, get_or-drop}
 use Rattle.lines.specs.Line.{Line, heading, entry, written_line, written_length, text_of}
 use Rattle.lines.specs.Writing.{put, Wrote}
 use Rattle.lines.proofs.Writing.{wrote-both, wrote-length, written-length}
@@ -19,7 +19,22 @@ use Rattle.tables.specs.Row.{no_entry, no_section, names, name_in, heading_at, e
 use Rattle.tables.proofs.Sections.{name_of, heading-of}
 use Rattle.orders.specs.AnyOrder.{Value, zip, entry_line, lines_of}
 use Rattle.reading.specs.Writing.{groups_of, write_text}
-use Rattle.writing.specs.Steps.{Ready, entries_text, section_text, sections_text}
+use Rattle.writing.specs.Steps.{Ready, span, entries_text, section_text, sections_text}
+
+-- ---- a span of a list
+
+module _ {A : Type 0} (i n : ℕ) (xs : List A) where
+  pub span-length : i + n ≤ length xs → length (span i n xs) ≡ n
+  span-length l = length-take-le n (drop i xs) (omega (arith, length-drop i xs, l))
+
+  span-at : (j : ℕ) (d : A) → j < n → get_or (span i n xs) j d ≡ get_or xs (i + j) d
+  span-at j d l = get_or-take n (drop i xs) j d l ∙ get_or-drop i xs j d
+
+pub span_all : {A : Type 0} (xs : List A) (n : ℕ) → n ≡ length xs → span 0 n xs ≡ xs
+span_all xs n e = ap (λ (k : ℕ). take k xs) e ∙ take-length xs
+
+pub span-name : (i n : ℕ) (es : List Entry) (j : ℕ) → j < n → name_in (span i n es) j ≡ name_in es (i + j)
+span-name i n es j l = name_of (span i n es) j ∙ ap (λ (e : Entry). e.name) (span-at i n es j no_entry l) ∙ sym (name_of es (i + j))
 
 -- what lies behind the first r bytes
 length-rest : (r : ℕ) (e : List ℕ) → length (mid_of r (length e - r) e) ≡ length e - r
@@ -58,6 +73,9 @@ module _ {d whole e : List ℕ} {r : ℕ} where
         length-append x rest,
       )
 
+  pub partly-bound : (x rest : List ℕ) → Partly d whole e r (x ++ rest) → r ≤ length e
+  partly-bound x rest h = omega (arith, partly-place x rest h)
+
   pub partly-room : (x rest : List ℕ) → Partly d whole e r (x ++ rest) → length x ≤ length (mid_of r (length e - r) e)
   partly-room x rest h = omega (arith, partly-place x rest h, length-rest r e)
 
@@ -78,7 +96,7 @@ entry_next es s p k i l =
 
 -- ---- a section
 
-texts-append : (ls ms : List Line) → text_of (ls ++ ms) ≡ text_of ls ++ text_of ms
+pub texts-append : (ls ms : List Line) → text_of (ls ++ ms) ≡ text_of ls ++ text_of ms
 unfolding text_of
 texts-append [] ms = refl
 texts-append (l ∷ ls) ms = rw (texts-append ls ms) (sym (append_assoc (written_line l) (text_of ls) (text_of ms)))

@@ -25,6 +25,12 @@ lengths-are s [] w = refl
 lengths-are s (x ∷ ps) w =
     omega (arith, lengths-are s ps w.1, length-take-le x.1 (drop x.0 s) (rw (length-drop x.0 s) (omega (arith, w.0))))
 
+-- no value is longer than the text that it lies in
+pub lengths-within : (s p : List ℕ) (k n : ℕ) → Within s (pairs_at p k n) → pair_lengths (pairs_at p k n) ≤ n * length s
+unfolding pair_lengths pairs_at Within
+lengths-within s p k zero w = omega arith
+lengths-within s p k (suc n) w = rw (suc-mul n (length s)) (omega (arith, w.0, lengths-within s p (k + 1) n w.1))
+
 -- one turn of the loop over n pairs from pair k on
 module _ (p : List ℕ) (k n i : ℕ) where
   abbrev pub lengths_from : ℕ

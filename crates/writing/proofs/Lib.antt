@@ -6,3 +6,4 @@ pub mod Acceptance
 pub mod Theorem
 pub mod Samples
 pub mod Ignored
+pub mod Appended

@@ -1,5 +1,5 @@
 -- What the steps of quoting and writing promise, for the contracts of the code.
-use Rattle.std.specs.Prelude.{ℕ, zero, suc, ◌+◌, ◌*◌, ◌≤◌, ◌<◌, ◌≡◌, Bool, List, [], ◌∷◌, ◌++◌, map, length, take, Option as RustOption, Some, None, IfSome}
+use Rattle.std.specs.Prelude.{ℕ, zero, suc, ◌+◌, ◌*◌, ◌≤◌, ◌<◌, ◌≡◌, Bool, List, [], ◌∷◌, ◌++◌, map, length, take, drop, Option as RustOption, Some, None, IfSome}
 use Rattle.std.proofs.Math.Option.{Option, none, some}
 use Rattle.lines.specs.Line.{heading, written_line, text_of}
 use Rattle.kinds.specs.Kind.{Kind, kind_of}
@@ -52,6 +52,10 @@ pair_lengths [] = 0
 pair_lengths (x ∷ xs) = x.1 + pair_lengths xs
 
 -- ---- bytes, of a text s and its pairs p from pair k on
+
+-- of a list n members from place i on
+abbrev pub span : {A : Type 0} → ℕ → ℕ → List A → List A
+span i n xs = take n (drop i xs)
 
 -- the lines of entries
 unfoldable pub entries_text : List Entry → List ℕ → List ℕ → ℕ → List ℕ

@@ -2,16 +2,17 @@
 // the pairs are not looked at (02, 7/14).
 #![tactic(auto)]
 
-ghost use Rattle.std.specs.Prelude.{◌≡◌, Bool, true, ◌+◌, ◌*◌, ◌<◌, ◌≤◌, ltb, length, take, get_or};
+ghost use Rattle.std.specs.Prelude.{◌≡◌, Bool, true, ◌+◌, ◌*◌, ◌<◌, ◌≤◌, ltb, length, get_or};
 ghost use Rattle.lines.specs.Writing.{Wrote};
 ghost use Rattle.kinds.specs.Kind.{Kind};
 ghost use Rattle.refusals.specs.Answer.{answer_is};
 ghost use Rattle.places.specs.Places.{Pair, place_size, start_of, length_of, pairs_at};
-ghost use Rattle.tables.specs.Row.{entries_in, entries_before, no_section, most_rows};
+ghost use Rattle.tables.specs.Section.{entries_of};
+ghost use Rattle.tables.specs.Row.{entries_in, no_section, most_rows};
 ghost use Rattle.tables.specs.File.{least_places, table_of, sections, of_number};
 ghost use Rattle.reading.specs.Tables.{table_length};
 ghost use Rattle.writing.specs.Writing.{axles_right, is_outside, is_right, quote_right, quote_file, answer_of, Writes};
-ghost use Rattle.writing.specs.Steps.{entry_count, first_kinds, RowsThere, Judges, WrongLine, pair_lengths, Ready, entries_text, section_text, sections_text};
+ghost use Rattle.writing.specs.Steps.{entry_count, first_kinds, RowsThere, Judges, WrongLine, pair_lengths, Ready, span, entries_text, section_text, sections_text};
 
 use kinds::numbers::KIND_COUNT;
 use places::PlacedText;
@@ -29,7 +30,7 @@ fn are_axles(axles: u32) -> bool
     ensures { result ≡ axles_right true axles }
 {
     match axles {
-        1..=9 => true,
+        1..=tables::MOST_AXLES => true,
         _ => false,
     }
 }
@@ -84,7 +85,7 @@ fn wrong_line<F: Fn(u8, usize) -> bool>(
 }
 
 // The lengths of `count` pairs from `first` on together.
-fn pair_lengths(places: &[u32], first: usize, count: usize) -> usize
+pub fn pair_lengths(places: &[u32], first: usize, count: usize) -> usize
     requires { (place_size * (first + count) ≤ length places.now) × (count ≤ most_rows) }
     ensures { (result ≡ pair_lengths (pairs_at places.now first count)) × (result ≤ most_rows * 4294967295) }
 {
@@ -96,7 +97,7 @@ fn pair_lengths(places: &[u32], first: usize, count: usize) -> usize
 }
 
 // The length of a file whose values are all empty: its headings, its names, each with `=`, and CR LF behind each line.
-fn table_length(file: u32, axles: u32) -> usize
+pub fn table_length(file: u32, axles: u32) -> usize
     ensures { result ≡ of_number 0 (λ f. table_length (sections f axles)) file }
 {
     match file {
@@ -170,31 +171,34 @@ pub fn quote(values: PlacedText<'_>, file: u32, axles: u32) -> Result<WriteAccep
     quote_right(values, file, axles)
 }
 
-// The lines of a section's entries, their pairs from `first` on, at the beginning of `output`; their length.
-fn write_entries(
+// The lines of `count` entries of a section, from entry `from` on, their pairs from `first` on, at the beginning of `output`; their
+// length.
+pub fn write_entries(
     values: PlacedText<'_>,
     file: u32,
     section: usize,
+    from: usize,
+    count: usize,
     first: usize,
     output: &mut [u8],
 ) -> usize
-    requires { Ready values.text.now values.places.now first (length (entries_in (table_of file) section)) output.old
-        (entries_text (entries_in (table_of file) section) values.text.now values.places.now first) }
+    requires { (from + count ≤ length (entries_in (table_of file) section))
+        × Ready values.text.now values.places.now first count output.old
+        (entries_text (span from count (entries_in (table_of file) section)) values.text.now values.places.now first) }
     ensures { Wrote output.old 0
-        (entries_text (entries_in (table_of file) section) values.entry.text.now values.entry.places.now first)
+        (entries_text (span from count (entries_in (table_of file) section)) values.entry.text.now values.entry.places.now first)
         output.new result }
 {
-    let count = tables::entry_count(file, section);
     let mut end = 0;
-    for entry in 0..count {
-        let value = values.value(first + entry);
-        end += tables::write_entry(file, section, entry, value, &mut output[end..]);
+    for i in 0..count {
+        let value = values.value(first + i);
+        end += tables::write_entry(file, section, from + i, value, &mut output[end..]);
     }
     end
 }
 
 // A section's lines, its heading and then its entries, at the beginning of `output`; their length.
-pub fn write_section(
+fn write_section(
     values: PlacedText<'_>,
     file: u32,
     section: usize,
@@ -207,28 +211,32 @@ pub fn write_section(
         (section_text (get_or (table_of file) section no_section) values.entry.text.now values.entry.places.now first)
         output.new result }
 {
+    let count = tables::entry_count(file, section);
     let end = tables::write_heading(file, section, output);
-    end + write_entries(values, file, section, first, &mut output[end..])
+    end + write_entries(values, file, section, 0, count, first, &mut output[end..])
 }
 
-// The lines of a file's first sections, their pairs from `first` on, at the beginning of `output`; their length.
+// The lines of `count` sections of a file, from section `from` on, their pairs from `first` on, at the beginning of `output`; their
+// length.
 pub fn write_sections(
     values: PlacedText<'_>,
     file: u32,
+    from: usize,
     count: usize,
     first: usize,
     output: &mut [u8],
 ) -> usize
-    requires { (count ≤ length (table_of file))
-        × Ready values.text.now values.places.now first (entries_before (table_of file) count) output.old
-        (sections_text (take count (table_of file)) values.text.now values.places.now first) }
+    requires { (from + count ≤ length (table_of file))
+        × Ready values.text.now values.places.now first (length (entries_of (span from count (table_of file)))) output.old
+        (sections_text (span from count (table_of file)) values.text.now values.places.now first) }
     ensures { Wrote output.old 0
-        (sections_text (take count (table_of file)) values.entry.text.now values.entry.places.now first)
+        (sections_text (span from count (table_of file)) values.entry.text.now values.entry.places.now first)
         output.new result }
 {
     let mut pair = first;
     let mut end = 0;
-    for section in 0..count {
+    for k in 0..count {
+        let section = from + k;
         end += write_section(values, file, section, pair, &mut output[end..]);
         pair += tables::entry_count(file, section);
     }
@@ -254,6 +262,6 @@ pub fn write_file(
         });
     }
     let count = section_count(file, axles);
-    write_sections(values, file, count, tables::first_pair(file), output);
+    write_sections(values, file, 0, count, tables::first_pair(file), output);
     Ok(acceptance)
 }

@@ -17,6 +17,27 @@ pub fn repository() -> PathBuf {
     root.expect("a folder above").to_path_buf()
 }
 
+/// The samples with two drift files to be joined; all others are sets.
+const JOINING: &str = "joining";
+
+fn folders(path: &Path) -> Vec<PathBuf> {
+    let entries = fs::read_dir(path).expect("a folder");
+    let paths = entries.map(|entry| entry.expect("an entry").path());
+    paths.filter(|path| path.is_dir()).collect()
+}
+
+/// The folders of the samples, each with one set.
+pub fn sample_sets() -> Vec<PathBuf> {
+    let mut sets = folders(&repository().join("samples"));
+    sets.retain(|folder| !folder.ends_with(JOINING));
+    sets
+}
+
+/// The folders of the samples with two drift files, first and second.
+pub fn sample_pairs() -> Vec<PathBuf> {
+    folders(&repository().join("samples").join(JOINING))
+}
+
 /// The program, to be run in this folder.
 pub fn program(folder: &Path) -> Command {
     let mut command = Command::new(env!("CARGO_BIN_EXE_mctc"));

@@ -140,6 +140,7 @@ fn samples_have_their_lines() {
         ("accepted-unknown-day", "AF410986", 111),
         ("accepted-midnight", "AG280227", 12 + 6 + 19 + 55),
         ("accepted-trailer", "AC204711", 12 + 6 + 19),
+        ("accepted-joined", "AH117044", 12 + 6 + 20),
         // Its old booking is not read.
         ("accepted-moped", "AD900123", 12 + 53),
         // Refused, but read by itself.

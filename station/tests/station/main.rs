@@ -5,6 +5,7 @@ mod causes;
 mod common;
 mod idle;
 mod in_date;
+mod joining;
 mod lines;
 mod look_up;
 mod obeyed;

@@ -4,7 +4,7 @@
 use std::fs;
 use std::path::Path;
 
-use crate::common::{empty_folder, put, repository, run, ENDINGS};
+use crate::common::{empty_folder, put, run, sample_sets, ENDINGS};
 use crate::lines::check_lines;
 use outside::comparison::set_case;
 use outside::judge::{Call, Reference, Set};
@@ -99,16 +99,13 @@ fn load(folder: &Path) -> Set {
 #[test]
 fn samples() {
     let mut numbers = Vec::new();
-    for entry in fs::read_dir(repository().join("samples")).expect("the samples") {
-        let folder = entry.expect("a sample").path();
-        if folder.is_dir() {
-            let set = load(&folder);
-            let stem = String::from_utf8_lossy(&set.stem).into_owned();
-            let right = right(&set);
-            let found = found(&judged(&folder));
-            assert_eq!(found, [(stem, right)], "{}", folder.display());
-            numbers.push(right[0]);
-        }
+    for folder in sample_sets() {
+        let set = load(&folder);
+        let stem = String::from_utf8_lossy(&set.stem).into_owned();
+        let right = right(&set);
+        let found = found(&judged(&folder));
+        assert_eq!(found, [(stem, right)], "{}", folder.display());
+        numbers.push(right[0]);
     }
     for number in [0].into_iter().chain(2..=15).chain([19]) {
         assert!(numbers.contains(&number), "no sample for number {number}");

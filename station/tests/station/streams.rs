@@ -39,6 +39,11 @@ fn a_reader_that_is_gone_changes_no_verdict() {
         with_no_reader(&["format", "samples/accepted-car/AA123456.GAS"]),
         nothing_said(0)
     );
+    let pair = ["first", "second"].map(|name| format!("samples/joining/accepted/{name}.DER"));
+    assert_eq!(
+        with_no_reader(&["join", &pair[0], &pair[1]]),
+        nothing_said(0)
+    );
     assert_eq!(with_no_reader(&["--help"]), nothing_said(0));
 }
 

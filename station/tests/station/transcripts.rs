@@ -12,7 +12,7 @@ use std::path::{Path, PathBuf};
 use std::process::Command;
 
 use crate::broken::identification;
-use crate::common::{empty_folder, put, repository, run, Folder};
+use crate::common::{empty_folder, put, repository, run, sample_pairs, sample_sets, Folder};
 
 fn transcripts() -> PathBuf {
     repository().join("station/tests/transcripts")
@@ -122,26 +122,28 @@ fn due_entries_of_samples_and_refusals_explained() {
 }
 
 #[test]
-fn files_read_and_formatted() {
+fn files_read_formatted_and_joined() {
     check("read.txt", &repository());
     check("format.txt", &repository());
+    check("join.txt", &repository());
 }
 
 /// Every sample stands in a transcript.
 #[test]
 fn samples_are_all_tried() {
-    let tried = ["accepted.txt", "refused.txt"]
+    let tried = ["accepted.txt", "refused.txt", "join.txt"]
         .map(|name| fs::read_to_string(transcripts().join(name)).expect("a transcript"));
-    for entry in fs::read_dir(repository().join("samples")).expect("the samples") {
-        let path = entry.expect("a sample").path();
-        let name = path
-            .file_name()
-            .expect("a name")
-            .to_string_lossy()
-            .into_owned();
-        let command = format!("$ mctc judge samples/{name} ");
+    let in_repository = |path: PathBuf| {
+        let path = path.strip_prefix(repository()).expect("a sample");
+        path.to_string_lossy().into_owned()
+    };
+    let sets = sample_sets().into_iter().map(in_repository);
+    let sets = sets.map(|set| format!("$ mctc judge {set} "));
+    let pairs = sample_pairs().into_iter().map(in_repository);
+    let pairs = pairs.map(|pair| format!("$ mctc join {pair}/first.DER {pair}/second.DER\n"));
+    for command in sets.chain(pairs) {
         let stands = tried.iter().any(|text| text.contains(&command));
-        assert!(stands || path.is_file(), "{name} is in no transcript");
+        assert!(stands, "no transcript has {command}");
     }
 }
 
@@ -270,6 +272,13 @@ fn odd_files() -> Folder {
         folder.join("lacking/note.DER"),
         car("DER").replace("Note=\r\n", ""),
     );
+    for (name, ending, from) in [("first-axle.SOS", "SOS", 1), ("gap.DER", "DER", 2)] {
+        // From the highest on, so that none has another's number.
+        let renumbered = (from..=2).rev().fold(car(ending), |text, axle| {
+            text.replace(&format!("Asse_{axle}]"), &format!("Asse_{}]", axle + 1))
+        });
+        put(folder.join("lacking").join(name), renumbered);
+    }
     let mean = opacity.replace("OpacitaMedia=\r\n", "");
     put(folder.join("lacking/mean.OPA"), &mean);
     put(

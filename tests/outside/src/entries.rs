@@ -1,6 +1,7 @@
 //! What the papers ask of entries by their names alone, said apart from the reference's judging of it.
 
-use crate::reference::tables::{AC2, ACC, DRIFT, GAS, OPACITY, SUSPENSION};
+use crate::measures;
+use crate::reference::tables::{table, Entry, AC2, ACC, DRIFT, GAS, OPACITY, SUSPENSION};
 
 /// The entries of a file that may be filled or empty. 01, Due entries: "Note and CodErrore may be filled or empty", and in
 /// ACC Alimentazione_1; 02, 2/14: what "hangs on data outside the set", and TempMinOlioMotore, printed `(*)`.
@@ -21,6 +22,14 @@ pub fn free_entries(file: u32) -> &'static [&'static str] {
         ],
         _ => &["Note", "CodErrore"],
     }
+}
+
+/// 02, 8/14: the entries that must agree where two drift files are joined, those of [Deriva] "in all but InizioMisura and
+/// FineMisura", in table order.
+pub fn entries_to_agree() -> impl Iterator<Item = &'static Entry> {
+    let [_, times @ ..] = &measures::ENTRIES;
+    let entries = table(DRIFT).sections[0].entries.iter();
+    entries.filter(move |entry| !times.contains(&entry.name.as_str()))
 }
 
 /// 02, 5/14: the due dates of a result file's devices, in entry order.

@@ -67,7 +67,7 @@ pub fn printable(random: &mut Random, count: usize) -> Vec<u8> {
 }
 
 /// A day of kind D.
-fn day(random: &mut Random) -> Date {
+pub fn day(random: &mut Random) -> Date {
     let year = match random.below(8) {
         0 => 1900,
         1 => 2000,
@@ -226,7 +226,7 @@ pub fn value(random: &mut Random, kind: Kind, size: Size) -> Vec<u8> {
 }
 
 /// The values of one file: sections in table order, entries in table order.
-#[derive(Clone, Debug)]
+#[derive(Clone, Debug, PartialEq, Eq)]
 pub struct Values {
     pub file: u32,
     pub axles: usize,
@@ -667,7 +667,7 @@ fn ending_day(random: &mut Random) -> Date {
 
 /// Seconds since midnight at which a measure begins and ends: at the same time, a second less than a day later, about
 /// midnight, or any.
-fn times(random: &mut Random) -> (u32, u32) {
+pub fn times(random: &mut Random) -> (u32, u32) {
     const LAST: u32 = 86_399;
     let any = random.below(86_400) as u32;
     let near = random.below(60) as u32;
@@ -726,6 +726,11 @@ fn set_measure_and_due_dates(random: &mut Random, values: &mut Values) {
 
 fn drift(random: &mut Random, size: Size) -> Values {
     let axles = any_axles(random, DRIFT);
+    drift_of(random, axles, size)
+}
+
+/// A drift file with so many axles.
+pub fn drift_of(random: &mut Random, axles: usize, size: Size) -> Values {
     let mut drift = Values::filled(random, DRIFT, axles, size);
     empty_free_entries(random, &mut drift);
     set_measure_and_due_dates(random, &mut drift);

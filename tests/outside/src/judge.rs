@@ -1,5 +1,6 @@
 //! The calls, the trait that the judges implement, and one call made.
 
+use crate::reference::joining::join;
 use crate::reference::judging::{due_alone, judge_set, read_alone, Slices};
 use crate::reference::kinds::shape;
 use crate::reference::tables::{
@@ -73,9 +74,9 @@ pub trait Judge {
 
     /// Makes the call. The answer holds 01's number (0 for acceptance), file and line; with
     /// acceptance, from [3] on: axle counts of drift and suspension and the marks of drift,
-    /// suspension, gas and opacity (judge), the axle count (read), the length (write), the axle
-    /// count and the number of entries (due), the length and the number of the section (names,
-    /// words), form, most bytes, decimals and words (kind); in [9] whether gas's idle speed was
+    /// suspension, gas and opacity (judge), the axle count (read), the length (write, join), the
+    /// axle count and the number of entries (due), the length and the number of the section
+    /// (names, words), form, most bytes, decimals and words (kind); in [9] whether gas's idle speed was
     /// entered by hand (judge, read); in [10] how often a name of a table was tried, and in [11] to
     /// [14] the seconds of the measures of drift, suspension, gas and opacity (judge); else 0.
     /// What comes back is the number.
@@ -174,6 +175,9 @@ fn reference_result(
         Call::Word {
             file, entry, word, ..
         } => copy_name(*file, entry_word(*file, *entry, *word), output),
+        Call::Join { first, second, .. } => {
+            join(first, second, output).map(|length| vec![length as u32])
+        }
     }
 }
 
@@ -247,6 +251,12 @@ pub enum Call {
         word: u32,
         output: Vec<u8>,
     },
+    /// 02, 8/14: two drift files.
+    Join {
+        first: Vec<u8>,
+        second: Vec<u8>,
+        output: Vec<u8>,
+    },
 }
 
 impl Call {
@@ -277,7 +287,8 @@ impl Call {
             Call::Write { output, .. }
             | Call::EntryName { output, .. }
             | Call::HeadingName { output, .. }
-            | Call::Word { output, .. } => (&[], output),
+            | Call::Word { output, .. }
+            | Call::Join { output, .. } => (&[], output),
         };
         Outcome {
             places: self.places().to_vec(),

@@ -9,6 +9,7 @@ pub mod devices;
 pub mod entries;
 pub mod generator;
 pub mod hex;
+pub mod joinings;
 pub mod judge;
 #[cfg(feature = "library")]
 pub mod library;

@@ -35,6 +35,7 @@ impl Judge for Library {
             Call::Word {
                 file, entry, word, ..
             } => lent::word(*file, *entry, *word, output, answer),
+            Call::Join { first, second, .. } => lent::join(first, second, output, answer),
         }
     }
 }

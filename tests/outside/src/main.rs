@@ -74,12 +74,13 @@ fn run_all() -> Result<(), String> {
     let amounts = comparison::ONE_RUN.times(runs);
     let report = comparison::run_of(subject.as_ref(), amounts)?;
     println!(
-        "{}: agrees with the reference on {} sets, {} files read alone, {} writings, {} due columns, {} names and headings, {} kinds and words",
+        "{}: agrees with the reference on {} sets, {} files read alone, {} writings, {} due columns, {} joinings, {} names and headings, {} kinds and words",
         subject.name(),
         amounts.sets,
         amounts.reads,
         amounts.writes,
         amounts.columns,
+        amounts.joinings,
         report.names(),
         report.kinds()
     );

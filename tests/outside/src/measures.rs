@@ -43,6 +43,14 @@ impl Measure {
         ENTRIES.into_iter().zip(values)
     }
 
+    /// 02, 8/14: of a joined file, "the first's start, the second's end".
+    pub fn joined(self, second: Measure) -> Measure {
+        Measure {
+            finish: second.finish,
+            ..self
+        }
+    }
+
     /// 02, 5/14: "FineMisura is below its InizioMisura"; equal times are of one day.
     pub fn is_over_midnight(self) -> bool {
         self.start > self.finish

@@ -24,6 +24,19 @@ pub const JUDGE_13: &str = "judge 13";
 pub const JUDGE_19: &str = "judge 19";
 pub const READ_9: &str = "read 9";
 
+/// Joinings that were accepted, and refused by a number or for an input.
+pub const JOINED: &str = "join 0";
+pub const JOIN_INPUT: &str = "join 3 to 11";
+pub const JOIN_18: &str = "join 18";
+pub const JOIN_20: &str = "join 20";
+pub const JOIN_21: &str = "join 21";
+/// Joinings answered alike with the lines of the inputs in the opposite order.
+pub const JOIN_TURNED: &str = "join in the opposite order";
+/// Joined files that were read alone, judged in a set, and refused there by 19.
+pub const JOINED_READ: &str = "joined and read";
+pub const JOINED_JUDGED: &str = "joined and judged 0";
+pub const JOINED_19: &str = "joined and judged 19";
+
 /// What must be met, and by which call.
 pub type Wanted = (&'static str, String);
 

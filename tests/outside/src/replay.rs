@@ -6,6 +6,7 @@
 //! - `due file ac2 text | places lent | column lent`
 //! - `entry_name file entry | output size`, `heading_name file section | output size`
 //! - `kind file entry`, `word file entry word | output size`
+//! - `join first second | output size`
 //!
 //! Bytes as hexadecimal digits, `-` for none.
 
@@ -33,12 +34,20 @@ pub fn numbers_from_text(text: &str) -> Result<Vec<u32>, String> {
     text.split_whitespace().map(number_from_text).collect()
 }
 
+/// Words of hexadecimal digits.
+fn words_from_text(text: &str) -> Result<Vec<Vec<u8>>, String> {
+    text.split_whitespace().map(from_hex).collect()
+}
+
+/// The two inputs of a joining, hexadecimal, as in the vectors.
+pub fn inputs_from_text(text: &str) -> Result<[Vec<u8>; 2], String> {
+    let words = words_from_text(text)?;
+    words.try_into().map_err(|_| "not two inputs".to_string())
+}
+
 /// The stem and seven slices, hexadecimal, as in the vectors.
 pub fn set_from_text(text: &str) -> Result<Set, String> {
-    let words: Vec<Vec<u8>> = text
-        .split_whitespace()
-        .map(from_hex)
-        .collect::<Result<_, String>>()?;
+    let words = words_from_text(text)?;
     let (stem, slices) = words.split_first().ok_or("no stem")?;
     Ok(Set {
         stem: stem.clone(),
@@ -102,6 +111,16 @@ pub fn to_text(call: &Call) -> String {
             word,
             output,
         } => format!("word {file} {entry} {word} | {}", output.len()),
+        Call::Join {
+            first,
+            second,
+            output,
+        } => format!(
+            "join {} {} | {}",
+            to_hex(first),
+            to_hex(second),
+            output.len()
+        ),
     }
 }
 
@@ -189,6 +208,15 @@ pub fn from_text(line: &str) -> Result<Call, String> {
                 file,
                 entry,
                 word,
+                output,
+            })
+        }
+        ("join", [inputs, size]) => {
+            let [first, second] = inputs_from_text(inputs)?;
+            let output = output(size)?;
+            Ok(Call::Join {
+                first,
+                second,
                 output,
             })
         }

@@ -2,11 +2,14 @@
 
 use std::collections::BTreeMap;
 
+use crate::dates::Date;
 use crate::devices;
 use crate::entries::{due_dates, free_entries, is_conditional};
+use crate::joinings::{self, Inputs};
 use crate::judge::{Call, Outcome, Set, BY_HAND};
 use crate::lines_beside::{self, Made};
 use crate::look_ups;
+use crate::measures::Measure;
 use crate::met::{
     summary, Met, Wanted, COLUMN, JUDGED, JUDGE_12, JUDGE_13, JUDGE_19, JUDGE_9, READ, READ_9,
     REWRITTEN,
@@ -22,8 +25,8 @@ use crate::reference::tables::{
 use crate::reference::Refusal;
 use crate::speeds;
 
-/// Numbers 0 (acceptance) to 19.
-const NUMBERS: usize = 20;
+/// Numbers 0 (acceptance) to 21.
+const NUMBERS: usize = 22;
 
 /// File, heading and name of an entry.
 pub type EntryOf = (u32, String, String);
@@ -44,7 +47,7 @@ const JUDGE_HASH: &str = "judge 0, `#` first and no mark";
 const READ_HASH: &str = "read 0, `#` first and no mark";
 
 /// The calls and the numbers that each must reach.
-const CALLS: [(&str, &[usize]); 8] = [
+const CALLS: [(&str, &[usize]); 9] = [
     (
         "judge",
         &[0, 1, 2, 3, 4, 5, 6, 7, 8, 9, 10, 11, 12, 13, 14, 15, 19],
@@ -56,6 +59,7 @@ const CALLS: [(&str, &[usize]); 8] = [
     ("heading", &[0, 16, 18]),
     ("kind", &[0, 16]),
     ("word", &[0, 16, 18]),
+    ("join", &[0, 3, 4, 5, 6, 7, 8, 9, 10, 11, 18, 20, 21]),
 ];
 
 /// The place of a call in `CALLS`.
@@ -69,6 +73,7 @@ fn place_of(call: &Call) -> usize {
         Call::HeadingName { .. } => 5,
         Call::Kind { .. } => 6,
         Call::Word { .. } => 7,
+        Call::Join { .. } => 8,
     }
 }
 
@@ -112,10 +117,10 @@ fn refused_files() -> Vec<Wanted> {
 #[derive(Default)]
 pub struct Report {
     /// By call, then by number.
-    counts: [[u64; NUMBERS]; 8],
+    counts: [[u64; NUMBERS]; 9],
     /// How often each noted refusal was reached at each entry.
     reached: BTreeMap<&'static str, BTreeMap<EntryOf, u64>>,
-    /// Refused files, idle speeds, what opacity brought, old fuels, look-ups, devices and lines.
+    /// Refused files, idle speeds, what opacity brought, old fuels, look-ups, devices, lines and joinings.
     met: Met,
     /// Written files that were read back.
     pub read_back: u64,
@@ -284,7 +289,7 @@ fn entry_of(call: &Call, refusal: Refusal) -> Option<(&'static str, EntryOf)> {
 }
 
 /// What a run must meet besides numbers and entries.
-fn wanted() -> [(&'static str, Vec<Wanted>); 7] {
+fn wanted() -> [(&'static str, Vec<Wanted>); 8] {
     [
         ("refused files", refused_files()),
         ("idle speeds", speeds::wanted()),
@@ -293,6 +298,7 @@ fn wanted() -> [(&'static str, Vec<Wanted>); 7] {
         ("look-ups", look_ups::wanted()),
         ("devices", devices::wanted()),
         ("lines", lines_beside::wanted()),
+        ("joinings", joinings::wanted()),
     ]
 }
 
@@ -373,6 +379,26 @@ impl Report {
         lines_beside::note_written(&mut self.met, lines, number);
     }
 
+    /// Notes a joining by its inputs and its answer.
+    pub fn meet_joining(&mut self, inputs: &Inputs, outcome: &Outcome) {
+        joinings::note(&mut self.met, inputs, outcome);
+    }
+
+    /// Notes a joining that was answered alike with its inputs' lines in the opposite order.
+    pub fn meet_turned_inputs(&mut self, inputs: &str, refusal: Refusal) {
+        joinings::note_turned(&mut self.met, inputs, refusal);
+    }
+
+    /// Notes a joined file that was read alone.
+    pub fn meet_joined(&mut self, axles: usize) {
+        joinings::note_read(&mut self.met, axles);
+    }
+
+    /// Notes a joined file that was judged in a set.
+    pub fn meet_joined_in_set(&mut self, measure: Measure, due: Date, outcome: &Outcome) {
+        joinings::note_judged(&mut self.met, measure, due, outcome);
+    }
+
     /// Notes the values of an accepted file that begin with `#`, where the answer has no mark.
     fn note_hashes(&mut self, what: &'static str, file: u32, text: &[u8], outcome: &Outcome) {
         if outcome.answer[BY_HAND] != 0 {
@@ -442,7 +468,7 @@ impl Report {
 
     /// How many calls for kinds and words were made.
     pub fn kinds(&self) -> u64 {
-        self.counts[6..].iter().flatten().sum()
+        self.counts[6..8].iter().flatten().sum()
     }
 
     /// How often a noted refusal was reached at an entry.

@@ -2,7 +2,9 @@
 
 use crate::hex::from_hex;
 use crate::judge::{make, Call, Judge, Outcome, ANSWER, OUTPUT_BEFORE};
-use crate::replay::{number_from_text, numbers_from_text, set_from_text, to_text};
+use crate::replay::{
+    inputs_from_text, number_from_text, numbers_from_text, set_from_text, to_text,
+};
 
 /// One line's columns as a call and what it must give.
 type Parse = fn(&[&str]) -> Result<(Call, Outcome), String>;
@@ -16,10 +18,11 @@ macro_rules! vectors_in {
     };
 }
 
-/// Those after 02, 7/14, which landed last, and those after 5/14, 4/14, 3/14 and 2/14: all files read alone and writings,
-/// and the sets that hold on. In the accepted ones of these, number 10 was put in for 4/14, and 11 to 14 for 5/14; in all
+/// Those after 02, 8/14, which landed last, and those after 7/14, 5/14, 4/14, 3/14 and 2/14: all joinings, files read alone
+/// and writings, and the sets that hold on. In the accepted ones of these, number 10 was put in for 4/14, and 11 to 14 for 5/14; in all
 /// places of these, the third numbers for 7/14.
-const FILES: [File; 9] = [
+const FILES: [File; 10] = [
+    vectors_in!("02/8/joins.txt", join_vector),
     vectors_in!("02/7/sets.txt", set_vector),
     vectors_in!("02/7/reads.txt", read_vector),
     vectors_in!("02/7/writes.txt", write_vector),
@@ -92,6 +95,14 @@ fn read_vector(columns: &[&str]) -> Result<(Call, Outcome), String> {
     Ok((call, right))
 }
 
+/// The output before and after a call.
+fn outputs(size: &str, after: &str) -> Result<[Vec<u8>; 2], String> {
+    let before = vec![OUTPUT_BEFORE; number_from_text(size)? as usize];
+    let mut after = from_hex(after)?;
+    after.resize(before.len(), OUTPUT_BEFORE);
+    Ok([before, after])
+}
+
 fn write_vector(columns: &[&str]) -> Result<(Call, Outcome), String> {
     let [what, places, size, right, output_after] = columns else {
         return Err("not five columns".to_string());
@@ -101,15 +112,28 @@ fn write_vector(columns: &[&str]) -> Result<(Call, Outcome), String> {
         return Err("not text, file and axles".to_string());
     };
     let places = numbers_from_text(places)?;
-    let output = vec![OUTPUT_BEFORE; number_from_text(size)? as usize];
-    let mut after = from_hex(output_after)?;
-    after.resize(output.len(), OUTPUT_BEFORE);
+    let [output, after] = outputs(size, output_after)?;
     let right = outcome(answer(right)?, places.clone(), after);
     let call = Call::Write {
         text: from_hex(text)?,
         places,
         file: number_from_text(file)?,
         axles: number_from_text(axles)?,
+        output,
+    };
+    Ok((call, right))
+}
+
+fn join_vector(columns: &[&str]) -> Result<(Call, Outcome), String> {
+    let [inputs, size, right, output_after] = columns else {
+        return Err("not four columns".to_string());
+    };
+    let [first, second] = inputs_from_text(inputs)?;
+    let [output, after] = outputs(size, output_after)?;
+    let right = outcome(answer(right)?, Vec::new(), after);
+    let call = Call::Join {
+        first,
+        second,
         output,
     };
     Ok((call, right))

@@ -4,11 +4,15 @@ use native.Mathlib.Omega.{arith}
 use mathlib.Core.Path.{ap, sym}
 use borrow.Author.Tests.{eqb-true, eqb-false}
 use Rattle.std.proofs.lemmas.Result.{err_from_is_err_and}
+use Rattle.files.proofs.Steps.{places-fit}
 use Rattle.files.proofs.Alone.{cleared-empty, cleared-faulty, read_held, cleared-read, count-in}
 use Rattle.files.proofs.read_cleared.Goals as goal
 
 pub returns-then-is_empty : goal.returns-then-is_empty
 returns-then-is_empty c = rw c.refused.ensures (cleared-empty _ _ c.args.places.now (eqb-true _ _ (sym c.if-is_empty.ensures)))
+
+pub read_text-requires : goal.read_text-requires
+read_text-requires c = places-fit c.args.file c.args.places.now c.requires.0
 
 pub returns-in_err-read : goal.returns-in_err-read
 returns-in_err-read c =

@@ -1,7 +1,11 @@
 -- `judge::judge_booking_text` meets its contract: 3 to 9, then the values by what they say themselves. Assumes nothing.
 use Rattle.std.proofs.lemmas.Result.{err_from_is_err_and}
+use Rattle.files.proofs.Steps.{places-fit}
 use Rattle.judge.proofs.Text.{booking-faulty, booking-held, values-ready, booking-stopped, booking-went}
 use Rattle.judge.proofs.judge_booking_text.Goals as goal
+
+pub read_text-requires : goal.read_text-requires
+read_text-requires c = places-fit 1 c.args.places.now c.requires
 
 pub booking_of-booking-requires : goal.booking_of-booking-requires
 booking_of-booking-requires c =

@@ -1,8 +1,12 @@
 -- `judge::judge_text` meets its contract: 3 to 9, then the values that are now in the places. Assumes nothing.
 use Rattle.std.proofs.lemmas.Result.{err_from_is_err_and}
 use Rattle.due.specs.Values.{new_values}
+use Rattle.files.proofs.Steps.{places-fit}
 use Rattle.judge.proofs.Text.{text-faulty, later-ready, later-judged}
 use Rattle.judge.proofs.judge_text.Goals as goal
+
+pub read_text-requires : goal.read_text-requires
+read_text-requires c = places-fit c.args.file c.args.places.now c.requires.says.0.0
 
 pub judge_values-requires : goal.judge_values-requires
 judge_values-requires c =

@@ -1,8 +1,9 @@
 //! Generated calls, made by a judge and by the reference and compared: the answer, every
 //! place, every number of a column, every output byte.
 //!
-//! - `lines`: what is asked of the lines beside values.
+//! - `lines`: what is asked of the lines beside values. - `joinings`: what is asked of two drift files joined.
 
+mod joinings;
 mod lines;
 
 use crate::devices;
@@ -20,11 +21,12 @@ use crate::reference::places::{is_read, put_triples, triples_of, Triple};
 use crate::reference::tables::{
     entry_name, entry_word, heading_name, DRIFT, FILES, GAS, OPACITY, RESULT_FILES, SUSPENSION,
 };
-use crate::reference::PLACES;
+use crate::reference::{Refusal, PLACES};
 use crate::replay::to_text;
 use crate::report::Report;
 use crate::speeds::idle_speed;
 
+use joinings::compare_joining;
 use lines::{
     check_places, compare_orders, compare_other_lines, compare_refused_line, compare_turned,
     written_lines,
@@ -37,6 +39,7 @@ pub struct Amounts {
     pub reads: u64,
     pub writes: u64,
     pub columns: u64,
+    pub joinings: u64,
 }
 
 /// Calls of each sort in one run.
@@ -45,6 +48,7 @@ pub const ONE_RUN: Amounts = Amounts {
     reads: 30_000,
     writes: 30_000,
     columns: 40_000,
+    joinings: 20_000,
 };
 
 impl Amounts {
@@ -55,6 +59,7 @@ impl Amounts {
             reads: runs * self.reads,
             writes: runs * self.writes,
             columns: runs * self.columns,
+            joinings: runs * self.joinings,
         }
     }
 }
@@ -72,6 +77,7 @@ const FIRST_SET: u64 = 1 << 40;
 const FIRST_READ: u64 = 2 << 40;
 const FIRST_WRITE: u64 = 3 << 40;
 const FIRST_COLUMN: u64 = 4 << 40;
+const FIRST_JOINING: u64 = 5 << 40;
 
 /// A generated call.
 pub struct Case {
@@ -92,6 +98,18 @@ impl Case {
             changes: vec![change],
             known: None,
         }
+    }
+}
+
+/// A refusal after which all that was lent is as it was.
+fn refused_untouched(refusal: Refusal, before: Outcome) -> Outcome {
+    let Refusal { number, file, line } = refusal;
+    let mut answer = vec![0; ANSWER];
+    answer[..3].copy_from_slice(&[number, file, line]);
+    Outcome {
+        returned: number,
+        answer,
+        ..before
     }
 }
 
@@ -175,6 +193,13 @@ pub fn read_case(seed: u64) -> Case {
     }
 }
 
+/// A file written to an output, whose later bytes stay.
+fn known_of_written(written: &[u8], places: Vec<u32>, before: &[u8]) -> Outcome {
+    let mut after = before.to_vec();
+    after[..written.len()].copy_from_slice(written);
+    accepted(&[written.len() as u32], places, after)
+}
+
 /// A writing.
 pub fn write_case(seed: u64) -> Case {
     let mut random = Random::new(seed);
@@ -185,10 +210,7 @@ pub fn write_case(seed: u64) -> Case {
         if writing.places.len() < PLACES || output.len() < written.len() {
             return None;
         }
-        let mut after = output.clone();
-        after[..written.len()].copy_from_slice(&written);
-        let length = written.len() as u32;
-        Some(accepted(&[length], writing.places.clone(), after))
+        Some(known_of_written(&written, writing.places.clone(), &output))
     });
     Case {
         seed,
@@ -221,6 +243,30 @@ pub fn column_case(seed: u64) -> Case {
         call,
         changes: column.changes,
         known: None,
+    }
+}
+
+/// Two drift files to be joined.
+pub fn join_case(seed: u64) -> Case {
+    let mut random = Random::new(seed);
+    let joining = mutator::joinings::joining(&mut random);
+    let output = vec![OUTPUT_BEFORE; joining.output_length];
+    let [first, second] = joining.inputs;
+    let call = Call::Join {
+        first,
+        second,
+        output,
+    };
+    let before = call.before();
+    let known = joining.known.map(|known| match known {
+        Ok(joined) => known_of_written(&joined, Vec::new(), &before.output),
+        Err(refusal) => refused_untouched(refusal, before),
+    });
+    Case {
+        seed,
+        call,
+        changes: joining.changes,
+        known,
     }
 }
 
@@ -597,6 +643,13 @@ pub fn run_of(subject: &dyn Judge, amounts: Amounts) -> Result<Report, String> {
         }
         Ok(())
     })?;
+    let joinings = (0..amounts.joinings).map(|at| join_case(FIRST_JOINING + at));
+    run_sort(
+        subject,
+        &mut report,
+        joinings,
+        |report, _, case, outcome| compare_joining(subject, report, case, outcome),
+    )?;
     for cases in [name_cases(), kind_cases(), word_cases()] {
         run_sort(subject, &mut report, cases.into_iter(), |_, _, _, _| Ok(()))?;
     }

@@ -155,6 +155,23 @@ const CHANGES: &[(&str, usize, Change)] = &[
 /// The changes to single entries: absent, of another kind or empty.
 pub const CHANGES_OF_ENTRIES: [ChangeLines; 3] = [drop_entries, values_at_edges, empty_filled];
 
+/// Changes one file so that it is most often refused by this number, which is one of 3 to 11.
+pub fn change_towards(random: &mut Random, number: u32, file: u32, text: &mut Vec<u8>) {
+    let change: ChangeLines = match number {
+        3 => return long_file(random, file, text),
+        4 => line_form,
+        5 => change_heading,
+        6 => change_name,
+        7 => drop_section,
+        8 => drop_entries,
+        9 => values_at_edges,
+        10 => empty_filled,
+        _ => return text.clear(),
+    };
+    // Each applies to a file with lines.
+    change_lines(random, file, text, change);
+}
+
 /// Changes one file once; the name of the change, or None where it did not apply.
 pub fn change_file(random: &mut Random, file: u32, text: &mut Vec<u8>) -> Option<&'static str> {
     let all: usize = CHANGES.iter().map(|(_, weight, _)| weight).sum();

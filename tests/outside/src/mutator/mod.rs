@@ -2,9 +2,11 @@
 //!
 //! - `values`: values at the boundaries of their kinds. - `files`: changes to one file.
 //! - `sets`: changes to a set. - `writings`: changes to a writing. - `columns`: due columns.
+//! - `joinings`: two drift files to be joined.
 
 pub mod columns;
 pub mod files;
+pub mod joinings;
 pub mod sets;
 pub mod values;
 pub mod writings;

@@ -51,9 +51,12 @@ fn seconds(time: &[u8]) -> u32 {
     hours * 3_600 + minutes * 60 + seconds
 }
 
+/// The entries of a result file that say when its measure begins and ends.
+pub const TIMES: [&str; 2] = ["InizioMisura", "FineMisura"];
+
 /// Beginning and end of a result file's measure, in seconds since the midnight before each.
 fn times(read: &FileRead) -> [u32; 2] {
-    ["InizioMisura", "FineMisura"].map(|name| seconds(read.value(name)))
+    TIMES.map(|name| seconds(read.value(name)))
 }
 
 /// 02, 5/14: "A measure whose FineMisura is below its InizioMisura ends the day after DataMisura, any other on it". After

@@ -72,9 +72,19 @@ pub fn due_column(read: &FileRead, ac2: &FileRead) -> Vec<u32> {
 
 /// 01, row 10: "filled, not due; or due, empty", in entry order.
 pub fn judge_due(read: &FileRead, ac2: &FileRead) -> Result<(), Refusal> {
+    judge_each(read, |name| due(name, read, ac2))
+}
+
+/// Likewise of a drift file, in which nothing hangs on AC2.
+pub fn judge_due_in_drift(drift: &FileRead) -> Result<(), Refusal> {
+    judge_each(drift, due_unless_free)
+}
+
+/// Row 10 by what is asked of each entry.
+fn judge_each(read: &FileRead, due: impl Fn(&str) -> Due) -> Result<(), Refusal> {
     for (entry, found) in read.entries() {
         let filled = found.length > 0;
-        let right = match due(&entry.name, read, ac2) {
+        let right = match due(&entry.name) {
             Due::Filled => filled,
             Due::Empty => !filled,
             Due::Free => true,
@@ -86,17 +96,21 @@ pub fn judge_due(read: &FileRead, ac2: &FileRead) -> Result<(), Refusal> {
     Ok(())
 }
 
-/// 01, Due entries: "Note and CodErrore may be filled or empty. All else is due (filled)
-/// except, filled exactly when".
+/// 01, Due entries: "All else is due (filled) except, filled exactly when".
 pub fn due(name: &str, read: &FileRead, ac2: &FileRead) -> Due {
-    if matches!(name, "Note" | "CodErrore") {
-        return Due::Free;
-    }
     match read.table.file {
         AC2 => due_in_ac2(name, ac2),
         ACC if name == "Alimentazione_1" => Due::Free,
         GAS => due_in_gas(name, read, ac2),
         OPACITY => due_in_opacity(name, read),
+        _ => due_unless_free(name),
+    }
+}
+
+/// 01, Due entries: "Note and CodErrore may be filled or empty. All else is due (filled)".
+fn due_unless_free(name: &str) -> Due {
+    match name {
+        "Note" | "CodErrore" => Due::Free,
         _ => Due::Filled,
     }
 }
@@ -171,6 +185,6 @@ fn due_by_links(name: &str, read: &FileRead) -> Due {
         | "ModuloChiaveContagiriRS"
         | "EsponenteChiaveContagiriRS" => filled_when(external && counter == b"210"),
         "ChecksumContagiriRS" => filled_when(external && counter == b"200"),
-        _ => Due::Filled,
+        _ => due_unless_free(name),
     }
 }

@@ -2,7 +2,7 @@
 
 use super::bookings::{judge_ac2, judge_acc};
 use super::devices::{self, judge_devices};
-use super::due::{due_column, is_gas_due, is_l, is_opacity_due, judge_due};
+use super::due::{due_column, is_gas_due, is_l, is_opacity_due, judge_due, judge_due_in_drift};
 use super::files::{read_file, FileRead};
 use super::identification::judge_identification;
 use super::kinds::{number, revs};
@@ -91,7 +91,7 @@ fn read_set(set: Slices) -> Result<SetRead, Refusal> {
     judge_stem(set.stem)?;
     let ac2 = judge_slice_1(set.ac2)?;
     let acc = judge_slice_2(set.acc, set.stem, &ac2)?;
-    let drift = judge_slice_3(set.drift, &ac2)?;
+    let drift = judge_slice_3(set.drift)?;
     let suspension = judge_slice_4(set.suspension, &ac2)?;
     let gas = judge_slice_5(set.gas, &ac2)?;
     judge_slice_6(set.identification, gas.as_ref())?;
@@ -107,7 +107,7 @@ fn read_set(set: Slices) -> Result<SetRead, Refusal> {
 }
 
 /// 01, row 11: "slice missing or not due".
-fn judge_given(given: bool, due: bool, file: u32) -> Result<(), Refusal> {
+pub fn judge_given(given: bool, due: bool, file: u32) -> Result<(), Refusal> {
     if given == due {
         Ok(())
     } else {
@@ -145,14 +145,20 @@ fn judge_slice_2<'a>(
 }
 
 /// Drift: optional; 19 at its end.
-fn judge_slice_3<'a>(text: &'a [u8], ac2: &FileRead) -> Result<Option<FileRead<'a>>, Refusal> {
+fn judge_slice_3(text: &[u8]) -> Result<Option<FileRead<'_>>, Refusal> {
     if text.is_empty() {
         return Ok(None);
     }
-    let drift = read_file(DRIFT, text)?;
-    judge_due(&drift, ac2)?;
+    let drift = judge_drift(text)?;
     judge_devices(&drift)?;
     Ok(Some(drift))
+}
+
+/// A drift file, 3 to 10: all that is asked of it but 19.
+pub fn judge_drift(text: &[u8]) -> Result<FileRead<'_>, Refusal> {
+    let drift = read_file(DRIFT, text)?;
+    judge_due_in_drift(&drift)?;
+    Ok(drift)
 }
 
 /// Suspension: optional; 19 "after 10 and before 12 or 13 of that file" (02, 5/14), 13 at its end.

@@ -1,16 +1,18 @@
 //! The runner itself: it finds the faults of wrong judges, and its calls can be made again.
 
 mod devices;
+mod joining;
 mod lines_beside;
 mod look_up;
 mod old_fuel;
 mod opacity;
 
 use outside::comparison::{
-    column_case, kind_cases, name_cases, read_case, run_of, set_case, word_cases, write_case,
-    Amounts, ONE_RUN,
+    column_case, join_case, kind_cases, name_cases, read_case, run_of, set_case, word_cases,
+    write_case, Amounts, ONE_RUN,
 };
 use outside::devices as met_devices;
+use outside::joinings::{self as met_joinings, Input, Inputs};
 use outside::judge::{
     make, Arrays, Call, Judge, Outcome, Reference, BY_HAND, NAMES_COMPARED, SECONDS,
 };
@@ -18,11 +20,12 @@ use outside::lines_beside as met_lines;
 use outside::look_ups;
 use outside::old_fuels;
 use outside::reference::places::Triple;
-use outside::reference::tables::{table, GAS, OPACITY};
+use outside::reference::tables::{table, DRIFT, GAS, OPACITY};
 use outside::reference::PLACES;
 use outside::replay;
 
 use devices::Devices;
+use joining::Joining;
 use lines_beside::Lines;
 use look_up::LookUp;
 use old_fuel::OldFuel;
@@ -53,6 +56,7 @@ enum Fault {
     LookUp(LookUp),
     Devices(Devices),
     Lines(Lines),
+    Joining(Joining),
 }
 
 /// A fault in the mark of the idle speed (02, 1/14): where it is set, or whence it is taken.
@@ -133,6 +137,7 @@ const FEW: Amounts = Amounts {
     reads: 200,
     writes: 200,
     columns: 200,
+    joinings: 200,
 };
 
 /// Opacity is seldom given, and the values that some of its faults hang on are seldom in it.
@@ -147,11 +152,18 @@ const NONE: Amounts = Amounts {
     reads: 0,
     writes: 0,
     columns: 0,
+    joinings: 0,
 };
 
 /// Old fuels and due dates are judged in sets alone; a day that a fault hangs on is seldom in them.
 const SETS: Amounts = Amounts {
     sets: ONE_RUN.sets,
+    ..NONE
+};
+
+/// Joined files stand in sets too; only joinings are wrong.
+const JOININGS: Amounts = Amounts {
+    joinings: ONE_RUN.joinings,
     ..NONE
 };
 
@@ -181,12 +193,16 @@ impl Judge for Wrong {
                 set: fault.taken(set),
                 places: places.clone(),
             }),
+            (Fault::Joining(fault), call) => Some(fault.taken(call)),
             _ => None,
         };
         let number = Reference.answer(taken.as_ref().unwrap_or(call), lent);
         if answer.len() < 16 {
             if let (Fault::AnswerTooShort, Some(first)) = (self.0, answer.first_mut()) {
                 *first = 0;
+            }
+            if let (Fault::Joining(fault), Call::Join { .. }) = (self.0, call) {
+                fault.spoil_short(answer, output);
             }
             return number;
         }
@@ -222,6 +238,7 @@ impl Judge for Wrong {
             (Fault::LookUp(fault), call) => fault.spoil(call, places, answer),
             (Fault::Devices(fault), call) => fault.spoil(call, answer),
             (Fault::Lines(fault), call) => fault.spoil(call, places, output, answer),
+            (Fault::Joining(fault), call) => fault.spoil(call, output, answer),
             _ => {}
         }
         answer[0]
@@ -374,6 +391,50 @@ fn what_was_not_reached_of_lines_is_missing() {
 }
 
 #[test]
+fn what_was_not_reached_of_joinings_is_missing() {
+    let report = run_of(&Reference, NONE).expect("no difference");
+    let missing = report.missing();
+    for line in [
+        "join: number 21 was never reached",
+        "join 0: never 4 and 5 axles",
+        "join 0: never just the length",
+        "join 0: never second's end, second's start, first's end, first's start",
+        "join 0: never out of date for the measure of the joined file",
+        "join 0: never input 1 in another order, input 2 in the table's",
+        "join 3 to 11: never input 1 by 4, where input 2 alone is by 11",
+        "join 3 to 11: never input 2 by 9, the other one right",
+        "join 20: never CodErrore filled in input 2 alone",
+        "join 20: never Marca in case alone",
+        "join 20: never DataMisura and others behind it in the table",
+        "join 20: never and more than nine axles",
+        "join 21: never 9 and 9 axles",
+        "join 21: never an output of 0 bytes",
+        "join 18: never one byte less",
+        "join in the opposite order: never both inputs, answered by 20 with file 2",
+        "joined and read: never 9 axles together",
+        "joined and judged 0: never joined over midnight, due the next day",
+        "joined and judged 19: never joined over midnight, due the day on which it begins",
+    ] {
+        assert!(missing.contains(&line.to_string()), "{line}");
+    }
+    let wanted = met_joinings::wanted();
+    let never = |(call, what): &(&str, String)| missing.contains(&format!("{call}: never {what}"));
+    // Pairs of axles, sizes, inputs alike and the longest, orders of lines, free entries, orders of times, due dates.
+    let accepted = 36 + 4 + 3 + 4 + 4 + 24 + 3;
+    // By 10 beside headings; each number by each input alone, and with each number of the other.
+    let inputs = 2 + 9 * 2 + 9 * 9;
+    // Output and axles; each entry but the last with others; each alone and by its line; nine texts, a number, three
+    // dates and a word in their ways, and two free entries.
+    let headings = 2 + 2 * 13 + 2 * 14 + (9 * 4 + 3 + 3 * 2 + 1) + 2 * 2;
+    let joined_in_sets = 8 + 2 + 4;
+    assert_eq!(
+        wanted.len(),
+        accepted + inputs + headings + (45 + 2) + 3 + 3 * 6 + 8 + joined_in_sets
+    );
+    assert!(wanted.iter().all(never));
+}
+
+#[test]
 fn names_compared_are_held_to_the_sum_over_the_sections() {
     let mut accepted = 0;
     for case in (0..50).map(set_case) {
@@ -464,6 +525,61 @@ fn places_are_held_to_the_texts() {
     assert!(used > 1_000 && unused > 1_000 && refused > 1_000);
 }
 
+#[test]
+fn joinings_are_held_to_their_inputs() {
+    let (mut refused, mut joined) = (0, 0);
+    for case in (0..300).map(join_case) {
+        let Call::Join { first, second, .. } = &case.call else {
+            panic!("a joining");
+        };
+        let reads = [read_drift(first), read_drift(second)];
+        let inputs = [Input::new(first, &reads[0]), Input::new(second, &reads[1])];
+        let outcome = make(&Reference, &case.call);
+        assert!(met_joinings::is_right(&inputs, &outcome));
+        let is_right = |at: usize, number: u32| {
+            let mut spoilt = outcome.clone();
+            spoilt.answer[at] = number;
+            met_joinings::is_right(&inputs, &spoilt)
+        };
+        match outcome.answer[0] {
+            0 => {
+                joined += 1;
+                assert!(!is_right(0, 4) && !is_right(0, 19));
+                let text = &outcome.output[..outcome.answer[3] as usize];
+                assert!(is_joined(&inputs, text));
+                for at in 0..text.len() {
+                    let mut other = text.to_vec();
+                    other[at] ^= 1;
+                    assert!(!is_joined(&inputs, &other), "byte {at}");
+                }
+            }
+            3..=11 => {
+                refused += 1;
+                for at in 0..3 {
+                    assert!(!is_right(at, outcome.answer[at] + 1));
+                }
+                assert!(!is_right(0, 0) && !is_right(0, 20) && !is_right(1, 3));
+            }
+            _ => assert!(!is_right(0, 10)),
+        }
+    }
+    assert!(refused > 50 && joined > 20);
+}
+
+/// A drift file read alone.
+fn read_drift(text: &[u8]) -> Outcome {
+    let call = Call::Read {
+        file: DRIFT,
+        text: text.to_vec(),
+        places: vec![0; PLACES],
+    };
+    make(&Reference, &call)
+}
+
+fn is_joined(inputs: &Inputs, text: &[u8]) -> bool {
+    met_joinings::is_joined(inputs, &Input::new(text, &read_drift(text)))
+}
+
 #[cfg(feature = "library")]
 #[test]
 fn the_library_agrees_with_the_reference() {
@@ -472,6 +588,7 @@ fn the_library_agrees_with_the_reference() {
         reads: 500,
         writes: 500,
         columns: 500,
+        joinings: 500,
     };
     if let Err(difference) = run_of(&outside::library::Library, amounts) {
         panic!("{difference}");
@@ -571,6 +688,20 @@ fn faults_of_lines_are_found() {
 }
 
 #[test]
+fn faults_of_joinings_are_found() {
+    let compared = joining::faults_of_entries();
+    for fault in joining::FAULTS.into_iter().chain(compared) {
+        let fault = Fault::Joining(fault);
+        let call = assert_found(fault, JOININGS);
+        assert!(matches!(call, Call::Join { .. }), "{fault:?}");
+        // By the answer or the bytes, but for an answer array that is too short.
+        let [right, found] = [make(&Reference, &call), make(&Wrong(fault), &call)];
+        let is_short = matches!(fault, Fault::Joining(Joining::ShortAnswer(_)));
+        assert_eq!(right == found, is_short, "{fault:?}");
+    }
+}
+
+#[test]
 fn what_gives_the_right_answers_is_no_fault() {
     let amounts = Amounts {
         sets: 3_000,
@@ -622,6 +753,7 @@ fn calls_as_text_come_back() {
             read_case(seed),
             write_case(seed),
             column_case(seed),
+            join_case(seed),
         ]
     });
     let listed = [name_cases(), kind_cases(), word_cases()];

@@ -2,6 +2,7 @@
 //! samples, the misreadings and the settled readings; then those of document 02.
 
 mod devices;
+mod joining;
 mod lines_beside;
 mod look_up;
 mod old_fuel;

@@ -1,0 +1,15 @@
+pub mod Inputs
+pub mod Headings
+pub mod Bytes
+pub mod Lengths
+pub mod Joins
+pub mod Due
+pub mod Values
+pub mod Alike
+pub mod Promises
+pub mod Kept
+pub mod JoinedValues
+pub mod Result
+pub mod Refused
+pub mod Promised
+pub mod Examples

@@ -1,0 +1,3 @@
+pub mod Joining
+pub mod Steps
+pub mod Promises
