@@ -1,7 +1,9 @@
-/* Measures one call on one set: judging by libmctc.a, or parsing by inih or by GLib's GKeyFile.
+/* Measures one call on one set: by libmctc.a, or parsing by inih or by GLib's GKeyFile.
  *
  *     bench check SET          prints the sixteen numbers of mctc_judge's answer, then a sum over the places; then those of
- *                              mctc_join's on the drift file, taken twice, and a sum over the output
+ *                              mctc_join's on the drift file, taken twice, and a sum over the output; then of each file
+ *                              those of mctc_write's and a sum over the output. Fails where mctc_quote and mctc_commit do
+ *                              not give the same
  *     bench parsers SET        prints for each file what ini_parse_string returns, 0 or the first line that it finds
  *                              wrong, then what g_key_file_load_from_data returns, 1 or 0 for a wrong file
  *     bench time WHAT SET      prints the nanoseconds of one call, the least of ROUNDS averages
@@ -14,7 +16,13 @@
  *     gkeyfile       GKeyFile made, loaded and freed for each of these
  *
  * and with -gas or -opacity behind it that file alone: mctc_read in place of judging. With -join the drift file twice:
- * mctc_join in place of judging.
+ * mctc_join in place of judging. Of a file that was read, by the name that it has in SET:
+ *
+ *     write-FILE     mctc_write
+ *     quote-FILE     mctc_quote
+ *     commit-FILE    mctc_commit with the length that was quoted
+ *     gkeyfile-write-FILE
+ *                    the text made of a GKeyFile that was loaded, and freed
  */
 #include <glib.h>
 #include <ini.h>
@@ -31,6 +39,9 @@
 
 /* Longer than any joined file. */
 #define JOINED_ROOM 2000
+
+/* Longer than any written file. */
+#define WRITTEN_ROOM 4000
 
 #define ROUNDS 20
 #define ROUND_NANOSECONDS 10000000.0
@@ -49,7 +60,13 @@ static const char *const names[TEXTS] = {"stem", "ac2",            "acc",    "dr
 static struct text texts[TEXTS];
 static uint32_t places[MCTC_PLACES_SIZE];
 static uint32_t answer[MCTC_ANSWER_SIZE];
-static uint8_t output[JOINED_ROOM];
+static uint8_t output[WRITTEN_ROOM];
+
+/* The file that is written, and what reading and quoting it gave. */
+static int written;
+static uint32_t axles;
+static uint32_t quoted;
+static GKeyFile *loaded;
 
 /* How many entries inih has handed over. */
 static size_t found;
@@ -122,6 +139,34 @@ static void join(void)
               output, JOINED_ROOM, answer, MCTC_ANSWER_SIZE);
 }
 
+static void write_file(void)
+{
+    mctc_write(bytes(written), texts[written].length, places, MCTC_PLACES_SIZE, written, axles,
+               output, WRITTEN_ROOM, answer, MCTC_ANSWER_SIZE);
+}
+
+static void quote_file(void)
+{
+    mctc_quote(bytes(written), texts[written].length, places, MCTC_PLACES_SIZE, written, axles,
+               answer, MCTC_ANSWER_SIZE);
+}
+
+static void commit_file(void)
+{
+    mctc_commit(bytes(written), texts[written].length, places, MCTC_PLACES_SIZE, written, axles, quoted,
+                output, WRITTEN_ROOM, answer, MCTC_ANSWER_SIZE);
+}
+
+/* Reads the file that is to be written, and quotes it. */
+static void prepare_file(int i)
+{
+    written = i;
+    read_text(i);
+    axles = answer[3];
+    quote_file();
+    quoted = answer[3];
+}
+
 /* The least that inih lets a caller do with an entry. */
 static int count_entry(void *user, const char *section, const char *name, const char *value)
 {
@@ -183,6 +228,18 @@ static void gkeyfile_join(void)
     gkeyfile_text(DRIFT);
 }
 
+static void load_gkeyfile(void)
+{
+    loaded = g_key_file_new();
+    if (!g_key_file_load_from_data(loaded, texts[written].bytes, texts[written].length, G_KEY_FILE_NONE, NULL))
+        fail("GKeyFile does not load", names[written]);
+}
+
+static void gkeyfile_write(void)
+{
+    g_free(g_key_file_to_data(loaded, NULL, NULL));
+}
+
 static void gkeyfile(void)
 {
     for (int i = 0; i < TEXTS; i++)
@@ -191,6 +248,38 @@ static void gkeyfile(void)
 }
 
 typedef void call(void);
+
+/* The file whose name stands behind what is done with it; 0 for none. */
+static int file_behind(const char *what, const char *done)
+{
+    size_t length = strlen(done);
+    if (strncmp(what, done, length) == 0)
+        for (int i = 0; i < TEXTS; i++)
+            if (is_file(i) && strcmp(what + length, names[i]) == 0)
+                return i;
+    return 0;
+}
+
+/* Of a call on a file that was read: makes ready what it is lent. */
+static call *writing_call_of(const char *what)
+{
+    static const struct {
+        const char *done;
+        call *call;
+    } calls[] = {{"write-", write_file},
+                 {"quote-", quote_file},
+                 {"commit-", commit_file},
+                 {"gkeyfile-write-", gkeyfile_write}};
+    for (size_t i = 0; i < sizeof calls / sizeof *calls; i++) {
+        int file = file_behind(what, calls[i].done);
+        if (file > 0) {
+            prepare_file(file);
+            load_gkeyfile();
+            return calls[i].call;
+        }
+    }
+    return NULL;
+}
 
 static call *call_of(const char *what)
 {
@@ -212,8 +301,10 @@ static call *call_of(const char *what)
     for (size_t i = 0; i < sizeof calls / sizeof *calls; i++)
         if (strcmp(what, calls[i].what) == 0)
             return calls[i].call;
-    fail("nothing to measure", what);
-    return NULL;
+    call *call = writing_call_of(what);
+    if (call == NULL)
+        fail("nothing to measure", what);
+    return call;
 }
 
 /* callgrind counts from the entry of this function to its return. */
@@ -258,6 +349,37 @@ static void print_answer(void)
         printf("%u ", answer[i]);
 }
 
+static uint32_t output_sum(size_t length)
+{
+    uint32_t sum = 0;
+    for (size_t i = 0; i < length; i++)
+        sum = sum * 31 + output[i];
+    return sum;
+}
+
+/* Fails where a call on a file answers otherwise than writing it did. */
+static void check_answer(call *call, const char *what, const uint32_t *right, uint32_t sum)
+{
+    call();
+    if (memcmp(answer, right, sizeof answer) != 0 || output_sum(WRITTEN_ROOM) != sum)
+        fail(what, names[written]);
+}
+
+static void print_written(int i)
+{
+    uint32_t right[MCTC_ANSWER_SIZE];
+    prepare_file(i);
+    memset(output, 0, sizeof output);
+    write_file();
+    print_answer();
+    uint32_t sum = output_sum(WRITTEN_ROOM);
+    printf("%u%c", sum, i < OPACITY ? ' ' : '\n');
+    memcpy(right, answer, sizeof right);
+    check_answer(quote_file, "the quote differs", right, sum);
+    memset(output, 0, sizeof output);
+    check_answer(commit_file, "the commit differs", right, sum);
+}
+
 static void print_answers(void)
 {
     judge();
@@ -268,10 +390,10 @@ static void print_answers(void)
     printf("%u ", sum);
     join();
     print_answer();
-    sum = 0;
-    for (int i = 0; i < JOINED_ROOM; i++)
-        sum = sum * 31 + output[i];
-    printf("%u\n", sum);
+    printf("%u ", output_sum(JOINED_ROOM));
+    for (int i = 0; i < TEXTS; i++)
+        if (is_file(i))
+            print_written(i);
 }
 
 int main(int count, char **words)

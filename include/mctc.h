@@ -1,5 +1,6 @@
-/* The judge of MCTCNet2 test sets: a whole set judged, one file read, one file written, two drift files joined, names of
- * entries and headings, the kinds of entries and their words, the due column of one file, and what the judge goes by.
+/* The judge of MCTCNet2 test sets: a whole set judged, one file read, one file written, at once or after its length was
+ * quoted, two drift files joined, names of entries and headings, the kinds of entries and their words, the due column of
+ * one file, and what the judge goes by.
  *
  * Linked from libmctc.a. Every function answers for whatever bytes and numbers it is lent, keeps no state, allocates
  * nothing and always returns.
@@ -53,12 +54,12 @@
  * Answer: at least 16 numbers, of which the first 16 are all set.
  *
  *     number   acceptance                         refusal
- *     0        0                                  1 to 21, below
+ *     0        0                                  1 to 22, below
  *     1        0                                  file, 0 for none; join: 1 or 2 for the input
  *     2        0                                  line from 1, 0 for none
  *     3        judge: axles of drift              0
  *              read, due: axles
- *              write, join: length
+ *              write, quote, commit, join: length
  *              names, word: length
  *     4        judge: axles of suspension         0
  *              names, word: heading; due: entries
@@ -170,7 +171,7 @@ extern "C" {
 #define MCTC_SECTION_ABSENT 7
 /* An entry is absent: the line of its heading. */
 #define MCTC_ENTRY_ABSENT 8
-/* A value is of the wrong kind: its line; from mctc_write the line that it would have. */
+/* A value is of the wrong kind: its line; from mctc_write, mctc_quote and mctc_commit the line that it would have. */
 #define MCTC_WRONG_KIND 9
 /* A value is filled and not due, or due and empty: its line. */
 #define MCTC_NOT_AS_DUE 10
@@ -201,6 +202,8 @@ extern "C" {
 #define MCTC_HEADINGS_DISAGREE 20
 /* Two drift files have more than nine axles together: file 0, line 0. */
 #define MCTC_TOO_MANY_AXLES 21
+/* The length handed to mctc_commit is not the one that mctc_quote gives for the same text, places, file and axles: line 0. */
+#define MCTC_LENGTH_DIFFERS 22
 
 /* Judges a whole set: the stem of its files and seven slices, each empty where it is not given, in the order of the
  * files' numbers. Refuses with 1 to 15, 19, in this order: 1, 2, then file by file in the order of their numbers, each
@@ -242,12 +245,41 @@ uint32_t mctc_read(uint32_t file,
  * carries the file as handed in, 0 with 1.
  *
  * Accepted: answer 3 is the length of the written file; output bytes past it stay. Refused: the output stays. The places
- * are read only. */
+ * are read only.
+ *
+ * It is the two calls below together: mctc_quote, then mctc_commit with the length that was quoted. So it never refuses
+ * with 22. */
 uint32_t mctc_write(const uint8_t *text, size_t text_length,
                     const uint32_t *places, size_t places_length,
                     uint32_t file, uint32_t axles,
                     uint8_t *output, size_t output_length,
                     uint32_t *answer, size_t answer_length);
+
+/* Quotes the length of the file that mctc_write writes from the same text, places, file and axles, so that room can be made
+ * for it first. Looks at all that mctc_write looks at but the output, which it is not lent. Refuses, in this order, with 1,
+ * 16, 17, 9, each as mctc_write does.
+ *
+ * Accepted: answer 3 is the quoted length. The places are read only. */
+uint32_t mctc_quote(const uint8_t *text, size_t text_length,
+                    const uint32_t *places, size_t places_length,
+                    uint32_t file, uint32_t axles,
+                    uint32_t *answer, size_t answer_length);
+
+/* Writes the file that mctc_write writes from the same text, places, file and axles, where `length` is its length. Refuses,
+ * in this order, with 1, 16, 17, 9, 22, 18: 22 where `length` is not the quoted length, be it above or below, also where the
+ * output is too short; the others as mctc_write does. 22 carries the file as handed in.
+ *
+ * Where text, pairs, file and axles are those that were quoted, as many places are lent, `length` is the quoted length, and
+ * the output has that many bytes or more, it always writes, and what it writes is the file that was quoted. The third
+ * numbers of triples may be others than they were, as they are not looked at. Only the length is compared: where text,
+ * pairs, file or axles are no longer those that were quoted, and what they give has the same length, it is written.
+ *
+ * Accepted: answer 3 is `length`; output bytes past it stay. Refused: the output stays. The places are read only. */
+uint32_t mctc_commit(const uint8_t *text, size_t text_length,
+                     const uint32_t *places, size_t places_length,
+                     uint32_t file, uint32_t axles, uint32_t length,
+                     uint8_t *output, size_t output_length,
+                     uint32_t *answer, size_t answer_length);
 
 /* Joins two drift files of one truck, which was measured in two parts, into one. The values of their [Deriva] sections
  * must be the same bytes in fourteen entries: all but InizioMisura and FineMisura, so in Note, CodErrore and DataMisura

@@ -7,6 +7,7 @@ use std::path::PathBuf;
 use crate::due;
 use crate::entries;
 use crate::file_types::{by_number, FileType, FILE_TYPES};
+use crate::format;
 use crate::help::{self, Help};
 use crate::judge::Wish;
 use crate::output::Trouble;
@@ -42,7 +43,8 @@ pub enum Command {
     },
     Format {
         input: Input,
-        new: Option<PathBuf>,
+        wish: format::Wish,
+        json: bool,
     },
     Mend {
         path: PathBuf,
@@ -87,28 +89,32 @@ const GRAMMARS: [Grammar; 7] = [JUDGE, DUE, EXPLAIN, RULES, READ, FORMAT, JOIN];
 struct Grammar {
     name: &'static str,
     help: Help,
-    json: bool,
+    /// The options without a value, but `--help`.
+    flags: &'static [&'static str],
     file: bool,
     output: bool,
-    /// The option that it has besides, without a value.
-    flag: Option<&'static str>,
     make: fn(Given) -> Result<Command, Trouble>,
 }
+
+const JSON: &str = "--json";
+const ALL: &str = "--all";
+const ONLY_MARKED: &str = "--only-marked";
+const LENGTH: &str = "--length";
+const MEND: &str = "--mend";
 
 const JUDGE: Grammar = Grammar {
     name: "judge",
     help: help::JUDGE,
-    json: true,
+    flags: &[JSON, ALL],
     file: false,
     output: false,
-    flag: Some("--all"),
     make: judge,
 };
 
 const DUE: Grammar = Grammar {
     name: "due",
     help: help::DUE,
-    flag: Some("--only-marked"),
+    flags: &[JSON, ONLY_MARKED],
     make: due_of_set,
     ..JUDGE
 };
@@ -116,8 +122,7 @@ const DUE: Grammar = Grammar {
 const EXPLAIN: Grammar = Grammar {
     name: "explain",
     help: help::EXPLAIN,
-    json: false,
-    flag: None,
+    flags: &[],
     make: explain,
     ..JUDGE
 };
@@ -132,8 +137,8 @@ const RULES: Grammar = Grammar {
 const READ: Grammar = Grammar {
     name: "read",
     help: help::READ,
+    flags: &[JSON],
     file: true,
-    flag: None,
     make: read,
     ..JUDGE
 };
@@ -141,9 +146,8 @@ const READ: Grammar = Grammar {
 const FORMAT: Grammar = Grammar {
     name: "format",
     help: help::FORMAT,
-    json: false,
+    flags: &[JSON, LENGTH, MEND],
     output: true,
-    flag: Some("--mend"),
     make: format,
     ..READ
 };
@@ -151,9 +155,8 @@ const FORMAT: Grammar = Grammar {
 const JOIN: Grammar = Grammar {
     name: "join",
     help: help::JOIN,
-    json: true,
+    flags: &[JSON],
     file: false,
-    flag: None,
     make: join,
     ..FORMAT
 };
@@ -163,10 +166,16 @@ const JOIN: Grammar = Grammar {
 struct Given {
     words: Vec<OsString>,
     help: bool,
-    json: bool,
-    flag: bool,
+    /// Options without a value, of those that the subcommand knows.
+    flags: Vec<&'static str>,
     file: Option<OsString>,
     output: Option<OsString>,
+}
+
+impl Given {
+    fn has(&self, flag: &str) -> bool {
+        self.flags.contains(&flag)
+    }
 }
 
 fn command(grammar: &Grammar, words: &[OsString]) -> Result<Command, Trouble> {
@@ -185,8 +194,9 @@ fn command(grammar: &Grammar, words: &[OsString]) -> Result<Command, Trouble> {
 }
 
 impl Grammar {
-    fn has_flag(&self, word: &[u8]) -> bool {
-        self.flag.is_some_and(|flag| flag.as_bytes() == word)
+    fn flag(&self, word: &[u8]) -> Option<&'static str> {
+        let mut flags = self.flags.iter().copied();
+        flags.find(|flag| flag.as_bytes() == word)
     }
 
     fn sort(&self, words: &[OsString]) -> Result<Given, Trouble> {
@@ -194,6 +204,10 @@ impl Grammar {
         let mut words = words.iter();
         while let Some(word) = words.next() {
             let (option, attached) = split_option(word);
+            if let (Some(flag), None) = (self.flag(option), &attached) {
+                given.flags.push(flag);
+                continue;
+            }
             let slot = match option {
                 b"--" => {
                     given.words.extend(words.by_ref().cloned());
@@ -201,14 +215,6 @@ impl Grammar {
                 }
                 b"--help" | b"-h" => {
                     given.help = true;
-                    continue;
-                }
-                b"--json" if self.json && attached.is_none() => {
-                    given.json = true;
-                    continue;
-                }
-                flag if self.has_flag(flag) && attached.is_none() => {
-                    given.flag = true;
                     continue;
                 }
                 b"--file" if self.file => &mut given.file,
@@ -219,10 +225,15 @@ impl Grammar {
                     continue;
                 }
             };
+            let option = OsStr::from_bytes(option);
             let value = attached.or_else(|| words.next().cloned());
-            let value = value.ok_or_else(|| about("nothing behind", word))?;
+            let value = value.ok_or_else(|| about("nothing behind", option))?;
+            // As of a variable that the shell does not know.
+            if value.is_empty() {
+                return Err(about("an empty word behind", option));
+            }
             if slot.replace(value).is_some() {
-                return Err(about("given twice:", OsStr::from_bytes(option)));
+                return Err(about("given twice:", option));
             }
         }
         Ok(given)
@@ -249,8 +260,8 @@ fn about(what: &str, word: &OsStr) -> Trouble {
 
 fn judge(given: Given) -> Result<Command, Trouble> {
     let wish = Wish {
-        json: given.json,
-        all: given.flag,
+        json: given.has(JSON),
+        all: given.has(ALL),
     };
     if given.words.len() == 1 {
         let [folder] = exactly(given.words, "a folder")?;
@@ -263,8 +274,8 @@ fn judge(given: Given) -> Result<Command, Trouble> {
 
 fn due_of_set(given: Given) -> Result<Command, Trouble> {
     let wish = due::Wish {
-        json: given.json,
-        only_marked: given.flag,
+        json: given.has(JSON),
+        only_marked: given.has(ONLY_MARKED),
     };
     let (folder, stem) = folder_and_stem(given.words, "a folder and a stem")?;
     Ok(Command::Due { folder, stem, wish })
@@ -301,28 +312,44 @@ fn rules(given: Given) -> Result<Command, Trouble> {
 }
 
 fn read(given: Given) -> Result<Command, Trouble> {
+    let json = given.has(JSON);
     let input = input(given.words, given.file.as_deref(), |_| true)?;
-    let json = given.json;
     Ok(Command::Read { input, json })
 }
 
 fn format(given: Given) -> Result<Command, Trouble> {
+    let [json, length, mend] = [JSON, LENGTH, MEND].map(|flag| given.has(flag));
     let input = input(given.words, given.file.as_deref(), FileType::has_entries)?;
-    let new = given.output.map(PathBuf::from);
-    if given.flag {
-        // The file is not read by a table, so it has no number.
+    let new = given.output.map(new_file).transpose()?;
+    if length && (mend || new.is_some()) {
+        let why = "--length writes nothing, and so takes neither --output nor --mend";
+        return Err(Trouble(why.to_string()));
+    }
+    if mend {
+        // The file is not read by a table: it has no number, and there is no verdict to be told.
         let Input { path, number } = input;
-        return match number {
-            None => Ok(Command::Mend { path, new }),
-            Some(_) => Err(Trouble("--mend takes no --file".to_string())),
+        return match (number, json) {
+            (None, false) => Ok(Command::Mend { path, new }),
+            (Some(_), _) => Err(Trouble("--mend takes no --file".to_string())),
+            (None, true) => Err(Trouble("--mend takes no --json".to_string())),
         };
     }
-    Ok(Command::Format { input, new })
+    let wish = match new {
+        Some(new) => format::Wish::NewFile(new),
+        None if length => format::Wish::Length,
+        None if json => {
+            let why = "--json needs --output NEW or --length, as without either the file itself goes to standard output";
+            return Err(Trouble(why.to_string()));
+        }
+        None => format::Wish::Bytes,
+    };
+    Ok(Command::Format { input, wish, json })
 }
 
 fn join(given: Given) -> Result<Command, Trouble> {
+    let json = given.has(JSON);
     let files = exactly(given.words, "two drift files, the first before the second")?;
-    let (new, json) = (given.output.map(PathBuf::from), given.json);
+    let new = given.output.map(new_file).transpose()?;
     if json && new.is_none() {
         let why = "--json needs --output NEW, as without it the joined file itself goes to standard output";
         return Err(Trouble(why.to_string()));
@@ -332,6 +359,18 @@ fn join(given: Given) -> Result<Command, Trouble> {
         new,
         json,
     })
+}
+
+/// The path of a file that is to be made. That no file can have a folder's name, the disk would say only at the end.
+fn new_file(word: OsString) -> Result<PathBuf, Trouble> {
+    let last = word.as_bytes().rsplit(|byte| *byte == b'/').next();
+    match last {
+        Some(b"" | b"." | b"..") => Err(about(
+            "name a file behind --output, and not the folder",
+            &word,
+        )),
+        _ => Ok(PathBuf::from(word)),
+    }
 }
 
 fn folder_and_stem(words: Vec<OsString>, what: &str) -> Result<(PathBuf, OsString), Trouble> {

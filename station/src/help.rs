@@ -2,10 +2,24 @@
 
 use crate::file_types::{FileType, FILE_TYPES};
 
-/// The line of a text for which the list of files stands.
+/// The line of a text that stands for the list of files.
 const LIST: &str = "FILES\n";
 
-/// A text with such a list, or without.
+/// The line of a text that stands for what is said of a new file.
+const OUTPUT: &str = "OUTPUT\n";
+
+/// What is said of it, of any command.
+const NEW_FILE: &str =
+    "  --output NEW  a file that does not exist yet; none is ever overwritten. The
+                disk first makes room for all its bytes. NEW is there whole or
+                not at all, also where the program is killed; only on a disk
+                without links (FAT, some network shares) an empty NEW may stay
+                where that, or a power cut, comes at the last moment. A part
+                that is left, `.mctc-NUMBER.part`, is none of a set and can be
+                removed
+";
+
+/// A text, in which such lines may stand.
 pub struct Help {
     text: &'static str,
     /// The line of a file in the list; None where it is left out.
@@ -22,7 +36,8 @@ impl Help {
 
     pub fn text(&self) -> String {
         let rows: Vec<String> = FILE_TYPES.iter().filter_map(self.row).collect();
-        self.text.replace(LIST, &rows.concat())
+        let text = self.text.replace(LIST, &rows.concat());
+        text.replace(OUTPUT, NEW_FILE)
     }
 }
 
@@ -60,8 +75,10 @@ mctc: judges MCTCNet2 test sets with the proved library
   mctc rules                        all rules of a set, as Markdown
   mctc read FILE [--file N] [--json]
                                     one file alone, with its lines and values
-  mctc format FILE [--file N] [--output NEW]
+  mctc format FILE [--file N] [--output NEW [--json]]
                                     one file written in table order
+  mctc format FILE [--file N] --length [--json]
+                                    how many bytes it has in table order
   mctc format --mend FILE [--output NEW]
                                     one file with its line ends mended
   mctc join FIRST SECOND [--output NEW [--json]]
@@ -204,7 +221,7 @@ pub const EXPLAIN: Help = Help::plain(
 mctc explain NUMBER
 mctc explain ENTRY
 
-Says what refusals with this number (1 to 21) mean, what they carry, in which
+Says what refusals with this number (1 to 22) mean, what they carry, in which
 calls they come, and what to do; or for each file that has an entry of this
 name, its section, what its value must look like, when it is filled, and its
 rule.
@@ -259,14 +276,19 @@ Exit status: 0 read; 1 refused; 2 bad usage, or FILE cannot be read.
 pub const FORMAT: Help = Help {
     row: |file| file.has_entries().then(|| numbered(file)),
     text: "\
-mctc format FILE [--file N] [--output NEW]
+mctc format FILE [--file N] [--output NEW [--json]]
+mctc format FILE [--file N] --length [--json]
 mctc format --mend FILE [--output NEW]
 
 Reads one file alone and writes it in table order, to standard output or to a
 new file. A refusal goes to standard error.
 
   --file N      the file's number; without it the ending of FILE says it
-  --output NEW  a file that does not exist yet; none is ever overwritten
+OUTPUT
+  --length      write nothing, but print how many bytes the file has in table
+                order, as many as NEW would have
+  --json        the same for programs, on standard output, a refusal too; only
+                with --output or --length, as else the file itself stands there
   --mend        write FILE as it stands, but every line ended by CR LF and no
                 byte order mark, and say what was changed; nothing is judged.
                 UTF-16, what is no text, and an identification answer, which has
@@ -274,8 +296,13 @@ new file. A refusal goes to standard error.
 
 FILES
 
-Exit status: 0 written; 1 refused; 2 bad usage, FILE cannot be read or NEW
-cannot be written.
+With --json one object: the members of `mctc read --json` up to axles, then
+length (in table order, 0 where FILE is refused) and new (NEW, null where FILE
+is refused or only the length is asked for); or name and error where FILE cannot
+be read or NEW cannot be written.
+
+Exit status: 0 written, or the length printed; 1 refused; 2 bad usage, FILE
+cannot be read or NEW cannot be written.
 ",
 };
 
@@ -302,7 +329,7 @@ DataMisura (`mctc explain 19`). Notes on standard error say where the joined
 file would be refused for that, where its measure goes over midnight, and where
 FIRST and SECOND look exchanged or have the same values.
 
-  --output NEW  a file that does not exist yet; none is ever overwritten
+OUTPUT
   --json        the same for programs, on standard output, a refusal and notes
                 too; only with --output, as else the joined file stands there
 

@@ -50,10 +50,7 @@ impl<'a> Outcome<'a> {
     }
 
     fn status(&self) -> Status {
-        match self.joined {
-            Ok(_) => Status::Accepted,
-            Err(_) => Status::Refused,
-        }
+        Status::of(&self.joined)
     }
 
     fn print(&self, out: &mut Output) -> Result<(), Trouble> {

@@ -105,10 +105,7 @@ impl Judged {
     }
 
     pub fn status(&self) -> Status {
-        match self.verdict {
-            Ok(_) => Status::Accepted,
-            Err(_) => Status::Refused,
-        }
+        Status::of(&self.verdict)
     }
 
     /// Of an accepted set; 0 where it is refused.

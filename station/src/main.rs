@@ -82,7 +82,7 @@ fn run(command: Command) -> Result<Status, Trouble> {
         Command::Explain(page) => out.text(page).map(|()| Status::Accepted),
         Command::Rules => out.text(&rulebook::text()).map(|()| Status::Accepted),
         Command::Read { input, json } => read::run(input, *json, &mut out),
-        Command::Format { input, new } => format::run(input, new.as_deref(), &mut out),
+        Command::Format { input, wish, json } => format::run(input, wish, *json, &mut out),
         Command::Mend { path, new } => format::mend(path, new.as_deref(), &mut out),
         Command::Join { files, new, json } => join::run(files, new.as_deref(), *json, &mut out),
     }?;

@@ -12,6 +12,14 @@ pub enum Status {
 }
 
 impl Status {
+    /// Of a verdict: what came of it, or the refusal.
+    pub fn of<T, E>(verdict: &Result<T, E>) -> Status {
+        match verdict {
+            Ok(_) => Status::Accepted,
+            Err(_) => Status::Refused,
+        }
+    }
+
     pub fn code(self) -> u8 {
         match self {
             Status::Accepted => 0,

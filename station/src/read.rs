@@ -33,12 +33,7 @@ pub struct FileRead {
 }
 
 pub fn run(input: &Input, json: bool, out: &mut Output) -> Result<Status, Trouble> {
-    let read = input.read();
-    if let (Err(trouble), true) = (&read, json) {
-        let object = Object::default().string("name", &shown::name(&input.path));
-        out.text(&(object.string("error", &trouble.0).text() + "\n"))?;
-    }
-    let read = read?;
+    let read = input.or_error(input.read(), json, out)?;
     let contents = read.contents();
     let text = match json {
         true => contents.json() + "\n",
@@ -63,6 +58,20 @@ impl Input {
             places,
             verdict,
         })
+    }
+
+    /// What came of the file. That it cannot be read or written is printed for programs too.
+    pub fn or_error<T>(
+        &self,
+        outcome: Result<T, Trouble>,
+        json: bool,
+        out: &mut Output,
+    ) -> Result<T, Trouble> {
+        if let (Err(trouble), true) = (&outcome, json) {
+            let object = Object::default().string("name", &shown::name(&self.path));
+            out.text(&(object.string("error", &trouble.0).text() + "\n"))?;
+        }
+        outcome
     }
 }
 
@@ -93,19 +102,43 @@ impl FileRead {
         Contents { read: self, found }
     }
 
-    /// The file written in table order. One that was read holds each line of its table once and nothing else, so what is
-    /// written has the same length.
-    pub fn in_table_order(&self) -> Result<Vec<u8>, Refusal> {
+    /// How many bytes the file has in table order.
+    pub fn quoted(&self) -> Result<usize, Refusal> {
         let (text, axles) = (&self.file.text, self.verdict?.axles);
-        let mut output = vec![0; text.len()];
-        let length = mctc::write(text, &self.places, self.number, axles, &mut output)?;
-        output.truncate(length);
+        mctc::quote(text, &self.places, self.number, axles)
+    }
+
+    /// The file in table order, of the length that was quoted.
+    pub fn committed(&self, length: usize) -> Result<Vec<u8>, Refusal> {
+        let (text, axles) = (&self.file.text, self.verdict?.axles);
+        let mut output = vec![0; length];
+        mctc::commit(text, &self.places, self.number, axles, length, &mut output)?;
         Ok(output)
     }
 
-    fn explained(&self, refusal: Refusal) -> Explained {
+    /// The file in table order.
+    pub fn in_table_order(&self) -> Result<Vec<u8>, Refusal> {
+        self.committed(self.quoted()?)
+    }
+
+    pub fn explained(&self, refusal: Refusal) -> Explained {
         let case = Case::file(self.number, &self.file.text);
         explain(case, refusal, Some(Subject::alone(&self.file)))
+    }
+
+    /// For programs: the members that say which file it is, whether it is refused, what is known of that, and its axles.
+    pub fn about(&self, explained: Option<&Explained>) -> Object {
+        let FileRead { file, number, .. } = self;
+        let refusal = explained.map(|explained| explained.refusal);
+        let object = Object::default()
+            .string("name", &file.name)
+            .number("file", *number)
+            .string("title", title(*number))
+            .truth("accepted", explained.is_none())
+            .number("number", refusal.map_or(0, |refusal| refusal.number))
+            .number("line", refusal.map_or(0, |refusal| refusal.line));
+        let axles = self.verdict.unwrap_or_default().axles;
+        known_of_refusal(object, explained).number("axles", axles)
     }
 
     /// The refusal in plain words.
@@ -134,10 +167,7 @@ struct Contents<'a> {
 
 impl Contents<'_> {
     fn status(&self) -> Status {
-        match self.found {
-            Ok(_) => Status::Accepted,
-            Err(_) => Status::Refused,
-        }
+        Status::of(&self.found)
     }
 
     fn page(&self) -> String {
@@ -172,24 +202,14 @@ impl Contents<'_> {
 
     /// One object; the same members for acceptance and refusal.
     fn json(&self) -> String {
-        let FileRead { file, number, .. } = self.read;
-        let explained = self.found.as_ref().err();
-        let refusal = explained.map(|explained| explained.refusal);
-        let (acceptance, entries, fields): (_, &[EntryRead], &[FieldRead]) = match &self.found {
-            Ok(Found::Entries(acceptance, entries)) => (*acceptance, entries, &[]),
-            Ok(Found::Fields(fields)) => (FileAcceptance::default(), &[], fields),
-            Err(_) => (FileAcceptance::default(), &[], &[]),
+        let (idle_by_hand, entries, fields): (_, &[EntryRead], &[FieldRead]) = match &self.found {
+            Ok(Found::Entries(acceptance, entries)) => (acceptance.idle_by_hand, entries, &[]),
+            Ok(Found::Fields(fields)) => (false, &[], fields),
+            Err(_) => (false, &[], &[]),
         };
-        let object = Object::default()
-            .string("name", &file.name)
-            .number("file", *number)
-            .string("title", title(*number))
-            .truth("accepted", explained.is_none())
-            .number("number", refusal.map_or(0, |refusal| refusal.number))
-            .number("line", refusal.map_or(0, |refusal| refusal.line));
-        let object = known_of_refusal(object, explained)
-            .number("axles", acceptance.axles)
-            .truth("idle_by_hand", acceptance.idle_by_hand)
+        let about = self.read.about(self.found.as_ref().err());
+        let object = about
+            .truth("idle_by_hand", idle_by_hand)
             .objects("entries", entries.iter().map(EntryRead::json))
             .objects("fields", fields.iter().map(FieldRead::json));
         object.text()

@@ -7,7 +7,7 @@ use crate::page::labelled;
 use crate::reasons;
 
 /// The last number of a refusal.
-pub const LAST: u32 = 21;
+pub const LAST: u32 = 22;
 
 /// All that is said of refusals with this number.
 pub fn page(number: u32) -> String {
@@ -35,9 +35,11 @@ pub fn page(number: u32) -> String {
 pub fn place(number: u32) -> &'static str {
     match number {
         1 | 2 | 21 => "no file and no line",
-        3 | 7 | 11 | 14 | 15 | 16 => "a file, and no line",
+        3 | 7 | 11 | 14 | 15 | 16 | 22 => "a file, and no line",
         8 => "a file, and the line of the section's heading",
-        9 => "a file and the line; in writing, the line that the entry would have",
+        9 => {
+            "a file and the line; in writing and in quoting a length, the line that the entry would have"
+        }
         17 => "a file, and the line that the entry would have",
         18 => "a file, and no line; in joining no file either",
         20 => "2 for the second file, and the line there of the first such entry in the order of the table",
@@ -56,22 +58,25 @@ fn calls(number: u32) -> &'static str {
              `mctc format`, `mctc join`)"
         }
         9 => {
-            "in judging a set, in reading a file alone, in writing one and in joining two (`mctc judge`, `mctc due`, \
-             `mctc read`, `mctc format`, `mctc join`)"
+            "in judging a set, in reading a file alone, in writing one or quoting its length, and in joining two \
+             (`mctc judge`, `mctc due`, `mctc read`, `mctc format`, `mctc join`)"
         }
         10 => {
             "in judging a set and in joining two files (`mctc judge`, `mctc join`; `mctc due` shows all entries)"
         }
         11 => {
             "in judging a set; of an empty file also in reading it alone and in joining (`mctc judge`, `mctc due`, \
-             `mctc read`, `mctc join`)"
+             `mctc read`, `mctc format`, `mctc join`)"
         }
         16 => {
             "in every call with a file's number but judging; from this program where an identification answer, which \
              has no entries, is to be written in table order (`mctc format`)"
         }
-        17 => "in writing; never from this program, which writes what it has read",
+        17 => {
+            "in writing and in quoting a length; never from this program, which writes what it has read"
+        }
         20 | 21 => "in joining two drift files (`mctc join`)",
+        22 => "in writing by a quoted length; never from this program, which hands in what the quote answered",
         _ => "in writing, joining, names and due columns; never from this program, which lends enough",
     }
 }
@@ -100,6 +105,7 @@ pub fn meaning(number: u32) -> &'static str {
         19 => "a device is out of date on the day on which the measure ends",
         20 => "the [Deriva] sections of the two files differ in another entry than InizioMisura and FineMisura",
         21 => "the two files have more than nine axles together",
+        22 => "the length that was handed in is not the quoted one",
         _ => "the library refuses with a number that this program does not know",
     }
 }
@@ -160,7 +166,11 @@ fn fixed_advice(number: u32) -> &'static str {
         14 => "have the analyser's answer recorded again: 02 hex, ten fields separated by 17 hex (GAS, address, ID and \
                seven values), the checksum as two capital hexadecimal digits, 03 hex; at most 512 bytes",
         17 => "lend the places that reading this text gave",
-        18 => "lend an output as long as the text that was read, in joining as both texts together",
+        18 => {
+            "lend more: in writing one file as many bytes as its quote answers, in joining as many as both texts have \
+             together, for names as many as the longest name, heading or word has; for a due column as many numbers as \
+             the file has entries"
+        }
         19 => {
             "correct the due date if it is not the one on the device's certificate, or DataMisura, InizioMisura or \
              FineMisura if one of them is wrong; else have the measure made again with a device in date"
@@ -172,6 +182,10 @@ fn fixed_advice(number: u32) -> &'static str {
         21 => {
             "see that neither file is joined already, and that the two were not measured on the same axles; more than \
              nine axles do not fit one drift file"
+        }
+        22 => {
+            "quote the length again, from the text, places, file number and axles that the file is to be written from, \
+             and hand in what the quote answers"
         }
         _ => "report this to whoever maintains the program",
     }

@@ -1,13 +1,13 @@
 //! Makes the sets of the benchmark, and measures the Rust implementation on one of them.
 //!
 //! - `bench-reference make FOLDER`: writes each set to a folder of its own in FOLDER and prints its name.
-//! - `bench-reference check SET`: prints the answers with a sum over the places and one over the output, as
+//! - `bench-reference check SET`: prints the answers with a sum over the places and one over each output, as
 //!   `bench check SET` does.
 //! - `bench-reference time WHAT SET`: prints the nanoseconds of one call, the least of several averages.
 //! - `bench-reference count WHAT SET`: makes one call as warm-up, then one in `measured`, for callgrind.
 //!
-//! WHAT is `judge`, the whole set, `read-gas` or `read-opacity`, that file alone, or `join`, the drift file joined with
-//! itself.
+//! WHAT is `judge`, the whole set, `read-gas` or `read-opacity`, that file alone, `join`, the drift file joined with
+//! itself, or `write-` with the name of a file, which was read, written.
 
 mod sets;
 
@@ -20,7 +20,8 @@ use std::time::Instant;
 use outside::judge::{Outcome, Reference, Set};
 use outside::reference::joining;
 use outside::reference::judging::{judge_set, read_alone};
-use outside::reference::tables::{DRIFT, GAS, OPACITY};
+use outside::reference::tables::{DRIFT, FILES, GAS, OPACITY};
+use outside::reference::writing::write_file;
 use outside::reference::PLACES;
 
 /// The files of a set's folder, in the order of the slices.
@@ -37,6 +38,9 @@ const NAMES: [&str; 7] = [
 /// Longer than any joined file; as in bench.c.
 const JOINED_ROOM: usize = 2000;
 
+/// Longer than any written file; as in bench.c.
+const WRITTEN_ROOM: usize = 4000;
+
 const ROUNDS: usize = 20;
 const ROUND_NANOSECONDS: f64 = 10_000_000.0;
 
@@ -46,8 +50,8 @@ fn main() -> ExitCode {
     let done = match words.as_slice() {
         ["make", folder] => make(Path::new(folder)),
         ["check", folder] => load(Path::new(folder)).map(|set| check(&set)),
-        ["time", what, folder] => prepare(what, folder).map(|(call, set)| print_time(call, &set)),
-        ["count", what, folder] => prepare(what, folder).map(|(call, set)| count(call, &set)),
+        ["time", what, folder] => prepare(what, folder).map(print_time),
+        ["count", what, folder] => prepare(what, folder).map(count),
         _ => Err("usage: make FOLDER | check SET | time WHAT SET | count WHAT SET".to_string()),
     };
     match done {
@@ -100,7 +104,28 @@ fn check(set: &Set) {
     let joined = outside::judge::make(&Reference, &call);
     let output = sum(joined.output.iter().map(|byte| u32::from(*byte)));
     let (judged, joined) = (numbers(&judged), numbers(&joined));
-    println!("{judged} {places} {joined} {output}");
+    let written = FILES.map(|file| written(file, set.slice(file))).join(" ");
+    println!("{judged} {places} {joined} {output} {written}");
+}
+
+/// What writing a file gives that was read, and a sum over the output.
+fn written(file: u32, text: &[u8]) -> String {
+    let read = outside::judge::Call::Read {
+        file,
+        text: text.to_vec(),
+        places: vec![0; PLACES],
+    };
+    let read = outside::judge::make(&Reference, &read);
+    let write = outside::judge::Call::Write {
+        text: text.to_vec(),
+        places: read.places,
+        file,
+        axles: read.answer[3],
+        output: vec![0; WRITTEN_ROOM],
+    };
+    let written = outside::judge::make(&Reference, &write);
+    let output = sum(written.output.iter().map(|byte| u32::from(*byte)));
+    format!("{} {output}", numbers(&written))
 }
 
 fn numbers(outcome: &Outcome) -> String {
@@ -114,69 +139,105 @@ fn sum(numbers: impl Iterator<Item = u32>) -> u32 {
     })
 }
 
-type Call = fn(&Set, &mut [u32]);
+/// What a call is lent.
+pub struct Lent {
+    set: Set,
+    places: [u32; PLACES],
+    /// The file that is written, and its axles.
+    file: u32,
+    axles: u32,
+    output: [u8; WRITTEN_ROOM],
+}
 
-fn prepare(what: &str, folder: &str) -> Result<(Call, Set), String> {
+type Call = fn(&mut Lent);
+
+fn prepare(what: &str, folder: &str) -> Result<(Call, Lent), String> {
+    let mut lent = Lent {
+        set: load(Path::new(folder))?,
+        places: [0; PLACES],
+        file: 0,
+        axles: 0,
+        output: [0; WRITTEN_ROOM],
+    };
     let call: Call = match what {
         "judge" => judge,
-        "read-gas" => read_gas,
-        "read-opacity" => read_opacity,
+        "read-gas" => |lent| read(GAS, lent),
+        "read-opacity" => |lent| read(OPACITY, lent),
         "join" => join,
-        _ => return Err(format!("nothing to measure: {what}")),
+        _ => {
+            let file = what.strip_prefix("write-").and_then(file_named);
+            lent.file = file.ok_or_else(|| format!("nothing to measure: {what}"))?;
+            let read = read_alone(lent.file, lent.set.slice(lent.file), &mut lent.places);
+            lent.axles = read
+                .map_err(|_| format!("{what}: it cannot be read"))?
+                .axles;
+            write
+        }
     };
-    Ok((call, load(Path::new(folder))?))
+    Ok((call, lent))
 }
 
-fn judge(set: &Set, places: &mut [u32]) {
-    let _ = black_box(judge_set(set.as_slices(), places));
+/// A file that can be written, by its name in the set's folder.
+fn file_named(name: &str) -> Option<u32> {
+    let mut files = FILES.into_iter();
+    files.find(|file| NAMES[*file as usize - 1] == name)
 }
 
-fn read_gas(set: &Set, places: &mut [u32]) {
-    let _ = black_box(read_alone(GAS, set.slice(GAS), places));
+fn judge(lent: &mut Lent) {
+    let _ = black_box(judge_set(lent.set.as_slices(), &mut lent.places));
 }
 
-fn read_opacity(set: &Set, places: &mut [u32]) {
-    let _ = black_box(read_alone(OPACITY, set.slice(OPACITY), places));
+fn read(file: u32, lent: &mut Lent) {
+    let _ = black_box(read_alone(file, lent.set.slice(file), &mut lent.places));
 }
 
 /// No places are lent.
-fn join(set: &Set, _: &mut [u32]) {
-    let (drift, mut output) = (set.slice(DRIFT), [0; JOINED_ROOM]);
+fn join(lent: &mut Lent) {
+    let (drift, mut output) = (lent.set.slice(DRIFT), [0; JOINED_ROOM]);
     let _ = black_box(joining::join(drift, drift, &mut output));
     black_box(output);
+}
+
+fn write(lent: &mut Lent) {
+    let Lent { file, axles, .. } = *lent;
+    let text = lent.set.slice(file);
+    let _ = black_box(write_file(
+        text,
+        &lent.places,
+        file,
+        axles,
+        &mut lent.output,
+    ));
 }
 
 /// callgrind counts from the entry of this function to its return.
 #[no_mangle]
 #[inline(never)]
-pub fn measured(call: Call, set: &Set, places: &mut [u32]) {
-    call(set, places);
-    black_box(places);
+pub fn measured(call: Call, lent: &mut Lent) {
+    call(lent);
+    black_box(lent);
 }
 
-fn count(call: Call, set: &Set) {
-    let mut places = [0; PLACES];
-    call(set, &mut places);
-    measured(call, set, &mut places);
+fn count((call, mut lent): (Call, Lent)) {
+    call(&mut lent);
+    measured(call, &mut lent);
 }
 
-fn average(call: Call, set: &Set, places: &mut [u32], repetitions: u32) -> f64 {
+fn average(call: Call, lent: &mut Lent, repetitions: u32) -> f64 {
     let start = Instant::now();
     for _ in 0..repetitions {
-        measured(call, set, places);
+        measured(call, lent);
     }
     start.elapsed().as_nanos() as f64 / f64::from(repetitions)
 }
 
-fn print_time(call: Call, set: &Set) {
-    let mut places = [0; PLACES];
+fn print_time((call, mut lent): (Call, Lent)) {
     let mut repetitions = 1;
-    while average(call, set, &mut places, repetitions) * f64::from(repetitions) < ROUND_NANOSECONDS
-    {
+    while average(call, &mut lent, repetitions) * f64::from(repetitions) < ROUND_NANOSECONDS {
         repetitions *= 2;
     }
     let least = (0..ROUNDS)
-        .map(|_| average(call, set, &mut places, repetitions))
+        .map(|_| average(call, &mut lent, repetitions))
         .fold(f64::INFINITY, f64::min);
     println!("{least:.0}");
 }

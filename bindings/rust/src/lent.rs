@@ -52,6 +52,31 @@ extern "C" {
         answer_length: usize,
     ) -> u32;
 
+    fn mctc_quote(
+        text: *const u8,
+        text_length: usize,
+        places: *const u32,
+        places_length: usize,
+        file: u32,
+        axles: u32,
+        answer: *mut u32,
+        answer_length: usize,
+    ) -> u32;
+
+    fn mctc_commit(
+        text: *const u8,
+        text_length: usize,
+        places: *const u32,
+        places_length: usize,
+        file: u32,
+        axles: u32,
+        length: u32,
+        output: *mut u8,
+        output_length: usize,
+        answer: *mut u32,
+        answer_length: usize,
+    ) -> u32;
+
     fn mctc_join(
         first: *const u8,
         first_length: usize,
@@ -193,6 +218,49 @@ pub fn write(
             places.len(),
             file,
             axles,
+            output.as_mut_ptr(),
+            output.len(),
+            answer.as_mut_ptr(),
+            answer.len(),
+        )
+    }
+}
+
+/// The length of the file that is written from a text and the pairs of its values.
+pub fn quote(text: &[u8], places: &[u32], file: u32, axles: u32, answer: &mut [u32]) -> u32 {
+    unsafe {
+        mctc_quote(
+            text.as_ptr(),
+            text.len(),
+            places.as_ptr(),
+            places.len(),
+            file,
+            axles,
+            answer.as_mut_ptr(),
+            answer.len(),
+        )
+    }
+}
+
+/// Writes one file from a text and the pairs of its values, of the length that was quoted.
+pub fn commit(
+    text: &[u8],
+    places: &[u32],
+    file: u32,
+    axles: u32,
+    length: u32,
+    output: &mut [u8],
+    answer: &mut [u32],
+) -> u32 {
+    unsafe {
+        mctc_commit(
+            text.as_ptr(),
+            text.len(),
+            places.as_ptr(),
+            places.len(),
+            file,
+            axles,
+            length,
             output.as_mut_ptr(),
             output.len(),
             answer.as_mut_ptr(),

@@ -63,7 +63,7 @@ pub struct Set<'a> {
 #[derive(Clone, Copy, Debug, PartialEq, Eq)]
 pub struct Refusal {
     /// 1 to 18, as in document 01; 19, a device that is out of date (document 02, 5/14); 20 and 21, of two drift files
-    /// that do not join (document 02, 8/14).
+    /// that do not join (document 02, 8/14); 22, a length that is not the quoted one (document 02, 9/14).
     pub number: u32,
     /// 0 for none; from [`join`] the number of the input, 1 or 2.
     pub file: u32,
@@ -120,8 +120,8 @@ pub struct FileAcceptance {
 
 /// A triple for each entry: start and length of its value in its file, which are its pair, and its line.
 ///
-/// Of two sets whose files hold the same lines in another order, starts and lines may differ. [`write`] does not look at
-/// the lines.
+/// Of two sets whose files hold the same lines in another order, starts and lines may differ. [`write`], [`quote`] and
+/// [`commit`] do not look at the lines.
 ///
 /// ```
 /// let text = b"[DatiLibrettoVeicolo]\r\nTipoVeicolo=LEGGERO\r\nDescrizioneVeicolo=AUTOVETTURA\r\n\
@@ -488,7 +488,8 @@ pub fn read(file: u32, text: &[u8], places: &mut Places) -> Result<FileAcceptanc
 }
 
 /// Writes one file from a text and the pairs of its values, in the order of its table. The length of what is written.
-/// The lines in the places are not looked at.
+/// The lines in the places are not looked at. It is [`quote`], and [`commit`] with what that answers, so that it is never
+/// refused with 22.
 pub fn write(
     text: &[u8],
     places: &Places,
@@ -496,8 +497,47 @@ pub fn write(
     axles: u32,
     output: &mut [u8],
 ) -> Result<usize, Refusal> {
-    answered(|answer| lent::write(text, &places.0, file, axles, output, answer))
-        .map(|[length, ..]| length as usize)
+    length_answered(|answer| lent::write(text, &places.0, file, axles, output, answer))
+}
+
+/// The length of the file that [`write`] writes from the same text, places, file and axles (document 02, 9/14), so that
+/// room can be made for it before [`commit`] writes it. Refused as `write` is, but never for its output (18).
+pub fn quote(text: &[u8], places: &Places, file: u32, axles: u32) -> Result<usize, Refusal> {
+    length_answered(|answer| lent::quote(text, &places.0, file, axles, answer))
+}
+
+/// Writes the file that was quoted (document 02, 9/14): as [`write`] does, but refused (22) where the length is not the
+/// one that [`quote`] gives for the same text, places, file and axles. With that length, and an output that has room for
+/// it, what was quoted is always written. The length of what is written.
+///
+/// A length that is not the quoted one is refused before an output that is too short (18). Only the length is compared:
+/// where text, places, file or axles are no longer those that were quoted, and what they give has the same length, it is
+/// written. Refused, `output` stays; bytes past the length stay too.
+///
+/// ```
+/// let text = include_bytes!(concat!(
+///     env!("CARGO_MANIFEST_DIR"),
+///     "/../../samples/accepted-car/AA123456.DER"
+/// ));
+/// let mut places = mctc::Places::default();
+/// let axles = mctc::read(3, text, &mut places).unwrap().axles;
+/// let length = mctc::quote(text, &places, 3, axles).unwrap();
+/// let mut output = vec![0; length];
+/// let written = mctc::commit(text, &places, 3, axles, length, &mut output);
+/// assert_eq!(written, Ok(length));
+/// assert!(output.starts_with(b"[Deriva]\r\nMarca="));
+/// ```
+pub fn commit(
+    text: &[u8],
+    places: &Places,
+    file: u32,
+    axles: u32,
+    length: usize,
+    output: &mut [u8],
+) -> Result<usize, Refusal> {
+    // No quote answers with the largest number, so that a length above it is refused in its turn (22).
+    let length = u32::try_from(length).unwrap_or(u32::MAX);
+    length_answered(|answer| lent::commit(text, &places.0, file, axles, length, output, answer))
 }
 
 /// Joins two drift files of one truck into one, in the order of its table: with the first's InizioMisura, the second's
@@ -524,7 +564,7 @@ pub fn write(
 /// assert_eq!(joined.unwrap().axles, 4);
 /// ```
 pub fn join(first: &[u8], second: &[u8], output: &mut [u8]) -> Result<usize, Refusal> {
-    answered(|answer| lent::join(first, second, output, answer)).map(|[length, ..]| length as usize)
+    length_answered(|answer| lent::join(first, second, output, answer))
 }
 
 /// What is due in one file, by the values of AC2 and of that file; AC2's own text is handed in twice for file 1. The
@@ -618,6 +658,11 @@ type Values = [u32; ANSWER - 3];
 /// Number 9 of the answer, where judging and reading alone have it.
 fn idle_by_hand(values: &Values) -> bool {
     values[9 - 3] == 1
+}
+
+/// The length that a call answers with, as [`answered`].
+fn length_answered(call: impl FnOnce(&mut [u32]) -> u32) -> Result<usize, Refusal> {
+    answered(call).map(|[length, ..]| length as usize)
 }
 
 /// Makes a call with an answer array of its own: what an acceptance carries, or the refusal.

@@ -109,6 +109,155 @@ fn a_file_is_read_and_written() {
     }
 }
 
+/// A sample of each file that can be written, with its number: the file's name, and how many axles it has.
+const WRITTEN: [(u32, &str, u32); 6] = [
+    (1, "accepted-car/AA123456.AC2", 0),
+    (2, "accepted-car/AA123456.ACC", 0),
+    (3, "accepted-trailer/AC204711.der", 3),
+    (4, "accepted-car/AA123456.SOS", 2),
+    (5, "accepted-car/AA123456.GAS", 0),
+    (7, "accepted-diesel/AE305518.OPA", 0),
+];
+
+/// The text of a file and its places.
+fn placed(file: u32, name: &str) -> (Vec<u8>, Places) {
+    let (text, mut places) = (sample(name), Places::default());
+    mctc::read(file, &text, &mut places).expect("it is read");
+    (text, places)
+}
+
+/// What a call that writes answers, and the output after it, of this size.
+fn with_output(
+    size: usize,
+    call: impl FnOnce(&mut [u8]) -> Result<usize, Refusal>,
+) -> (Result<usize, Refusal>, Vec<u8>) {
+    let mut output = vec![b'~'; size];
+    let answer = call(&mut output);
+    (answer, output)
+}
+
+#[test]
+fn what_is_quoted_is_what_is_written() {
+    for (file, name, axles) in WRITTEN {
+        let (text, places) = placed(file, name);
+        let size = text.len() + 3;
+        let written = with_output(size, |output| {
+            mctc::write(&text, &places, file, axles, output)
+        });
+        let length = written.0.expect("it is written");
+        let quoted = mctc::quote(&text, &places, file, axles);
+        assert_eq!(quoted, Ok(length), "{name}");
+        for size in [length, size] {
+            let (answer, output) = with_output(size, |output| {
+                mctc::commit(&text, &places, file, axles, length, output)
+            });
+            assert_eq!(answer, Ok(length), "{name}");
+            assert_eq!(output, written.1[..size], "{name}: what is past it stays");
+        }
+    }
+}
+
+#[test]
+fn a_length_that_was_not_quoted_is_refused() {
+    for (file, name, axles) in WRITTEN {
+        let (text, places) = placed(file, name);
+        let length = mctc::quote(&text, &places, file, axles).expect("a length");
+        // A length that wraps to the quoted one in 32 bits is another, too.
+        let wraps = length + (1 << 32);
+        let others = [0, length - 1, length + 1, wraps, usize::MAX];
+        for other in others {
+            // Also where the output is too short, which comes after it.
+            for size in [0, length, length + 8] {
+                let commit =
+                    |output: &mut [u8]| mctc::commit(&text, &places, file, axles, other, output);
+                let refused = (Err(refusal(22, file, 0)), vec![b'~'; size]);
+                assert_eq!(with_output(size, commit), refused, "{name}, {other}");
+            }
+        }
+        for size in [0, length - 1] {
+            let commit =
+                |output: &mut [u8]| mctc::commit(&text, &places, file, axles, length, output);
+            let refused = (Err(refusal(18, file, 0)), vec![b'~'; size]);
+            assert_eq!(with_output(size, commit), refused, "{name}");
+        }
+    }
+}
+
+#[test]
+fn a_quoted_length_holds_for_what_was_quoted_alone() {
+    let (file, name, axles) = WRITTEN[2];
+    let (text, places) = placed(file, name);
+    let length = mctc::quote(&text, &places, file, axles).expect("a length");
+    let commit = |text: &[u8], places: &Places, file, axles| {
+        with_output(2000, |output| {
+            mctc::commit(text, places, file, axles, length, output)
+        })
+    };
+    let with_number = |old: &str, new: &str| {
+        let text = String::from_utf8(text.clone()).expect("a text");
+        assert!(text.contains(old));
+        let (text, mut places) = (text.replace(old, new).into_bytes(), Places::default());
+        mctc::read(file, &text, &mut places).expect("it is read");
+        (text, places)
+    };
+    let (longer, longer_places) = with_number("=12.34\r", "=-12.34\r");
+    for (text, places, file, axles, number) in [
+        (&longer, &longer_places, file, axles, 22),
+        (&text, &places, file, axles - 1, 22),
+        (&text, &places, file, 0, 16),
+        (&text, &places, 6, axles, 16),
+        // No suspension was read, so that its places are all 0 and its values empty.
+        (&text, &places, 4, axles, 22),
+        (&Vec::new(), &places, file, axles, 17),
+    ] {
+        let line = if number == 17 { 2 } else { 0 };
+        let stays = vec![b'~'; 2000];
+        let refused = (Err(refusal(number, file, line)), stays);
+        assert_eq!(commit(text, places, file, axles), refused);
+    }
+    // Other values of the same lengths have the same length: what is written is of the text that is handed in.
+    let (other, other_places) = with_number("=12.34\r", "=43.21\r");
+    let (answer, output) = commit(&other, &other_places, file, axles);
+    assert_eq!(answer, Ok(length));
+    let right = with_output(2000, |output| {
+        mctc::write(&other, &other_places, file, axles, output)
+    });
+    assert_eq!(output, right.1);
+}
+
+#[test]
+fn quote_and_commit_fill_the_numbers_of_the_answer() {
+    let (file, name, axles) = WRITTEN[2];
+    let (text, places) = placed(file, name);
+    let numbers = places.numbers();
+    let length = mctc::quote(&text, &places, file, axles).expect("a length") as u32;
+    let accepted = |answer: &[u32]| {
+        let others = [&answer[..3], &answer[4..mctc::ANSWER]].concat();
+        assert!(others.iter().all(|number| *number == 0));
+        assert_eq!((answer[3], answer[mctc::ANSWER]), (length, 7));
+    };
+    let quote = |answer: &mut [u32]| mctc::lent::quote(&text, numbers, file, axles, answer);
+    let commit = |length, output: &mut [u8], answer: &mut [u32]| {
+        mctc::lent::commit(&text, numbers, file, axles, length, output, answer)
+    };
+    let mut answer = [7; mctc::ANSWER + 1];
+    assert_eq!(quote(&mut answer), 0);
+    accepted(&answer);
+    let mut answer = [7; mctc::ANSWER + 1];
+    assert_eq!(commit(length, &mut [0; 2000], &mut answer), 0);
+    accepted(&answer);
+
+    let length_differs = defined("MCTC_LENGTH_DIFFERS") as u32;
+    assert_eq!(commit(length + 1, &mut [], &mut answer), length_differs);
+    assert_eq!(answer[..4], [length_differs, file, 0, 0]);
+
+    let mut short = [7; mctc::ANSWER - 1];
+    let mut output = [b'~'; 2000];
+    assert_eq!(quote(&mut short), u32::MAX, "the answer is too short");
+    assert_eq!(commit(length, &mut output, &mut short), u32::MAX);
+    assert_eq!((output, short), ([b'~'; 2000], [7; mctc::ANSWER - 1]));
+}
+
 /// The two drift files of a folder of `joining`.
 fn pair(folder: &str) -> [Vec<u8>; 2] {
     ["first", "second"].map(|name| sample(&format!("joining/{folder}/{name}.DER")))
@@ -116,9 +265,7 @@ fn pair(folder: &str) -> [Vec<u8>; 2] {
 
 /// What joining two files answers, with an output of this size, and the output after it.
 fn joined(first: &[u8], second: &[u8], size: usize) -> (Result<usize, Refusal>, Vec<u8>) {
-    let mut output = vec![b'~'; size];
-    let answer = mctc::join(first, second, &mut output);
-    (answer, output)
+    with_output(size, |output| mctc::join(first, second, output))
 }
 
 #[test]
@@ -569,12 +716,20 @@ fn with_lines(places: &Places, line: impl Fn(u32) -> u32) -> Vec<u32> {
     numbers
 }
 
-/// What `mctc_write` gives of a drift file: the answer and the output.
+/// What `mctc_write` gives of a drift file: the answer and the output. `mctc_quote` and `mctc_commit` give the same.
 fn written(text: &[u8], places: &[u32]) -> ([u32; mctc::ANSWER], Vec<u8>) {
-    let (mut answer, mut output) = ([7; mctc::ANSWER], vec![b'~'; text.len() + 8]);
-    let number = mctc::lent::write(text, places, 3, 3, &mut output, &mut answer);
+    let output = || vec![b'~'; text.len() + 8];
+    let (mut answer, mut written) = ([7; mctc::ANSWER], output());
+    let number = mctc::lent::write(text, places, 3, 3, &mut written, &mut answer);
     assert_eq!(number, answer[0]);
-    (answer, output)
+
+    let mut others = [7; mctc::ANSWER];
+    mctc::lent::quote(text, places, 3, 3, &mut others);
+    assert_eq!(others, answer);
+    let (length, mut committed) = (answer[3], output());
+    mctc::lent::commit(text, places, 3, 3, length, &mut committed, &mut others);
+    assert_eq!((others, &committed), (answer, &written));
+    (answer, written)
 }
 
 #[test]
@@ -609,14 +764,20 @@ fn places_have_at_least_582_numbers() {
         drift: &text,
         ..Set::default()
     };
-    let calls: [LentCall; 4] = [
+    let (_, places) = placed(3, "accepted-trailer/AC204711.der");
+    let length = mctc::quote(&text, &places, 3, 3).expect("a length") as u32;
+    let calls: [LentCall; 7] = [
         &|places, answer| mctc::lent::judge(&set, places, answer),
         &|places, answer| mctc::lent::read(3, &text, places, answer),
         &|places, answer| mctc::lent::due(3, &ac2, &text, places, &mut [0; 25], answer),
         // The output is too short (18), which comes after the places.
         &|places, answer| mctc::lent::write(&text, places, 3, 3, &mut [], answer),
+        &|places, answer| mctc::lent::quote(&text, places, 3, 3, answer),
+        // The length is not the quoted one (22); it is, and the output is too short (18).
+        &|places, answer| mctc::lent::commit(&text, places, 3, 3, 0, &mut [], answer),
+        &|places, answer| mctc::lent::commit(&text, places, 3, 3, length, &mut [], answer),
     ];
-    for (call, right) in calls.into_iter().zip([0, 0, 0, 18]) {
+    for (call, right) in calls.into_iter().zip([0, 0, 0, 18, 0, 22, 18]) {
         let mut answer = [0; mctc::ANSWER];
         let mut short = [9; 581];
         assert_eq!(call(&mut short, &mut answer), 1);

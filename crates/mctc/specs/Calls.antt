@@ -7,8 +7,9 @@ use Rattle.kinds.specs.Kind.{Kind}
 use Rattle.tables.specs.File.{least_places}
 use Rattle.files.specs.Alone.{alone_answer, alone_places}
 use Rattle.writing.specs.Writing as W
-use Rattle.writing.specs.Writing.{quote_for, output_after, LinesIgnored}
+use Rattle.writing.specs.Writing.{quote_file, write_for, output_after, LinesIgnored, commit_for, commit_after}
 use Rattle.writing.specs.ReadBack.{IsReadBack}
+use Rattle.writing.specs.Quoted.{IsQuoted, TwoSteps}
 use Rattle.joining.specs.Joining.{join_answer, join_output}
 use Rattle.joining.specs.Promises.{MakeOne, Promised}
 use Rattle.names.specs.Names as N
@@ -54,13 +55,31 @@ pub record ReadCall (file : ℕ) (s p q a b : List ℕ) (r : ℕ) : Type 0 where
 
 -- one file written (01, Writing: "From text, places, file and axle count one file is written"): output o before and t after
 pub record WriteCall (s p : List ℕ) (file n : ℕ) (o t a b : List ℕ) (r : ℕ) : Type 0 where
-  pub number : r ≡ returned (write_numbers (W.answer_of file (quote_for file n s p o))) a
-  pub answer : b ≡ answer_after (write_numbers (W.answer_of file (quote_for file n s p o))) a
+  pub number : r ≡ returned (write_numbers (W.answer_of file (write_for file n s p o))) a
+  pub answer : b ≡ answer_after (write_numbers (W.answer_of file (write_for file n s p o))) a
   pub output : t ≡ where_fits a (output_after file n s p o) o
   -- "By this call a written file reads back": as many of the output's bytes as number 3 of the answer says, read alone (`ReadCall`)
   pub reads-back : r ≡ 0 → (q : List ℕ) → least_places ≤ length q → IsReadBack file n s p (take (get_or b 3 0) t) q
   -- 02, 7/14: "Writing ignores the third number"
   pub lines-ignored : LinesIgnored file n s p o
+
+-- the length of one file quoted (02, 9/14): it lends no output
+pub record QuoteCall (s p : List ℕ) (file n : ℕ) (a b : List ℕ) (r : ℕ) : Type 0 where
+  pub number : r ≡ returned (write_numbers (W.answer_of file (quote_file file n s p))) a
+  pub answer : b ≡ answer_after (write_numbers (W.answer_of file (quote_file file n s p))) a
+  -- number 3 of the answer is the quoted length, which `CommitCall` speaks of
+  pub quoted : r ≡ 0 → IsQuoted file n s p (get_or b 3 0)
+
+-- one file written by its quoted length, i for the length that is handed in (02, 9/14): output o before and t after
+pub record CommitCall (s p : List ℕ) (file n i : ℕ) (o t a b : List ℕ) (r : ℕ) : Type 0 where
+  pub number : r ≡ returned (write_numbers (W.answer_of file (commit_for file n s p i o))) a
+  pub answer : b ≡ answer_after (write_numbers (W.answer_of file (commit_for file n s p i o))) a
+  pub output : t ≡ where_fits a (commit_after file n s p i o) o
+  -- 0 exactly when the answer array is long enough, i is the quoted length, and the output has room
+  pub accepted : (r ≡ 0) ↔ ((answer_size ≤ length a) × IsQuoted file n s p i × (i ≤ length o))
+  pub reads-back : r ≡ 0 → (q : List ℕ) → least_places ≤ length q → IsReadBack file n s p (take i t) q
+  -- a law of the definitions: what quote, commit and the old call come to together
+  pub steps : TwoSteps file n s p
 
 -- two drift files made one (02, 8/14): inputs s and t, output o before and u after
 pub record JoinCall (s t o u a b : List ℕ) (r : ℕ) : Type 0 where

@@ -10,7 +10,7 @@ ghost use Rattle.refusals.specs.Answer.{answer_is};
 ghost use Rattle.names.specs.Names as N;
 ghost use Rattle.sets.specs.Records.{caller_of, slices_of};
 ghost use Rattle.mctc.specs.Answers.{refusal_numbers, numbers_of, read_carried, write_carried, name_carried, kind_carried, set_carried, due_carried, Room, Filled};
-ghost use Rattle.mctc.specs.Calls.{AnsweredBy, ReadCall, WriteCall, JoinCall, NameCall, KindCall, SetFilled, JudgeCall, DueCall};
+ghost use Rattle.mctc.specs.Calls.{AnsweredBy, ReadCall, WriteCall, QuoteCall, CommitCall, JoinCall, NameCall, KindCall, SetFilled, JudgeCall, DueCall};
 ghost use Rattle.judge.specs.Judged.{slices_in};
 
 use columns::ColumnAcceptance;
@@ -222,6 +222,41 @@ pub fn mctc_write(
     answered(
         answer,
         &mut |numbers| { fill_answer(numbers, writing::write_file(values, file, axles, output)) },
+    )
+}
+
+// The length of one file quoted (02, 9/14).
+pub fn mctc_quote(text: &[u8], places: &[u32], file: u32, axles: u32, answer: &mut [u32]) -> u32
+    ensures { QuoteCall text.now places.now file axles answer.old answer.new result }
+{
+    let values = PlacedText { text, places };
+    answered(
+        answer,
+        &mut |numbers| fill_answer(numbers, writing::quote(values, file, axles)),
+    )
+}
+
+// One file written, if this is its quoted length (02, 9/14).
+pub fn mctc_commit(
+    text: &[u8],
+    places: &[u32],
+    file: u32,
+    axles: u32,
+    length: u32,
+    output: &mut [u8],
+    answer: &mut [u32],
+) -> u32
+    ensures { CommitCall text.now places.now file axles length output.old output.new answer.old answer.new result }
+{
+    let values = PlacedText { text, places };
+    answered(
+        answer,
+        &mut |numbers| {
+            fill_answer(
+                numbers,
+                writing::commit(values, file, axles, length, output),
+            )
+        },
     )
 }
 

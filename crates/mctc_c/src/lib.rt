@@ -4,7 +4,7 @@
 
 ghost use Rattle.names.specs.Names as N;
 ghost use Rattle.sets.specs.Records.{caller_of, slices_of};
-ghost use Rattle.mctc.specs.Calls.{ReadCall, WriteCall, JoinCall, NameCall, KindCall, JudgeCall, DueCall, AskCall};
+ghost use Rattle.mctc.specs.Calls.{ReadCall, WriteCall, QuoteCall, CommitCall, JoinCall, NameCall, KindCall, JudgeCall, DueCall, AskCall};
 ghost use Rattle.mctc.specs.Asked.{condition_numbers, file_numbers, test_numbers, identification_numbers, entry_numbers};
 
 // A whole set judged (01, Judging; slice 7: 02, 2/14).
@@ -60,6 +60,36 @@ pub extern "C" fn mctc_write(
     ensures { WriteCall text.now places.now file axles output.old output.new answer.old answer.new result }
 {
     mctc::mctc_write(text, places, file, axles, output, answer)
+}
+
+// The length of one file quoted (02, 9/14).
+#[unsafe(no_mangle)]
+pub extern "C" fn mctc_quote(
+    text: &[u8],
+    places: &[u32],
+    file: u32,
+    axles: u32,
+    answer: &mut [u32],
+) -> u32
+    ensures { QuoteCall text.now places.now file axles answer.old answer.new result }
+{
+    mctc::mctc_quote(text, places, file, axles, answer)
+}
+
+// One file written, if this is its quoted length (02, 9/14).
+#[unsafe(no_mangle)]
+pub extern "C" fn mctc_commit(
+    text: &[u8],
+    places: &[u32],
+    file: u32,
+    axles: u32,
+    length: u32,
+    output: &mut [u8],
+    answer: &mut [u32],
+) -> u32
+    ensures { CommitCall text.now places.now file axles length output.old output.new answer.old answer.new result }
+{
+    mctc::mctc_commit(text, places, file, axles, length, output, answer)
 }
 
 // Two drift files made one (02, 8/14).

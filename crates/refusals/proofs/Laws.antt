@@ -3,7 +3,7 @@ use Prim.Native.Nat.{◌≤◌}
 use native.Mathlib.Omega.{arith}
 use Rattle.refusals.specs.Refusals.{number_of}
 use Rattle.refusals.specs.declared.RefusalKind.{RefusalKind}
-use Rattle.refusals.specs.declared.RefusalKind.TheVariants.{PlacesTooShort, StemForm, FileTooLong, LineForm, HeadingNotExpected, EntryNotExpected, SectionAbsent, EntryAbsent, WrongKind, NotAsDue, SliceNotAsDue, BookingRule, DifferenceRule, IdentificationForm, IdentificationDiffers, FileOrAxles, PairOutside, OutputTooShort, DeviceOutOfDate, HeadingsDisagree, TooManyAxles}
+use Rattle.refusals.specs.declared.RefusalKind.TheVariants.{PlacesTooShort, StemForm, FileTooLong, LineForm, HeadingNotExpected, EntryNotExpected, SectionAbsent, EntryAbsent, WrongKind, NotAsDue, SliceNotAsDue, BookingRule, DifferenceRule, IdentificationForm, IdentificationDiffers, FileOrAxles, PairOutside, OutputTooShort, DeviceOutOfDate, HeadingsDisagree, TooManyAxles, LengthDiffers}
 
 pub not-zero : (k : RefusalKind) → 1 ≤ number_of k
 not-zero PlacesTooShort = omega arith
@@ -27,3 +27,4 @@ not-zero OutputTooShort = omega arith
 not-zero DeviceOutOfDate = omega arith
 not-zero HeadingsDisagree = omega arith
 not-zero TooManyAxles = omega arith
+not-zero LengthDiffers = omega arith

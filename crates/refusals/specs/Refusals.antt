@@ -2,7 +2,7 @@
 use Rattle.std.specs.Prelude.{ℕ}
 use Rattle.refusals.specs.declared.Refusal.{Refusal}
 use Rattle.refusals.specs.declared.RefusalKind.{RefusalKind}
-use Rattle.refusals.specs.declared.RefusalKind.TheVariants.{PlacesTooShort, StemForm, FileTooLong, LineForm, HeadingNotExpected, EntryNotExpected, SectionAbsent, EntryAbsent, WrongKind, NotAsDue, SliceNotAsDue, BookingRule, DifferenceRule, IdentificationForm, IdentificationDiffers, FileOrAxles, PairOutside, OutputTooShort, DeviceOutOfDate, HeadingsDisagree, TooManyAxles}
+use Rattle.refusals.specs.declared.RefusalKind.TheVariants.{PlacesTooShort, StemForm, FileTooLong, LineForm, HeadingNotExpected, EntryNotExpected, SectionAbsent, EntryAbsent, WrongKind, NotAsDue, SliceNotAsDue, BookingRule, DifferenceRule, IdentificationForm, IdentificationDiffers, FileOrAxles, PairOutside, OutputTooShort, DeviceOutOfDate, HeadingsDisagree, TooManyAxles, LengthDiffers}
 
 -- the number for each case: document 01's, and from 19 on document 02's
 abbrev pub number_of : RefusalKind → ℕ
@@ -48,6 +48,8 @@ number_of DeviceOutOfDate = 19
 number_of HeadingsDisagree = 20
 -- 02, 8/14: more than nine axles together
 number_of TooManyAxles = 21
+-- 02, 9/14: length differs from the quote
+number_of LengthDiffers = 22
 
 -- the code's refusal of this kind, with file and line
 abbrev pub refusal_with : RefusalKind → ℕ → ℕ → Refusal

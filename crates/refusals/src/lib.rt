@@ -28,6 +28,7 @@ pub enum RefusalKind {
     DeviceOutOfDate,
     HeadingsDisagree,
     TooManyAxles,
+    LengthDiffers,
 }
 
 #[derive(Debug, PartialEq, Eq, Clone, Copy)]
@@ -64,6 +65,7 @@ impl From<RefusalKind> for u32 {
             RefusalKind::DeviceOutOfDate => 19,
             RefusalKind::HeadingsDisagree => 20,
             RefusalKind::TooManyAxles => 21,
+            RefusalKind::LengthDiffers => 22,
         }
     }
 }

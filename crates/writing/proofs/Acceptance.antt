@@ -116,9 +116,9 @@ module _ {file n : ℕ} (r : RightFile file n) {count first : ℕ} (ec : count �
         },
       )
 
--- ---- what has room is written, q the answer of the checks
+-- ---- what has room is written, q for what the checks come to
 
 module _ (file : ℕ) (q : Quote) (bytes out : List ℕ) where
-  pub out_written : (m : ℕ) → written m ≡ answer_of file q → m ≤ length out
+  pub out_written : (m : ℕ) → q ≡ quote m → m ≤ length out
       → (written m ≡ answer_of file (fitting q (length out))) × (put out 0 bytes ≡ output_of (fitting q (length out)) bytes out)
-  out_written m e h = rw (written-inv file q m e, le-leb m (length out) h) (refl, refl)
+  out_written m e h = rw (e, le-leb m (length out) h) (refl, refl)

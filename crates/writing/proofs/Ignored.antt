@@ -5,7 +5,7 @@ use mathlib.Core.Bool.{cond}
 use mathlib.Core.List.{List, [], map}
 use lib.Dec.{leb}
 use lib.ListN.{length}
-use Rattle.places.specs.Places.{Pair, value_at}
+use Rattle.places.specs.Places.{Pair, value_at, SamePairs}
 use Rattle.places.proofs.Laws.{same-pairs}
 use Rattle.tables.specs.File.{File, sections, entries, first_pair, least_places, of_number}
 use Rattle.tables.specs.Row.{row_kinds}
@@ -35,13 +35,19 @@ module _ (file n : ℕ) (s : List ℕ) where
   bytes-by : (File → List Pair) → List ℕ
   bytes-by ps = of_number [] (λ f. write_text (sections f n) (map (value_at s) (ps f))) file
 
+  module _ (p q : List ℕ) (w : SamePairs p q) where
+    pairs-same : ◌≡◌ {A = File → List Pair} (λ f. pairs_of f n q) (λ f. pairs_of f n p)
+    pairs-same = λ i f. sym (same-pairs w (first_pair f) (length (entries f n))) i
+
+    pub quote-alone : quote_file file n s q ≡ quote_file file n s p
+    quote-alone = quoted-is q ∙ ap₂ quoted (sym w.same_length) pairs-same ∙ sym (quoted-is p)
+
+    pub bytes-alone : bytes_of file n s q ≡ bytes_of file n s p
+    unfolding bytes-by
+    bytes-alone = ap bytes-by pairs-same
+
   pub lines-ignored : (p out : List ℕ) → LinesIgnored file n s p out
-  unfolding bytes-by
-  lines-ignored p out q w =
-      let e : (λ (f : File). pairs_of f n q) ≡ (λ (f : File). pairs_of f n p) = λ i f. sym (same-pairs w (first_pair f) (length (entries f n))) i in
-      let x : quote_file file n s q ≡ quote_file file n s p
-      = quoted-is q ∙ ap₂ quoted (sym w.same_length) e ∙ sym (quoted-is p) in
-      let y : bytes_of file n s q ≡ bytes_of file n s p = ap bytes-by e in (
-        ap (λ (z : Quote). fitting z (length out)) x,
-        ap₂ (λ (z : Quote) (b : List ℕ). output_of (fitting z (length out)) b out) x y,
-      )
+  lines-ignored p out q w = (
+    ap (λ (z : Quote). fitting z (length out)) (quote-alone p q w),
+    ap₂ (λ (z : Quote) (b : List ℕ). output_of (fitting z (length out)) b out) (quote-alone p q w) (bytes-alone p q w),
+  )

@@ -7,3 +7,4 @@ pub mod Theorem
 pub mod Samples
 pub mod Ignored
 pub mod Appended
+pub mod Committed

@@ -20,7 +20,7 @@ use Rattle.refusals.specs.Answer.{acceptance}
 use Rattle.files.specs.Alone.{accepted as accepted-with, alone_answer, alone_places}
 use Rattle.files.proofs.Pairs.{alone-complete}
 use Rattle.tables.specs.Value.{values_of}
-use Rattle.writing.specs.Writing.{axles_right, Quote, refuse, quote, quote_file, fitting, quote_for, written, answer_of, output_of, output_after, bytes_of}
+use Rattle.writing.specs.Writing.{axles_right, Quote, refuse, quote, quote_file, fitting, write_for, written, answer_of, output_of, output_after, bytes_of}
 use Rattle.refusals.specs.Answer.{refusal}
 use Rattle.writing.specs.ReadBack.{values_numbered, ReadsBack}
 use Rattle.writing.proofs.Quotes.{RightFile, right-file, of_right, axles-range}
@@ -57,7 +57,7 @@ module _ (file n : ℕ) (s p : List ℕ) (m : ℕ) (e : quote_file file n s p �
 
 -- ---- what a call of `write_file` leaves
 
-fits-inv : (q : Quote) (room m : ℕ) → fitting q room ≡ quote m → (q ≡ quote m) × (m ≤ room)
+pub fits-inv : (q : Quote) (room m : ℕ) → fitting q room ≡ quote m → (q ≡ quote m) × (m ≤ room)
 fits-inv (refuse k l) room m e = clash (cc)
 fits-inv (quote i) room m e = go (leb i room) refl e
   where
@@ -67,14 +67,14 @@ fits-inv (quote i) room m e = go (leb i room) refl e
         (e, omega (arith, leb-true i room h, j))
     go false h e = clash (cc)
 
-refused-inv : (file : ℕ) (q : Quote) (k g l : ℕ) (bytes out : List ℕ) → answer_of file q ≡ refusal k g l → output_of q bytes out ≡ out
+pub refused-inv : (file : ℕ) (q : Quote) (k g l : ℕ) (bytes out : List ℕ) → answer_of file q ≡ refusal k g l → output_of q bytes out ≡ out
 refused-inv file (refuse i j) k g l bytes out e = refl
 refused-inv file (quote m) k g l bytes out e = clash (cc)
 
 -- what is answered with a length was accepted, and the output had room
-module _ (file n : ℕ) (s p out : List ℕ) (m : ℕ) (e : answer_of file (quote_for file n s p out) ≡ written m) where
-  fits : quote_for file n s p out ≡ quote m
-  fits = written-inv file (quote_for file n s p out) m (sym e)
+module _ (file n : ℕ) (s p out : List ℕ) (m : ℕ) (e : answer_of file (write_for file n s p out) ≡ written m) where
+  fits : write_for file n s p out ≡ quote m
+  fits = written-inv file (write_for file n s p out) m (sym e)
 
   pub written-accepted : (quote_file file n s p ≡ quote m) × (m ≤ length out)
   written-accepted = fits-inv (quote_file file n s p) (length out) m fits
@@ -90,8 +90,8 @@ module _ (file n : ℕ) (s p out : List ℕ) (m : ℕ) (e : answer_of file (quot
       (ap (take m) a ∙ take_at b (drop (0 + length b) out) m l, ap (drop m) a ∙ drop_at b (drop (0 + length b) out) m l ∙ d)
 
 -- "refused, the output stays"
-pub refused-stays : (file n : ℕ) (s p out : List ℕ) (k g l : ℕ) → answer_of file (quote_for file n s p out) ≡ refusal k g l → output_after file n s p out ≡ out
-refused-stays file n s p out k g l e = refused-inv file (quote_for file n s p out) k g l (bytes_of file n s p) out e
+pub refused-stays : (file n : ℕ) (s p out : List ℕ) (k g l : ℕ) → answer_of file (write_for file n s p out) ≡ refusal k g l → output_after file n s p out ≡ out
+refused-stays file n s p out k g l e = refused-inv file (write_for file n s p out) k g l (bytes_of file n s p) out e
 
 -- 01, Writing: "By this call a written file reads back"
 pub reads-back : ReadsBack

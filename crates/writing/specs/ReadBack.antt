@@ -5,7 +5,7 @@ use Rattle.refusals.specs.Answer.{acceptance}
 use Rattle.files.specs.Files.{by_hand_in}
 use Rattle.files.specs.Alone.{accepted, alone_answer, alone_places}
 use Rattle.tables.specs.Value.{values_of}
-use Rattle.writing.specs.Writing.{quote_for, written, answer_of, output_after}
+use Rattle.writing.specs.Writing.{write_for, written, answer_of, output_after}
 
 -- the values at the pairs of the file of this number with n axles
 abbrev pub values_numbered : ℕ → ℕ → List ℕ → List ℕ → List (List ℕ)
@@ -18,5 +18,5 @@ pub record IsReadBack (file n : ℕ) (s p t q : List ℕ) : Type 0 where
 
 -- what writing accepts with the length m, and wrote into the first m bytes of the output, reads back
 abbrev pub ReadsBack : Type 0
-ReadsBack = (file n : ℕ) (s p out : List ℕ) (m : ℕ) → answer_of file (quote_for file n s p out) ≡ written m
+ReadsBack = (file n : ℕ) (s p out : List ℕ) (m : ℕ) → answer_of file (write_for file n s p out) ≡ written m
     → (q : List ℕ) → least_places ≤ length q → IsReadBack file n s p (take m (output_after file n s p out)) q

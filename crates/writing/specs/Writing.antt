@@ -1,4 +1,5 @@
--- One file written from a text and its pairs (01, Writing): order 1, 16, 17, 9, 18.
+-- One file written from a text and its pairs (01, Writing): order 1, 16, 17, 9, 18. Or its length quoted, order 1, 16, 17, 9, and the file
+-- committed by that length, order 1, 16, 17, 9, 22, 18 (02, 9/14).
 use Rattle.std.specs.Prelude.{ℕ, ◌+◌, ◌≡◌, Bool, true, false, cond, not, ◌&&◌, List, [], ◌∷◌, eqb, leb, ltb, length, Result}
 use Rattle.std.proofs.Math.Option.{Option, none, some}
 use Rattle.kinds.specs.Kind.{Kind}
@@ -35,7 +36,7 @@ is_outside s k x = ltb (length s) (x.0 + x.1)
 abbrev pub is_wrong_kind : List ℕ → Kind → Pair → Bool
 is_wrong_kind s k x = not (kind_kept k (value_at s x))
 
--- document 01's number and line of a refusal; else the length of what is written
+-- what the checks of a quote, a commit or a writing come to: a refusal's number and line; else the file's length
 pub data Quote : Type 0 where
   refuse : (number line : ℕ) → Quote
   quote : (length : ℕ) → Quote
@@ -59,12 +60,17 @@ is_right file n = of_number false (λ f. axles_right (has_axles f) n) file
 unfoldable pub quote_right : ℕ → ℕ → List ℕ → List ℕ → Quote
 quote_right file n s p = of_number (refuse 16 0) (λ f. quote_pairs f n s p) file
 
--- all checks but the output's size, and the length
+-- 02, 9/14: "a quote, which runs all checks but the output's size and gives the length"
 unfoldable pub quote_file : ℕ → ℕ → List ℕ → List ℕ → Quote
 quote_file file n s p =
     cond (leb least_places (length p))
     (cond (is_right file n) (quote_right file n s p) (refuse 16 0))
     (refuse 1 0)
+
+-- 22, where the quoted length m is not the length i that a commit is handed
+abbrev pub agreeing : Quote → ℕ → Quote
+agreeing (refuse k l) i = refuse k l
+agreeing (quote m) i = cond (eqb m i) (quote m) (refuse 22 0)
 
 -- 18
 abbrev pub fitting : Quote → ℕ → Quote
@@ -89,18 +95,31 @@ abbrev pub bytes_of : ℕ → ℕ → List ℕ → List ℕ → List ℕ
 bytes_of file n s p = of_number [] (λ f. write_text (sections f n) (values_of f n s p)) file
 
 -- 01, Writing: "Order 1, 16, 17, 9, 18", for this output
-abbrev pub quote_for : ℕ → ℕ → List ℕ → List ℕ → List ℕ → Quote
-quote_for file n s p out = fitting (quote_file file n s p) (length out)
+abbrev pub write_for : ℕ → ℕ → List ℕ → List ℕ → List ℕ → Quote
+write_for file n s p out = fitting (quote_file file n s p) (length out)
 
 -- the output after writing
 abbrev pub output_after : ℕ → ℕ → List ℕ → List ℕ → List ℕ → List ℕ
-output_after file n s p out = output_of (quote_for file n s p out) (bytes_of file n s p) out
+output_after file n s p out = output_of (write_for file n s p out) (bytes_of file n s p) out
+
+-- 02, 9/14: "22 .., after 9 and before 18", of a commit that is handed the length i, for this output
+abbrev pub commit_for : ℕ → ℕ → List ℕ → List ℕ → ℕ → List ℕ → Quote
+commit_for file n s p i out = fitting (agreeing (quote_file file n s p) i) (length out)
+
+-- the output after it
+abbrev pub commit_after : ℕ → ℕ → List ℕ → List ℕ → ℕ → List ℕ → List ℕ
+commit_after file n s p i out = output_of (commit_for file n s p i out) (bytes_of file n s p) out
 
 -- 02, 7/14: "Writing ignores the third number": any places with the same pairs give the same answer and output
 abbrev pub LinesIgnored : ℕ → ℕ → List ℕ → List ℕ → List ℕ → Type 0
 LinesIgnored file n s p out =
-    (q : List ℕ) → SamePairs p q → (quote_for file n s q out ≡ quote_for file n s p out) × (output_after file n s q out ≡ output_after file n s p out)
+    (q : List ℕ) → SamePairs p q → (write_for file n s q out ≡ write_for file n s p out) × (output_after file n s q out ≡ output_after file n s p out)
 
 pub record Writes (s p : List ℕ) (file n : ℕ) (out after : List ℕ) (r : Result WriteAcceptance Refusal) : Type 0 where
-  pub answer : answer_is r ≡ answer_of file (quote_for file n s p out)
+  pub answer : answer_is r ≡ answer_of file (write_for file n s p out)
   pub output : after ≡ output_after file n s p out
+
+-- a commit that is handed the length i
+pub record Commits (s p : List ℕ) (file n i : ℕ) (out after : List ℕ) (r : Result WriteAcceptance Refusal) : Type 0 where
+  pub answer : answer_is r ≡ answer_of file (commit_for file n s p i out)
+  pub output : after ≡ commit_after file n s p i out

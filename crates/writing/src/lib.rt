@@ -11,7 +11,7 @@ ghost use Rattle.tables.specs.Section.{entries_of};
 ghost use Rattle.tables.specs.Row.{entries_in, no_section, most_rows};
 ghost use Rattle.tables.specs.File.{least_places, table_of, sections, of_number};
 ghost use Rattle.reading.specs.Tables.{table_length};
-ghost use Rattle.writing.specs.Writing.{axles_right, is_outside, is_right, quote_right, quote_file, answer_of, Writes};
+ghost use Rattle.writing.specs.Writing.{axles_right, is_outside, is_right, quote, quote_right, quote_file, answer_of, Writes, Commits};
 ghost use Rattle.writing.specs.Steps.{entry_count, first_kinds, RowsThere, Judges, WrongLine, pair_lengths, Ready, span, entries_text, section_text, sections_text};
 
 use kinds::numbers::KIND_COUNT;
@@ -243,17 +243,18 @@ pub fn write_sections(
     end
 }
 
-// One file into `output`, in table order, an empty value for length 0.
-pub fn write_file(
+// What was quoted into `output`, if that has room: the file in table order, an empty value for length 0.
+fn write_quoted(
     values: PlacedText<'_>,
     file: u32,
     axles: u32,
+    acceptance: WriteAcceptance,
     output: &mut [u8],
 ) -> Result<WriteAcceptance, Refusal>
+    requires { quote_file file axles values.text.now values.places.now ≡ quote acceptance.length }
     ensures { Writes values.entry.text.now values.entry.places.now file axles
         output.old output.new result }
 {
-    let acceptance = quote(values, file, axles)?;
     if output.len() < acceptance.length as usize {
         return Err(Refusal {
             kind: RefusalKind::OutputTooShort,
@@ -264,4 +265,40 @@ pub fn write_file(
     let count = section_count(file, axles);
     write_sections(values, file, 0, count, tables::first_pair(file), output);
     Ok(acceptance)
+}
+
+// The file written, if this is its quoted length (02, 9/14).
+pub fn commit(
+    values: PlacedText<'_>,
+    file: u32,
+    axles: u32,
+    length: u32,
+    output: &mut [u8],
+) -> Result<WriteAcceptance, Refusal>
+    ensures { Commits values.entry.text.now values.entry.places.now file axles length
+        output.old output.new result }
+{
+    let acceptance = quote(values, file, axles)?;
+    if acceptance.length != length {
+        return Err(Refusal {
+            kind: RefusalKind::LengthDiffers,
+            file,
+            line: 0,
+        });
+    }
+    write_quoted(values, file, axles, acceptance, output)
+}
+
+// Quote and commit together.
+pub fn write_file(
+    values: PlacedText<'_>,
+    file: u32,
+    axles: u32,
+    output: &mut [u8],
+) -> Result<WriteAcceptance, Refusal>
+    ensures { Writes values.entry.text.now values.entry.places.now file axles
+        output.old output.new result }
+{
+    let acceptance = quote(values, file, axles)?;
+    write_quoted(values, file, axles, acceptance, output)
 }

@@ -8,6 +8,7 @@ mod in_date;
 mod joining;
 mod lines;
 mod look_up;
+mod new_files;
 mod obeyed;
 mod readme;
 mod reference;

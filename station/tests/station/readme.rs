@@ -127,7 +127,7 @@ fn the_programs_in_c_compile_and_run() {
     let readme = readme();
     let programs = programs(&readme, "c");
     let commands = commands(&readme, "$ gcc ");
-    assert_eq!((programs.len(), commands.len()), (2, 2));
+    assert_eq!((programs.len(), commands.len()), (3, 3));
     let folder = empty_folder("readme-c");
     for (source, (_, shown)) in programs.into_iter().zip(commands) {
         compile_c(source, &folder);

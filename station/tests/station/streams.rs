@@ -1,10 +1,10 @@
 //! Output that nobody reads, or that cannot be written.
 
-use std::fs::{self, File};
+use std::fs::File;
 use std::io::pipe;
-use std::process::{Command, Stdio};
+use std::process::Stdio;
 
-use crate::common::{empty_folder, program, repository};
+use crate::common::{program, repository};
 
 /// Runs the program with a standard output whose reader is gone.
 fn with_no_reader(words: &[&str]) -> (i32, String) {
@@ -57,23 +57,4 @@ fn output_that_cannot_be_written_is_an_error() {
     assert_eq!(output.status.code(), Some(2));
     let said = String::from_utf8_lossy(&output.stderr).into_owned();
     assert!(said.starts_with("mctc: standard output: "), "{said}");
-}
-
-/// A file that cannot be written whole, because the shell allows none of any size, is taken away again.
-#[test]
-fn no_part_of_a_file_is_left() {
-    let folder = empty_folder("no-part");
-    let new = folder.join("new");
-    let output = Command::new("bash")
-        .args(["-c", "trap '' XFSZ; ulimit -f 0; exec \"$@\"", "bash"])
-        .arg(env!("CARGO_BIN_EXE_mctc"))
-        .args(["format", "samples/accepted-car/AA123456.DER", "--output"])
-        .arg(&new)
-        .current_dir(repository())
-        .output()
-        .expect("bash runs");
-    let said = String::from_utf8_lossy(&output.stderr).into_owned();
-    assert_eq!(output.status.code(), Some(2), "{said}");
-    assert!(said.ends_with("; nothing of it was left there\n"), "{said}");
-    assert!(!fs::exists(&new).expect("a folder"), "a part was left");
 }

@@ -6,7 +6,7 @@ use crate::reference::kinds::shape;
 use crate::reference::tables::{
     entry_kind, entry_name, entry_word, heading_name, DRIFT, SUSPENSION,
 };
-use crate::reference::writing::write_file;
+use crate::reference::writing::{commit, quote, write_file};
 use crate::reference::{Refusal, PLACES};
 
 /// The answer array holds at least this many numbers.
@@ -74,8 +74,8 @@ pub trait Judge {
 
     /// Makes the call. The answer holds 01's number (0 for acceptance), file and line; with
     /// acceptance, from [3] on: axle counts of drift and suspension and the marks of drift,
-    /// suspension, gas and opacity (judge), the axle count (read), the length (write, join), the
-    /// axle count and the number of entries (due), the length and the number of the section
+    /// suspension, gas and opacity (judge), the axle count (read), the length (write, quote,
+    /// commit, join), the axle count and the number of entries (due), the length and the number of the section
     /// (names, words), form, most bytes, decimals and words (kind); in [9] whether gas's idle speed was
     /// entered by hand (judge, read); in [10] how often a name of a table was tried, and in [11] to
     /// [14] the seconds of the measures of drift, suspension, gas and opacity (judge); else 0.
@@ -159,7 +159,17 @@ fn reference_result(
         }),
         Call::Write {
             text, file, axles, ..
-        } => write_file(text, places, *file, *axles, output).map(|length| vec![length as u32]),
+        } => write_file(text, places, *file, *axles, output).map(length_alone),
+        Call::Quote {
+            text, file, axles, ..
+        } => quote(text, places, *file, *axles).map(length_alone),
+        Call::Commit {
+            text,
+            file,
+            axles,
+            length,
+            ..
+        } => commit(text, places, *file, *axles, *length, output).map(length_alone),
         Call::Due {
             file, ac2, text, ..
         } => due_alone(*file, ac2, text, places, column).map(|(axles, count)| vec![axles, count]),
@@ -175,10 +185,13 @@ fn reference_result(
         Call::Word {
             file, entry, word, ..
         } => copy_name(*file, entry_word(*file, *entry, *word), output),
-        Call::Join { first, second, .. } => {
-            join(first, second, output).map(|length| vec![length as u32])
-        }
+        Call::Join { first, second, .. } => join(first, second, output).map(length_alone),
     }
+}
+
+/// The values of an acceptance that carries a length.
+fn length_alone(length: usize) -> Vec<u32> {
+    vec![length as u32]
 }
 
 /// The values from [3] on, and others at their numbers of the answer.
@@ -224,6 +237,22 @@ pub enum Call {
         axles: u32,
         output: Vec<u8>,
     },
+    /// 02, 9/14: the length of a writing.
+    Quote {
+        text: Vec<u8>,
+        places: Vec<u32>,
+        file: u32,
+        axles: u32,
+    },
+    /// 02, 9/14: a writing whose length was quoted.
+    Commit {
+        text: Vec<u8>,
+        places: Vec<u32>,
+        file: u32,
+        axles: u32,
+        length: u32,
+        output: Vec<u8>,
+    },
     Due {
         file: u32,
         ac2: Vec<u8>,
@@ -266,6 +295,8 @@ impl Call {
             Call::Judge { places, .. }
             | Call::Read { places, .. }
             | Call::Write { places, .. }
+            | Call::Quote { places, .. }
+            | Call::Commit { places, .. }
             | Call::Due { places, .. } => places,
             _ => &[],
         }
@@ -282,9 +313,12 @@ impl Call {
     /// What the arrays that it is lent, besides the answer, hold before.
     pub fn before(&self) -> Outcome {
         let (column, output): (&[u32], &[u8]) = match self {
-            Call::Judge { .. } | Call::Read { .. } | Call::Kind { .. } => (&[], &[]),
+            Call::Judge { .. } | Call::Read { .. } | Call::Quote { .. } | Call::Kind { .. } => {
+                (&[], &[])
+            }
             Call::Due { column, .. } => (column, &[]),
             Call::Write { output, .. }
+            | Call::Commit { output, .. }
             | Call::EntryName { output, .. }
             | Call::HeadingName { output, .. }
             | Call::Word { output, .. }
@@ -360,7 +394,8 @@ struct Lent<T> {
 
 impl<T: Copy + PartialEq> Lent<T> {
     fn new(before: &[T], margin: T) -> Lent<T> {
-        let mut all = vec![margin; MARGIN];
+        let mut all = Vec::with_capacity(MARGIN + before.len() + MARGIN);
+        all.extend([margin; MARGIN]);
         all.extend(before);
         all.extend([margin; MARGIN]);
         Lent { all, margin }

@@ -3,6 +3,7 @@
 //! "01" is document 01, "MCTCNet2 test sets: booking, drift, suspension and gas"; "02" is document 02, the change
 //! requests, cited by their number; "001" is source document 001, the Italian original.
 
+pub mod commits;
 pub mod comparison;
 pub mod dates;
 pub mod devices;

@@ -24,6 +24,16 @@ impl Judge for Library {
             Call::Write {
                 text, file, axles, ..
             } => lent::write(text, places, *file, *axles, output, answer),
+            Call::Quote {
+                text, file, axles, ..
+            } => lent::quote(text, places, *file, *axles, answer),
+            Call::Commit {
+                text,
+                file,
+                axles,
+                length,
+                ..
+            } => lent::commit(text, places, *file, *axles, *length, output, answer),
             Call::Due {
                 file, ac2, text, ..
             } => lent::due(*file, ac2, text, places, column, answer),

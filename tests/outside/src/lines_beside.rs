@@ -2,8 +2,8 @@
 
 use crate::judge::{Call, Outcome, Set};
 use crate::met::{
-    value_in, Met, Wanted, COLUMN, COLUMN_TURNED, JUDGED, JUDGED_AGAIN, JUDGED_TURNED, JUDGE_10,
-    JUDGE_12, JUDGE_13, JUDGE_19, READ, READ_TURNED,
+    value_in, Met, Wanted, COLUMN, COLUMN_TURNED, COMMIT, JUDGED, JUDGED_AGAIN, JUDGED_TURNED,
+    JUDGE_10, JUDGE_12, JUDGE_13, JUDGE_19, QUOTE, READ, READ_TURNED, WRITE,
 };
 use crate::mutator::writings::OtherLines;
 use crate::mutator::PLACES_BEFORE;
@@ -13,10 +13,9 @@ use crate::reference::tables::{
 };
 use crate::reference::PLACES;
 
-/// The calls that are lent places.
+/// The calls that are lent places, besides `WRITE`, `QUOTE` and `COMMIT`.
 const JUDGE: &str = "judge";
 const READ_ALONE: &str = "read";
-const WRITE: &str = "write";
 const DUE: &str = "due";
 
 /// Where an entry of a section stands in its file.
@@ -62,7 +61,7 @@ fn line_beside(file: u32) -> String {
     format!("file {file} at the line that it has read alone")
 }
 
-/// A writing with other third numbers, answered by a number.
+/// A writing, its quote or its commit with other third numbers, answered by a number.
 fn written(lines: OtherLines, number: u32) -> String {
     format!("{}, answered by {number}", lines.name())
 }
@@ -86,7 +85,8 @@ pub fn wanted() -> Vec<Wanted> {
     want(&[JUDGED, COLUMN], vec![not_read(ACC)]);
     want(&[JUDGE, READ_ALONE, DUE], vec![REFUSED.to_string()]);
     let lent = [AS_BEFORE, ONE_LESS, LEAST, ONE_MORE, MORE].map(str::to_string);
-    want(&[JUDGE, READ_ALONE, WRITE, DUE], lent.to_vec());
+    let lending = [JUDGE, READ_ALONE, WRITE, QUOTE, COMMIT, DUE];
+    want(&lending, lent.to_vec());
     let orders = [JUDGED_AGAIN, JUDGED_TURNED, READ_TURNED, COLUMN_TURNED];
     want(&orders, FILES.map(other_lines).to_vec());
     want(&[JUDGE_10], FILES.map(line_beside).to_vec());
@@ -94,8 +94,13 @@ pub fn wanted() -> Vec<Wanted> {
     want(&[JUDGE_13], vec![line_beside(SUSPENSION)]);
     want(&[JUDGE_19], RESULT_FILES.map(line_beside).to_vec());
     for number in [0, 1, 9, 16, 17, 18] {
+        let calls: &[&'static str] = match number {
+            // No output is lent for a quote.
+            18 => &[WRITE, COMMIT],
+            _ => &[WRITE, QUOTE, COMMIT],
+        };
         let ways = OtherLines::ALL.map(|lines| written(lines, number));
-        want(&[WRITE], ways.to_vec());
+        want(calls, ways.to_vec());
     }
     wanted
 }
@@ -348,7 +353,12 @@ pub fn note_refused(met: &mut Met, number: u32, file: u32) {
     met.count(what, line_beside(file));
 }
 
-/// Notes a writing that other third numbers did not change.
-pub fn note_written(met: &mut Met, lines: OtherLines, number: u32) {
-    met.count(WRITE, written(lines, number));
+/// Notes a writing, a quote or a commit that other third numbers did not change.
+pub fn note_written(met: &mut Met, call: &Call, lines: OtherLines, number: u32) {
+    let name = match call {
+        Call::Quote { .. } => QUOTE,
+        Call::Commit { .. } => COMMIT,
+        _ => WRITE,
+    };
+    met.count(name, written(lines, number));
 }

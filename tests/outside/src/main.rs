@@ -74,11 +74,12 @@ fn run_all() -> Result<(), String> {
     let amounts = comparison::ONE_RUN.times(runs);
     let report = comparison::run_of(subject.as_ref(), amounts)?;
     println!(
-        "{}: agrees with the reference on {} sets, {} files read alone, {} writings, {} due columns, {} joinings, {} names and headings, {} kinds and words",
+        "{}: agrees with the reference on {} sets, {} files read alone, {} writings, {} quotes and commits, {} due columns, {} joinings, {} names and headings, {} kinds and words",
         subject.name(),
         amounts.sets,
         amounts.reads,
         amounts.writes,
+        report.quotes_and_commits(),
         amounts.columns,
         amounts.joinings,
         report.names(),

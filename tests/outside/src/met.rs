@@ -37,6 +37,11 @@ pub const JOINED_READ: &str = "joined and read";
 pub const JOINED_JUDGED: &str = "joined and judged 0";
 pub const JOINED_19: &str = "joined and judged 19";
 
+/// Writings, quotes and commits, whatever they answer.
+pub const WRITE: &str = "write";
+pub const QUOTE: &str = "quote";
+pub const COMMIT: &str = "commit";
+
 /// What must be met, and by which call.
 pub type Wanted = (&'static str, String);
 

@@ -3,6 +3,7 @@
 //! - `judge stem slice1 .. slice7 | places lent`
 //! - `read file text | places lent`
 //! - `write text file axles | places | output size`
+//! - `quote text file axles | places`, `commit text file axles | places | length | output size`
 //! - `due file ac2 text | places lent | column lent`
 //! - `entry_name file entry | output size`, `heading_name file section | output size`
 //! - `kind file entry`, `word file entry word | output size`
@@ -45,6 +46,19 @@ pub fn inputs_from_text(text: &str) -> Result<[Vec<u8>; 2], String> {
     words.try_into().map_err(|_| "not two inputs".to_string())
 }
 
+/// Text, file and axle count of a writing, as in the vectors.
+pub fn writing_from_text(text: &str) -> Result<(Vec<u8>, u32, u32), String> {
+    let words: Vec<&str> = text.split_whitespace().collect();
+    let [text, file, axles] = words.as_slice() else {
+        return Err("not text, file and axles".to_string());
+    };
+    Ok((
+        from_hex(text)?,
+        number_from_text(file)?,
+        number_from_text(axles)?,
+    ))
+}
+
 /// The stem and seven slices, hexadecimal, as in the vectors.
 pub fn set_from_text(text: &str) -> Result<Set, String> {
     let words = words_from_text(text)?;
@@ -77,6 +91,29 @@ pub fn to_text(call: &Call) -> String {
             output,
         } => format!(
             "write {} {file} {axles} | {} | {}",
+            to_hex(text),
+            numbers_to_text(places),
+            output.len()
+        ),
+        Call::Quote {
+            text,
+            places,
+            file,
+            axles,
+        } => format!(
+            "quote {} {file} {axles} | {}",
+            to_hex(text),
+            numbers_to_text(places)
+        ),
+        Call::Commit {
+            text,
+            places,
+            file,
+            axles,
+            length,
+            output,
+        } => format!(
+            "commit {} {file} {axles} | {} | {length} | {}",
             to_hex(text),
             numbers_to_text(places),
             output.len()
@@ -151,15 +188,32 @@ pub fn from_text(line: &str) -> Result<Call, String> {
             })
         }
         ("write", [what, places, size]) => {
-            let words: Vec<&str> = what.split_whitespace().collect();
-            let [text, file, axles] = words.as_slice() else {
-                return Err("not text, file and axles".to_string());
-            };
+            let (text, file, axles) = writing_from_text(what)?;
             Ok(Call::Write {
-                text: from_hex(text)?,
+                text,
                 places: numbers_from_text(places)?,
-                file: number_from_text(file)?,
-                axles: number_from_text(axles)?,
+                file,
+                axles,
+                output: output(size)?,
+            })
+        }
+        ("quote", [what, places]) => {
+            let (text, file, axles) = writing_from_text(what)?;
+            Ok(Call::Quote {
+                text,
+                places: numbers_from_text(places)?,
+                file,
+                axles,
+            })
+        }
+        ("commit", [what, places, length, size]) => {
+            let (text, file, axles) = writing_from_text(what)?;
+            Ok(Call::Commit {
+                text,
+                places: numbers_from_text(places)?,
+                file,
+                axles,
+                length: number_from_text(length)?,
                 output: output(size)?,
             })
         }

@@ -2,6 +2,7 @@
 
 use std::collections::BTreeMap;
 
+use crate::commits;
 use crate::dates::Date;
 use crate::devices;
 use crate::entries::{due_dates, free_entries, is_conditional};
@@ -14,6 +15,7 @@ use crate::met::{
     summary, Met, Wanted, COLUMN, JUDGED, JUDGE_12, JUDGE_13, JUDGE_19, JUDGE_9, READ, READ_9,
     REWRITTEN,
 };
+use crate::mutator::commits::Output;
 use crate::mutator::writings::OtherLines;
 use crate::old_fuels;
 use crate::opacities;
@@ -25,8 +27,8 @@ use crate::reference::tables::{
 use crate::reference::Refusal;
 use crate::speeds;
 
-/// Numbers 0 (acceptance) to 21.
-const NUMBERS: usize = 22;
+/// Numbers 0 (acceptance) to 22.
+const NUMBERS: usize = 23;
 
 /// File, heading and name of an entry.
 pub type EntryOf = (u32, String, String);
@@ -47,7 +49,7 @@ const JUDGE_HASH: &str = "judge 0, `#` first and no mark";
 const READ_HASH: &str = "read 0, `#` first and no mark";
 
 /// The calls and the numbers that each must reach.
-const CALLS: [(&str, &[usize]); 9] = [
+const CALLS: [(&str, &[usize]); 11] = [
     (
         "judge",
         &[0, 1, 2, 3, 4, 5, 6, 7, 8, 9, 10, 11, 12, 13, 14, 15, 19],
@@ -60,6 +62,8 @@ const CALLS: [(&str, &[usize]); 9] = [
     ("kind", &[0, 16]),
     ("word", &[0, 16, 18]),
     ("join", &[0, 3, 4, 5, 6, 7, 8, 9, 10, 11, 18, 20, 21]),
+    ("quote", &[0, 1, 9, 16, 17]),
+    ("commit", &[0, 1, 9, 16, 17, 18, 22]),
 ];
 
 /// The place of a call in `CALLS`.
@@ -74,6 +78,8 @@ fn place_of(call: &Call) -> usize {
         Call::Kind { .. } => 6,
         Call::Word { .. } => 7,
         Call::Join { .. } => 8,
+        Call::Quote { .. } => 9,
+        Call::Commit { .. } => 10,
     }
 }
 
@@ -117,10 +123,11 @@ fn refused_files() -> Vec<Wanted> {
 #[derive(Default)]
 pub struct Report {
     /// By call, then by number.
-    counts: [[u64; NUMBERS]; 9],
+    counts: [[u64; NUMBERS]; CALLS.len()],
     /// How often each noted refusal was reached at each entry.
     reached: BTreeMap<&'static str, BTreeMap<EntryOf, u64>>,
-    /// Refused files, idle speeds, what opacity brought, old fuels, look-ups, devices, lines and joinings.
+    /// Refused files, idle speeds, what opacity brought, old fuels, look-ups, devices, lines, joinings
+    /// and commits.
     met: Met,
     /// Written files that were read back.
     pub read_back: u64,
@@ -289,7 +296,7 @@ fn entry_of(call: &Call, refusal: Refusal) -> Option<(&'static str, EntryOf)> {
 }
 
 /// What a run must meet besides numbers and entries.
-fn wanted() -> [(&'static str, Vec<Wanted>); 8] {
+fn wanted() -> [(&'static str, Vec<Wanted>); 9] {
     [
         ("refused files", refused_files()),
         ("idle speeds", speeds::wanted()),
@@ -299,6 +306,7 @@ fn wanted() -> [(&'static str, Vec<Wanted>); 8] {
         ("devices", devices::wanted()),
         ("lines", lines_beside::wanted()),
         ("joinings", joinings::wanted()),
+        ("commits", commits::wanted()),
     ]
 }
 
@@ -374,9 +382,29 @@ impl Report {
         lines_beside::note_refused(&mut self.met, number, file);
     }
 
-    /// Notes a writing that was answered alike with other third numbers.
-    pub fn meet_other_lines(&mut self, lines: OtherLines, number: u32) {
-        lines_beside::note_written(&mut self.met, lines, number);
+    /// Notes a writing, a quote or a commit that was answered alike with other third numbers.
+    pub fn meet_other_lines(&mut self, call: &Call, lines: OtherLines, number: u32) {
+        lines_beside::note_written(&mut self.met, call, lines, number);
+    }
+
+    /// Notes the answer to a quote.
+    pub fn meet_quote(&mut self, call: &Call, number: u32) {
+        commits::note_quote(&mut self.met, call, number);
+    }
+
+    /// Notes the answer to a commit.
+    pub fn meet_commit(&mut self, call: &Call, output: Output, number: u32) {
+        commits::note_commit(&mut self.met, call, output, number);
+    }
+
+    /// Notes a commit that was refused with the length quoted for another file.
+    pub fn meet_length_of_other(&mut self, file: u32, other: u32) {
+        commits::note_other(&mut self.met, file, other);
+    }
+
+    /// Notes a writing to an output of the quoted length.
+    pub fn meet_at_quoted_length(&mut self, file: u32) {
+        commits::note_at_quoted_length(&mut self.met, file);
     }
 
     /// Notes a joining by its inputs and its answer.
@@ -459,6 +487,11 @@ impl Report {
             };
             self.note(what, entry);
         }
+    }
+
+    /// How many quotes and commits were made.
+    pub fn quotes_and_commits(&self) -> u64 {
+        self.counts[9..11].iter().flatten().sum()
     }
 
     /// How many calls for names and headings were made.

@@ -4,10 +4,14 @@ use crate::hex::from_hex;
 use crate::judge::{make, Call, Judge, Outcome, ANSWER, OUTPUT_BEFORE};
 use crate::replay::{
     inputs_from_text, number_from_text, numbers_from_text, set_from_text, to_text,
+    writing_from_text,
 };
 
-/// One line's columns as a call and what it must give.
-type Parse = fn(&[&str]) -> Result<(Call, Outcome), String>;
+/// A call, and all that it must give back or leave behind.
+type Right = (Call, Outcome);
+
+/// One line's columns as its calls: one, or a quote and the commit after it.
+type Parse = fn(&[&str]) -> Result<Vec<Right>, String>;
 
 /// A file of vectors: its name, its text and its parser.
 type File = (&'static str, &'static str, Parse);
@@ -18,10 +22,11 @@ macro_rules! vectors_in {
     };
 }
 
-/// Those after 02, 8/14, which landed last, and those after 7/14, 5/14, 4/14, 3/14 and 2/14: all joinings, files read alone
-/// and writings, and the sets that hold on. In the accepted ones of these, number 10 was put in for 4/14, and 11 to 14 for 5/14; in all
-/// places of these, the third numbers for 7/14.
-const FILES: [File; 10] = [
+/// Those after 02, 9/14, which landed last, and those after 8/14, 7/14, 5/14, 4/14, 3/14 and 2/14: all quotes with their
+/// commits, joinings, files read alone and writings, and the sets that hold on. In the accepted ones of these, number 10 was
+/// put in for 4/14, and 11 to 14 for 5/14; in all places of these, the third numbers for 7/14.
+const FILES: [File; 11] = [
+    vectors_in!("02/9/commits.txt", commit_vector),
     vectors_in!("02/8/joins.txt", join_vector),
     vectors_in!("02/7/sets.txt", set_vector),
     vectors_in!("02/7/reads.txt", read_vector),
@@ -37,12 +42,12 @@ const FILES: [File; 10] = [
 /// What places hold before in the vectors.
 const PLACE_BEFORE: u32 = 7;
 
-/// A call and all that it must give back or leave behind.
+/// A line of the vectors.
 pub struct Vector {
-    /// File and line of the vector.
+    /// Its file and its number there.
     pub source: String,
-    pub call: Call,
-    pub right: Outcome,
+    /// Made one after the other.
+    pub calls: Vec<Right>,
 }
 
 /// All numbers of the answer.
@@ -69,7 +74,7 @@ fn lent(text: &str) -> Result<Vec<u32>, String> {
     Ok(vec![PLACE_BEFORE; number_from_text(text)? as usize])
 }
 
-fn set_vector(columns: &[&str]) -> Result<(Call, Outcome), String> {
+fn set_vector(columns: &[&str]) -> Result<Vec<Right>, String> {
     let [set, places, right, places_after] = columns else {
         return Err("not four columns".to_string());
     };
@@ -78,10 +83,10 @@ fn set_vector(columns: &[&str]) -> Result<(Call, Outcome), String> {
         places: lent(places)?,
     };
     let right = outcome(answer(right)?, numbers_from_text(places_after)?, Vec::new());
-    Ok((call, right))
+    Ok(vec![(call, right)])
 }
 
-fn read_vector(columns: &[&str]) -> Result<(Call, Outcome), String> {
+fn read_vector(columns: &[&str]) -> Result<Vec<Right>, String> {
     let [file_and_text, places, right, places_after] = columns else {
         return Err("not four columns".to_string());
     };
@@ -92,7 +97,7 @@ fn read_vector(columns: &[&str]) -> Result<(Call, Outcome), String> {
         places: lent(places)?,
     };
     let right = outcome(answer(right)?, numbers_from_text(places_after)?, Vec::new());
-    Ok((call, right))
+    Ok(vec![(call, right)])
 }
 
 /// The output before and after a call.
@@ -103,28 +108,51 @@ fn outputs(size: &str, after: &str) -> Result<[Vec<u8>; 2], String> {
     Ok([before, after])
 }
 
-fn write_vector(columns: &[&str]) -> Result<(Call, Outcome), String> {
+fn write_vector(columns: &[&str]) -> Result<Vec<Right>, String> {
     let [what, places, size, right, output_after] = columns else {
         return Err("not five columns".to_string());
     };
-    let words: Vec<&str> = what.split_whitespace().collect();
-    let [text, file, axles] = words.as_slice() else {
-        return Err("not text, file and axles".to_string());
-    };
+    let (text, file, axles) = writing_from_text(what)?;
     let places = numbers_from_text(places)?;
     let [output, after] = outputs(size, output_after)?;
     let right = outcome(answer(right)?, places.clone(), after);
     let call = Call::Write {
-        text: from_hex(text)?,
+        text,
         places,
-        file: number_from_text(file)?,
-        axles: number_from_text(axles)?,
+        file,
+        axles,
         output,
     };
-    Ok((call, right))
+    Ok(vec![(call, right)])
 }
 
-fn join_vector(columns: &[&str]) -> Result<(Call, Outcome), String> {
+fn commit_vector(columns: &[&str]) -> Result<Vec<Right>, String> {
+    let [what, places, quoted, length, size, committed, output_after] = columns else {
+        return Err("not seven columns".to_string());
+    };
+    let (text, file, axles) = writing_from_text(what)?;
+    let places = numbers_from_text(places)?;
+    let [output, after] = outputs(size, output_after)?;
+    let quoted = outcome(answer(quoted)?, places.clone(), Vec::new());
+    let quote = Call::Quote {
+        text: text.clone(),
+        places: places.clone(),
+        file,
+        axles,
+    };
+    let committed = outcome(answer(committed)?, places.clone(), after);
+    let commit = Call::Commit {
+        text,
+        places,
+        file,
+        axles,
+        length: number_from_text(length)?,
+        output,
+    };
+    Ok(vec![(quote, quoted), (commit, committed)])
+}
+
+fn join_vector(columns: &[&str]) -> Result<Vec<Right>, String> {
     let [inputs, size, right, output_after] = columns else {
         return Err("not four columns".to_string());
     };
@@ -136,7 +164,7 @@ fn join_vector(columns: &[&str]) -> Result<(Call, Outcome), String> {
         second,
         output,
     };
-    Ok((call, right))
+    Ok(vec![(call, right)])
 }
 
 /// All vectors of all files.
@@ -149,31 +177,26 @@ pub fn vectors() -> Vec<Vector> {
             }
             let source = format!("{name}, line {}", at + 1);
             let columns: Vec<&str> = line.split('|').map(str::trim).collect();
-            let (call, right) = parse(&columns).unwrap_or_else(|e| panic!("{source}: {e}"));
-            vectors.push(Vector {
-                source,
-                call,
-                right,
-            });
+            let calls = parse(&columns).unwrap_or_else(|e| panic!("{source}: {e}"));
+            vectors.push(Vector { source, calls });
         }
     }
     vectors
 }
 
-/// Makes every call of the vectors; their number, or a description of the first difference.
+/// Makes every call of the vectors; the number of their lines, or a description of the first difference.
 pub fn run_vectors(judge: &dyn Judge) -> Result<usize, String> {
     let vectors = vectors();
-    for vector in &vectors {
-        let outcome = make(judge, &vector.call);
-        if outcome != vector.right {
-            return Err(format!(
-                "vector {}\nright: {:?}\n{}: {:?}\n{}",
-                vector.source,
-                vector.right,
-                judge.name(),
-                outcome,
-                to_text(&vector.call)
-            ));
+    for Vector { source, calls } in &vectors {
+        for (call, right) in calls {
+            let outcome = make(judge, call);
+            if outcome != *right {
+                return Err(format!(
+                    "vector {source}\nright: {right:?}\n{}: {outcome:?}\n{}",
+                    judge.name(),
+                    to_text(call)
+                ));
+            }
         }
     }
     Ok(vectors.len())

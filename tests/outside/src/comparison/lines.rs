@@ -177,7 +177,7 @@ pub fn compare_other_lines(
     let again = case.further(call, lines.name());
     let found = compare(subject, &again)?;
     if (&found.answer, &found.output) == (&outcome.answer, &outcome.output) {
-        report.meet_other_lines(lines, found.answer[0]);
+        report.meet_other_lines(&again.call, lines, found.answer[0]);
         return Ok(());
     }
     let name = subject.name();

@@ -1,8 +1,10 @@
 //! Generated calls, made by a judge and by the reference and compared: the answer, every
 //! place, every number of a column, every output byte.
 //!
-//! - `lines`: what is asked of the lines beside values. - `joinings`: what is asked of two drift files joined.
+//! - `lines`: what is asked of the lines beside values. - `joinings`: what is asked of two drift files joined. - `commits`:
+//!   what is asked of quotes and commits.
 
+mod commits;
 mod joinings;
 mod lines;
 
@@ -26,6 +28,7 @@ use crate::replay::to_text;
 use crate::report::Report;
 use crate::speeds::idle_speed;
 
+use commits::compare_split;
 use joinings::compare_joining;
 use lines::{
     check_places, compare_orders, compare_other_lines, compare_refused_line, compare_turned,
@@ -631,7 +634,8 @@ pub fn run_of(subject: &dyn Judge, amounts: Amounts) -> Result<Report, String> {
             compare_read_back(subject, report, case, outcome)?;
         }
         let lines = OtherLines::ALL[at as usize % OtherLines::ALL.len()];
-        compare_other_lines(subject, report, case, outcome, lines)
+        compare_other_lines(subject, report, case, outcome, lines)?;
+        compare_split(subject, report, at, case, outcome, lines)
     })?;
     let columns = (0..amounts.columns).map(|at| column_case(FIRST_COLUMN + at));
     run_sort(subject, &mut report, columns, |report, _, case, outcome| {

@@ -2,9 +2,10 @@
 //!
 //! - `values`: values at the boundaries of their kinds. - `files`: changes to one file.
 //! - `sets`: changes to a set. - `writings`: changes to a writing. - `columns`: due columns.
-//! - `joinings`: two drift files to be joined.
+//! - `commits`: lengths and outputs of commits. - `joinings`: two drift files to be joined.
 
 pub mod columns;
+pub mod commits;
 pub mod files;
 pub mod joinings;
 pub mod sets;

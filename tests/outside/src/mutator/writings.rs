@@ -6,8 +6,8 @@ use super::{places_length, PICKED_FILES, WRONG_FILES};
 use crate::generator::{any_axles, Values};
 use crate::random::Random;
 use crate::reference::kinds::Kind;
-use crate::reference::places::{put_triples, triples, Triple, ENTRIES};
-use crate::reference::tables::{table, FILES};
+use crate::reference::places::{first_place, put_triples, triples, Triple, ENTRIES};
+use crate::reference::tables::{table, FILES, MOST_AXLES};
 
 /// A writing; its values, if nothing was changed.
 pub struct Writing {
@@ -163,8 +163,8 @@ fn lend_places(random: &mut Random, file: u32, triples: &[Triple]) -> Vec<u32> {
     places
 }
 
-/// A length near that of the file that these triples would give.
-fn output_length(random: &mut Random, file: u32, axles: usize, triples: &[Triple]) -> usize {
+/// How many bytes a file of values with these lengths has, by its table alone; at most 65,536.
+fn file_length(file: u32, axles: usize, triples: &[Triple]) -> usize {
     let mut length: usize = triples.iter().map(|triple| triple.length as usize).sum();
     for section in table(file).sections(axles) {
         length += section.heading.len() + 2;
@@ -172,7 +172,31 @@ fn output_length(random: &mut Random, file: u32, axles: usize, triples: &[Triple
             length += entry.name.len() + 3;
         }
     }
-    let length = length.min(1 << 16);
+    length.min(1 << 16)
+}
+
+/// More bytes than any file has that can be written.
+const MORE_THAN_LONGEST: usize = 4_000;
+
+/// Likewise of the file that a writing names, whatever it may be refused by: with no more axles than the file may have,
+/// triples that are not lent empty, at most 4,000, and 0 for a file without a table.
+pub fn named_length(places: &[u32], file: u32, axles: u32) -> usize {
+    if !FILES.contains(&file) {
+        return 0;
+    }
+    let table = table(file);
+    let axles = match table.has_axles() {
+        true => MOST_AXLES.min(axles as usize),
+        false => 0,
+    };
+    let lent = places.get(first_place(file)..).unwrap_or(&[]);
+    let triples: Vec<Triple> = triples(lent).take(table.entry_count(axles)).collect();
+    file_length(file, axles, &triples).min(MORE_THAN_LONGEST)
+}
+
+/// A length near that of the file that these triples would give.
+fn output_length(random: &mut Random, file: u32, axles: usize, triples: &[Triple]) -> usize {
+    let length = file_length(file, axles, triples);
     match random.below(20) {
         0..=5 => length,
         6..=7 => length + 1,

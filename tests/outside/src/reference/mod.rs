@@ -1,9 +1,10 @@
-//! Document 01 as a program, in the order of the paper, with the requests of document 02 that have landed: 1/14 to 8/14.
+//! Document 01 as a program, in the order of the paper, with the requests of document 02 that have landed: 1/14 to 9/14.
 //!
 //! - `lines`: line form. - `names`: two names compared. - `kinds`: kinds of value. - `tables`: headings and entries.
 //! - `places`: where values stand. - `files`: one file, 3 to 9. - `due`: due entries. - `bookings`: rules of AC2 and ACC.
 //! - `identification`: the identification answer. - `devices`: day numbers, measures and due dates.
-//! - `judging`: a whole set, or one file alone. - `writing`: one file written. - `joining`: two drift files joined.
+//! - `judging`: a whole set, or one file alone. - `writing`: one file quoted, committed and written. - `joining`: two drift
+//!   files joined.
 
 #![forbid(unsafe_code)]
 

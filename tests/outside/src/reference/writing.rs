@@ -1,4 +1,4 @@
-//! 01, Writing: one file from text, places, file and axle count.
+//! 01, Writing: one file from text, places, file and axle count; 02, 9/14: its length quoted, and the file committed.
 
 use super::kinds;
 use super::places::{triples_of, Triple};
@@ -14,7 +14,7 @@ struct EntryDue<'a> {
 }
 
 /// 01, Writing: "the answer is its length, later output bytes stay. Order 1, 16, 17, 9, 18;
-/// refused, the output stays."
+/// refused, the output stays." 02, 9/14: "The old call remains as the two together."
 pub fn write_file(
     text: &[u8],
     places: &[u32],
@@ -22,6 +22,40 @@ pub fn write_file(
     axles: u32,
     output: &mut [u8],
 ) -> Result<usize, Refusal> {
+    let length = quote(text, places, file, axles)?;
+    commit(text, places, file, axles, length as u32, output)
+}
+
+/// 02, 9/14: "a quote, which runs all checks but the output's size and gives the length"; "the quote touches no output".
+pub fn quote(text: &[u8], places: &[u32], file: u32, axles: u32) -> Result<usize, Refusal> {
+    let file = checked_file(text, places, file, axles)?;
+    Ok(file.len())
+}
+
+/// 02, 9/14: "a commit, which takes that length and writes"; "A commit on the same inputs with the quoted length and enough
+/// output always writes the file that was quoted". "Errors: 22, length differs from the quote, after 9 and before 18."
+pub fn commit(
+    text: &[u8],
+    places: &[u32],
+    file: u32,
+    axles: u32,
+    length: u32,
+    output: &mut [u8],
+) -> Result<usize, Refusal> {
+    let bytes = checked_file(text, places, file, axles)?;
+    // As other refusals of writing, it carries the file as handed in.
+    if length as usize != bytes.len() {
+        return Err(Refusal::new(22, file, 0));
+    }
+    // 01, row 18: "output too short".
+    let written = output.get_mut(..bytes.len());
+    let written = written.ok_or(Refusal::new(18, file, 0))?;
+    written.copy_from_slice(&bytes);
+    Ok(bytes.len())
+}
+
+/// The bytes of a file that passes 1, 16, 17 and 9, in this order.
+fn checked_file(text: &[u8], places: &[u32], file: u32, axles: u32) -> Result<Vec<u8>, Refusal> {
     // 01, row 1; Writing: "(0 with 1)".
     if places.len() < PLACES {
         return Err(Refusal::new(1, 0, 0));
@@ -49,8 +83,12 @@ pub fn write_file(
             return Err(Refusal::new(9, file, due.line));
         }
     }
+    Ok(bytes_of(sections, entries.iter().map(value)))
+}
+
+/// "one file is written in table order, axles by number, an empty value for length 0".
+fn bytes_of<'a>(sections: &[Section], mut values: impl Iterator<Item = &'a [u8]>) -> Vec<u8> {
     let mut bytes = Vec::new();
-    let mut values = entries.iter().map(value);
     for section in sections {
         bytes.extend(section.heading.as_bytes());
         bytes.extend(b"\r\n");
@@ -61,12 +99,7 @@ pub fn write_file(
             bytes.extend(b"\r\n");
         }
     }
-    // 01, row 18: "output too short".
-    if output.len() < bytes.len() {
-        return Err(Refusal::new(18, file, 0));
-    }
-    output[..bytes.len()].copy_from_slice(&bytes);
-    Ok(bytes.len())
+    bytes
 }
 
 /// 01, row 16: "axles not 1 to 9 in 3, 4, or not 0 in 1, 2, 5"; 02, 2/14: "written as file 7 with 0 axles".

@@ -1,5 +1,6 @@
 //! The runner itself: it finds the faults of wrong judges, and its calls can be made again.
 
+mod commits;
 mod devices;
 mod joining;
 mod lines_beside;
@@ -7,6 +8,7 @@ mod look_up;
 mod old_fuel;
 mod opacity;
 
+use outside::commits as met_commits;
 use outside::comparison::{
     column_case, join_case, kind_cases, name_cases, read_case, run_of, set_case, word_cases,
     write_case, Amounts, ONE_RUN,
@@ -24,6 +26,7 @@ use outside::reference::tables::{table, DRIFT, GAS, OPACITY};
 use outside::reference::PLACES;
 use outside::replay;
 
+use commits::Commits;
 use devices::Devices;
 use joining::Joining;
 use lines_beside::Lines;
@@ -57,6 +60,7 @@ enum Fault {
     Devices(Devices),
     Lines(Lines),
     Joining(Joining),
+    Commits(Commits),
 }
 
 /// A fault in the mark of the idle speed (02, 1/14): where it is set, or whence it is taken.
@@ -167,6 +171,12 @@ const JOININGS: Amounts = Amounts {
     ..NONE
 };
 
+/// Quotes and commits follow on writings.
+const WRITES: Amounts = Amounts {
+    writes: ONE_RUN.writes,
+    ..NONE
+};
+
 struct Wrong(Fault);
 
 impl Judge for Wrong {
@@ -201,8 +211,10 @@ impl Judge for Wrong {
             if let (Fault::AnswerTooShort, Some(first)) = (self.0, answer.first_mut()) {
                 *first = 0;
             }
-            if let (Fault::Joining(fault), Call::Join { .. }) = (self.0, call) {
-                fault.spoil_short(answer, output);
+            match (self.0, call) {
+                (Fault::Joining(fault), Call::Join { .. }) => fault.spoil_short(answer, output),
+                (Fault::Commits(fault), call) => fault.spoil_short(call, answer, output),
+                _ => {}
             }
             return number;
         }
@@ -239,6 +251,7 @@ impl Judge for Wrong {
             (Fault::Devices(fault), call) => fault.spoil(call, answer),
             (Fault::Lines(fault), call) => fault.spoil(call, places, output, answer),
             (Fault::Joining(fault), call) => fault.spoil(call, output, answer),
+            (Fault::Commits(fault), call) => fault.spoil(call, places, output, answer),
             _ => {}
         }
         answer[0]
@@ -377,16 +390,25 @@ fn what_was_not_reached_of_lines_is_missing() {
         "judged in the opposite order: never file 5 with the same values on other lines",
         "judge 13: never file 4 at the line that it has read alone",
         "write: never each line the largest number, answered by 17",
+        "quote: never each line 0, answered by 9",
+        "commit: never each line past the last, answered by 18",
+        "commit: never one place less than the least",
     ] {
         assert!(missing.contains(&line.to_string()), "{line}");
     }
     let wanted = met_lines::wanted();
     let never = |(call, what): &(&str, String)| missing.contains(&format!("{call}: never {what}"));
     // Of sets, files read alone and columns: 25 sections in two places, 22 that can stand behind another, 19 of them behind
-    // a later one, and 16 axles that need not be there. Files not given or not read, and refusals. Numbers of places by four
-    // calls; each file in two orders by four; lines of refusals; six other third numbers with six answers.
+    // a later one, and 16 axles that need not be there. Files not given or not read, and refusals. Numbers of places by six
+    // calls; each file in two orders by four; lines of refusals; six other third numbers with six answers of writings and of
+    // commits and five of quotes.
     let read = 3 * (2 * 25 + 22 + 19 + 16) + (5 + 2 * 6 + 2) + 3;
-    assert_eq!(wanted.len(), read + 5 * 4 + 6 * 4 + (6 + 2 + 1 + 4) + 6 * 6);
+    let lines_of_refusals = 6 + 2 + 1 + 4;
+    let others = 6 * (6 + 6 + 5);
+    assert_eq!(
+        wanted.len(),
+        read + 5 * 6 + 6 * 4 + lines_of_refusals + others
+    );
     assert!(wanted.iter().all(never));
 }
 
@@ -431,6 +453,37 @@ fn what_was_not_reached_of_joinings_is_missing() {
         wanted.len(),
         accepted + inputs + headings + (45 + 2) + 3 + 3 * 6 + 8 + joined_in_sets
     );
+    assert!(wanted.iter().all(never));
+}
+
+#[test]
+fn what_was_not_reached_of_commits_is_missing() {
+    let report = run_of(&Reference, NONE).expect("no difference");
+    let missing = report.missing();
+    for line in [
+        "quote: number 17 was never reached",
+        "commit: number 22 was never reached",
+        "quote: never file 7, answered by 9",
+        "quote: never a file that is not written, answered by 16",
+        "commit: never file 3, the quoted length and an output of just its length, answered by 0",
+        "commit: never file 1, the quoted length and an output of 0 bytes, answered by 18",
+        "commit: never file 7, one less and an output one byte short, answered by 22",
+        "commit: never file 4, the largest number and a longer output, answered by 22",
+        "commit: never file 5, one more and an output of 0 bytes, answered by 17",
+        "commit: never file 2, the quoted length and a longer output, answered by 9",
+        "commit: never file 2, a length of 0 and an output one byte short, answered by 1",
+        "commit: never file 4, several more and an output of just its length, answered by 16",
+        "commit: never file 7, the length that was quoted for file 1, answered by 22",
+        "write: never file 5, an output of the quoted length in place of one too short",
+    ] {
+        assert!(missing.contains(&line.to_string()), "{line}");
+    }
+    let wanted = met_commits::wanted();
+    let never = |(call, what): &(&str, String)| missing.contains(&format!("{call}: never {what}"));
+    // Of each file: quotes, commits of each length with each output, those with the length of another file, and outputs of
+    // the quoted length; of others a quote and a commit.
+    let answers = 1 + 4;
+    assert_eq!(wanted.len(), 6 * (answers + 7 * 4 * answers + 5 + 1) + 2);
     assert!(wanted.iter().all(never));
 }
 
@@ -702,6 +755,18 @@ fn faults_of_joinings_are_found() {
 }
 
 #[test]
+fn faults_of_commits_are_found() {
+    for fault in commits::FAULTS {
+        let call = assert_found(Fault::Commits(fault), WRITES);
+        assert!(fault.is_in(&call), "{fault:?}");
+        // By the answer, the places or the bytes, but for an answer array that is too short.
+        let wrong = Wrong(Fault::Commits(fault));
+        let [right, found] = [make(&Reference, &call), make(&wrong, &call)];
+        assert_eq!(right == found, fault.is_short(), "{fault:?}");
+    }
+}
+
+#[test]
 fn what_gives_the_right_answers_is_no_fault() {
     let amounts = Amounts {
         sets: 3_000,
@@ -756,9 +821,41 @@ fn calls_as_text_come_back() {
             join_case(seed),
         ]
     });
+    let split = (0..200).flat_map(|seed| quote_and_commit(&write_case(seed).call));
     let listed = [name_cases(), kind_cases(), word_cases()];
-    for case in generated.chain(listed.into_iter().flatten()) {
-        let again = replay::from_text(&replay::to_text(&case.call)).expect("a call");
-        assert!(again == case.call, "seed {}", case.seed);
+    let cases = generated.chain(listed.into_iter().flatten());
+    for call in cases.map(|case| case.call).chain(split) {
+        let text = replay::to_text(&call);
+        let again = replay::from_text(&text).expect("a call");
+        assert!(again == call, "{text}");
     }
+}
+
+/// A writing quoted and committed.
+fn quote_and_commit(call: &Call) -> [Call; 2] {
+    let Call::Write {
+        text,
+        places,
+        file,
+        axles,
+        output,
+    } = call.clone()
+    else {
+        panic!("a writing");
+    };
+    let quote = Call::Quote {
+        text: text.clone(),
+        places: places.clone(),
+        file,
+        axles,
+    };
+    let commit = Call::Commit {
+        text,
+        places,
+        file,
+        axles,
+        length: u32::MAX - output.len() as u32,
+        output,
+    };
+    [quote, commit]
 }

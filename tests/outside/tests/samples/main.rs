@@ -1,6 +1,7 @@
 //! The reference against the samples of document 01: the table's rows, the established
 //! samples, the misreadings and the settled readings; then those of document 02.
 
+mod commits;
 mod devices;
 mod joining;
 mod lines_beside;
