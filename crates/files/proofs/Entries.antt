@@ -14,14 +14,14 @@ use Rattle.reading.specs.Reading.{of_entries}
 use Rattle.files.specs.Steps.{slots_of, slot_at, place_of, WritesRows}
 use Rattle.files.specs.declared.Slot.{Slot}
 
-module _ (ks : List (Option Kind)) (xs : List Slot) (r : ℕ) (lk : r < length ks) (lx : r < length xs) where
-  entries-skip : get_or ks r none ≡ none → of_entries (drop r ks) (drop r xs) ≡ of_entries (drop (r + 1) ks) (drop (r + 1) xs)
-  entries-skip e = rw (add-one r, drop-cons ks r none lk, drop-cons xs r (slot_at [] 0) lx, e)
+module _ {A : Type 0} (ks : List (Option Kind)) (xs : List A) (d : A) (r : ℕ) (lk : r < length ks) (lx : r < length xs) where
+  pub entries-skip : get_or ks r none ≡ none → of_entries (drop r ks) (drop r xs) ≡ of_entries (drop (r + 1) ks) (drop (r + 1) xs)
+  entries-skip e = rw (add-one r, drop-cons ks r none lk, drop-cons xs r d lx, e)
 
-  entries-put : (k : Kind) → get_or ks r none ≡ some k → of_entries (drop r ks) (drop r xs) ≡ slot_at xs r ∷ of_entries (drop (r + 1) ks) (drop (r + 1) xs)
-  entries-put k e = rw (add-one r, drop-cons ks r none lk, drop-cons xs r (slot_at [] 0) lx, e)
+  pub entries-put : (k : Kind) → get_or ks r none ≡ some k → of_entries (drop r ks) (drop r xs) ≡ get_or xs r d ∷ of_entries (drop (r + 1) ks) (drop (r + 1) xs)
+  entries-put k e = rw (add-one r, drop-cons ks r none lk, drop-cons xs r d lx, e)
 
-entries-end : (ks : List (Option Kind)) (xs : List Slot) (r : ℕ) → length ks ≤ r → of_entries (drop r ks) (drop r xs) ≡ []
+pub entries-end : {A : Type 0} (ks : List (Option Kind)) (xs : List A) (r : ℕ) → length ks ≤ r → of_entries (drop r ks) (drop r xs) ≡ []
 entries-end ks xs r h = rw (drop_of_length-le ks h)
 
 -- the pairs and the lines of the entries
@@ -55,12 +55,12 @@ module _ (ks : List (Option Kind)) (xs : List Slot) (first : ℕ) (p : List ℕ)
     module _ (lk : r < length ks) (lx : r < length xs) where
       pub written-skip : get_or ks r none ≡ none → Written ks xs first p q k (r + 1)
       written-skip h =
-          let s = sym (entries-skip ks xs r lk lx h) in
+          let s = sym (entries-skip ks xs (slot_at [] 0) r lk lx h) in
           record { left = rw s w.left; same = rw s w.same }
 
       module _ (x : Kind) (h : get_or ks r none ≡ some x) where
         here : of_entries (drop r ks) (drop r xs) ≡ slot_at xs r ∷ of_entries (drop (r + 1) ks) (drop (r + 1) xs)
-        here = entries-put ks xs r lk lx x h
+        here = entries-put ks xs (slot_at [] 0) r lk lx x h
 
         pub written_more : k + 1 ≤ first + length (of_entries ks xs)
         written_more = omega (arith, w.left, ap length here)

@@ -92,11 +92,11 @@ module _ (stated : Stated) (S : Slices) (p : List ℕ) where
   abbrev pub filled : File → List ℕ → List ℕ
   filled f w = set_triples (first_pair f) (file_given stated S a f).pairs (file_given stated S a f).lines w
 
-  at_first : Held ac2 0 text p → Going later_slices p p
+  pub at_first : Held ac2 0 text p → Going later_slices p p
   at_first h = record { held = h; book = refl; rest = refl; places = refl; beyond = refl }
 
   module _ (f : File) (l : 2 ≤ file_number f) (cs : List Slice) (w q : List ℕ) (h : Going (file_slice f ∷ cs) w q) where
-    file_went : (y : Figures) (v : List ℕ) → JudgesNext f (Ok y) q v → Going cs (filled f w) v × FiguresAs f y
+    pub file_went : (y : Figures) (v : List ℕ) → JudgesNext f (Ok y) q v → Going cs (filled f w) v × FiguresAs f y
     file_went y v j =
         let g : FileRead = j.0 in
         let s : judge_file f stated a (S.file f) ≡ acceptance g = ap (λ (b : List (List ℕ)). judge_file f stated b (S.file f)) (sym h.book) ∙ j.1 in
@@ -113,7 +113,7 @@ module _ (stated : Stated) (S : Slices) (p : List ℕ) where
           j.2 ∙ ap (figures_of f) e,
         )
 
-    file_stopped : (e : Refusal) (v : List ℕ) → JudgesNext f (Err e) q v → JudgesSlices later_files whole (Err e) p v
+    pub file_stopped : (e : Refusal) (v : List ℕ) → JudgesNext f (Err e) q v → JudgesSlices later_files whole (Err e) p v
     file_stopped e v j =
         let s : judge_file f stated a (S.file f) ≡ refusal_of e = ap (λ (b : List (List ℕ)). judge_file f stated b (S.file f)) (sym h.book) ∙ j.0 in
         (h.rest ∙ ap (λ (y : Answer FileRead). followed y (λ g. each_accepted stated S a cs x)) s, j.1 ∙ h.beyond)

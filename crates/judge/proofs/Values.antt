@@ -65,7 +65,7 @@ module _ {file c names : ℕ} {b : Booking} {s t p : List ℕ} (w : ValuesReady 
   pub fixed-few : {k : ℕ} → k ≡ of_number 0 (λ f. length (fixed_sections f)) file → k ≤ c
   fixed-few e = omega (arith, e ∙ by-file file w.number 0 (λ f. length (fixed_sections f)), w.least)
 
-  axles-are : {k : ℕ} → k ≡ of_number 0 (λ f. length (fixed_sections f)) file → c - k ≡ n
+  pub axles-are : {k : ℕ} → k ≡ of_number 0 (λ f. length (fixed_sections f)) file → c - k ≡ n
   axles-are e = ap (λ (x : ℕ). c - x) (e ∙ by-file file w.number 0 (λ f. length (fixed_sections f)))
 
   number-held : {m : ℕ} → m ≡ n → NumberHeld file m t p
@@ -92,7 +92,7 @@ module _ {file c names : ℕ} {b : Booking} {s t p : List ℕ} (w : ValuesReady 
   -- ---- the entries of its sections
 
   module _ {count : ℕ} (e : count ≡ entries_before (table_of file) c) where
-    count-is : count ≡ size
+    pub count-is : count ≡ size
     unfolding entries
     count-is =
         e ∙ ap (λ (x : List Section). entries_before x c) (table file w.number)
@@ -116,7 +116,7 @@ module _ {file c names : ℕ} {b : Booking} {s t p : List ℕ} (w : ValuesReady 
 
       -- 10, for the conditions k that were made
       module _ {k : Conditions} (ek : k ≡ with_links b (links_numbered file t p)) {x : Option ℕ} (h : x ≡ found_below count (first_not_as_due_from (λ i. due_in file i k) 0 (filled_pairs (pairs_at p first count)))) where
-        due-is : x ≡ found_below count (first_not_as_due f conditions vs)
+        pub due-is : x ≡ found_below count (first_not_as_due f conditions vs)
         due-is =
             let q : k ≡ conditions = ek ∙ ap₂ (λ (x : Booking) (m : ℕ). with_links x (links_numbered m t p)) w.says.1 (sym w.number) ∙ conditions-file f n (new_values s p) t p in
             h

@@ -3,7 +3,7 @@
 // slices and how many places are lent, and then the bytes of these nine. Each place holds 7 before.
 #![tactic(auto)]
 
-ghost use Rattle.std.specs.Prelude.{◌+◌, ◌≤◌, length, IfSome};
+ghost use Rattle.std.specs.Prelude.{◌+◌, ◌≤◌, ◌<◌, length, IfSome};
 
 use judge::SetSlices;
 use refusals::Refusal;
@@ -29,6 +29,7 @@ struct Case<'a> {
 // The number at `at`.
 fn number(header: &[u8; HEADER_SIZE], at: usize) -> usize
     requires { at + 4 ≤ 40 }
+    ensures { result < 4294967296 }
 {
     u32::from_le_bytes([header[at], header[at + 1], header[at + 2], header[at + 3]]) as usize
 }

@@ -6,7 +6,7 @@ use Prim.Native.Nat.{ℕ, zero, suc, ◌+◌, ◌-◌, ◌*◌, ◌<◌, ◌≤�
 use native.Mathlib.Omega.{arith}
 use native.Mathlib.Nat.{pow-suc, pow-le-pow_right, le_of_suc-le-suc, add-zero}
 use native.Mathlib.Numerals.{add-one}
-use borrow.Author.Tests.{leb-true, eqb-true, lt-leb, eq-eqb, ne_eqb}
+use borrow.Author.Tests.{leb-true, eqb-true, le-leb, lt-leb, eq-eqb, ne_eqb}
 use lib.Dec.{leb, eqb, lit<}
 use lib.ListN.{length, get_or, take, drop, length-take, length-drop, drop_of_length-le, get_or-eq_default}
 use lib.Seq.{drop-cons}
@@ -17,7 +17,7 @@ use Rattle.lines.proofs.Bools.{clash, and_left, and_right, and-false}
 use Rattle.lines.proofs.Bytes.{same-is, same_refl}
 pub use Rattle.lines.proofs.Bools.{and-true, by-test}
 use Rattle.kinds.specs.Digits.{is_digit, all_digits, number, number_from}
-use Rattle.kinds.specs.Value.{is_s_or_n, all_s_or_n, is_fixed, are_digits, point_place, is_word_at, word_index, is_string, is_exact, is_number, kind_ok}
+use Rattle.kinds.specs.Value.{starts_with, is_s_or_n, all_s_or_n, is_fixed, are_digits, point_place, is_word_at, word_index, is_string, is_exact, is_number, kind_ok}
 use Rattle.kinds.specs.Kind.{Kind, S, C, NoKind, kind_of, numbered}
 
 -- every digit of a list is one, in std's words
@@ -216,3 +216,27 @@ same_number n s t p q =
 pub ruleset texts = (text-empty, text-unprintable)
 
 pub ruleset numbers = (number_step, digit_at, rest_at, grows, small)
+
+-- the number of few digits is below that of more
+pub below : (m : ℕ) (l : List ℕ) {n : ℕ} → length l ≤ m → n < 10 ^ length l → n < 10 ^ m
+below m l h e = let p : 10 ^ length l ≤ 10 ^ m = pow-le-pow_right (lit< tt) h in omega arith
+
+-- past a list's end no word is the value
+pub no_word : (ws : List (List ℕ)) (k : ℕ) (v : List ℕ) → length ws ≤ k → is_word_at ws k v ≡ false
+unfolding is_word_at
+no_word [] k v h = refl
+no_word (w ∷ ws) zero v h = absurd (omega arith)
+no_word (w ∷ ws) (suc k) v h = no_word ws k v (le_of_suc-le-suc h)
+
+pub starts-long : (c : ℕ) (v : List ℕ) → starts_with c v ≡ true → 1 ≤ length v
+unfolding starts_with
+starts-long c v e = leb-true 1 (length v) (and_left _ _ e)
+
+-- S and C of any width, of a filled value of printable bytes: only the length is left to test
+pub string-length : (w : ℕ) (v : List ℕ) → 1 ≤ length v → all_printable v ≡ true → leb (length v) w ≡ is_string w v
+unfolding is_string
+string-length w v h p = simp (le-leb 1 (length v) h, p) (sym (and-true (leb (length v) w)))
+
+pub exact-length : (w : ℕ) (v : List ℕ) → 1 ≤ length v → all_printable v ≡ true → eqb (length v) w ≡ is_exact w v
+unfolding is_exact
+exact-length w v h p = simp (le-leb 1 (length v) h, p) (sym (and-true (eqb (length v) w)))

@@ -8,7 +8,7 @@ pub mod words; // words.rt: the words of the kinds
 ghost use Rattle.std.specs.Prelude.{◌≡◌, ℕ, IsTrue, IfSome, get_or, true, cond, ◌+◌, ◌*◌, ◌≤◌, ◌<◌, ◌^◌, [], ◌∷◌, length, take, drop, leb, position, Some, None};
 ghost use Rattle.lines.specs.Bytes.{all_printable, same_bytes};
 ghost use Rattle.kinds.specs.Kind.{kind_of};
-ghost use Rattle.kinds.specs.Digits.{all_digits, number as Digits·number};
+ghost use Rattle.kinds.specs.Digits.{is_digit, all_digits, number as Digits·number};
 ghost use Rattle.kinds.specs.Value.{is_number, is_fixed, is_leap, days_in, is_year, is_gregorian, are_digits, is_day, is_time, word_index, is_word, words_of, is_drift, bare as Value·bare, is_temperature, is_plate, is_first_date, is_first_day, is_s_or_n, all_s_or_n, is_positions, kind_ok, kind_kept};
 ghost use Rattle.kinds.specs.Meaning.{number_read, hundredths as Meaning·hundredths, signed as Meaning·signed, signed_read, drift_read, revs, revs_read, first_day_read, date_of, date_read, seconds_of, time_read};
 
@@ -27,10 +27,16 @@ pub struct Revs {
     pub byhand: bool,
 }
 
+fn is_digit(c: u8) -> bool
+    ensures { result ≡ is_digit c }
+{
+    matches!(c, b'0'..=b'9')
+}
+
 pub fn all_digits(part: &[u8]) -> bool
     ensures { result ≡ all_digits part.now }
 {
-    part.iter().all(|c| c.is_ascii_digit())
+    part.iter().all(|&c| is_digit(c))
 }
 
 // The number that digits spell: nine of them fit.
@@ -99,7 +105,7 @@ fn has_day(year: u32, month: u32, day: u32) -> bool
 fn is_year(year: u32) -> bool
     ensures { result ≡ is_year year }
 {
-    1900 <= year && year <= 2099
+    matches!(year, 1900..=2099)
 }
 
 #[tactic(auto, unfolding(crate::specs::Value::is_gregorian))]
@@ -107,7 +113,7 @@ fn is_gregorian(date: Date) -> bool
     ensures { result ≡ is_gregorian date.day date.month date.year }
 {
     let Date { day, month, year } = date;
-    is_year(year) && 1 <= month && month <= 12 && 1 <= day && has_day(year, month, day)
+    is_year(year) && matches!(month, 1..=12) && 1 <= day && has_day(year, month, day)
 }
 
 // Exactly `count` digits.
@@ -200,7 +206,7 @@ fn is_first_date(date: Date) -> bool
     ensures { result ≡ is_first_date date.day date.month date.year }
 {
     if date.day == 0 {
-        is_year(date.year) && date.month <= 12
+        is_year(date.year) && matches!(date.month, 0..=12)
     } else {
         is_gregorian(date)
     }

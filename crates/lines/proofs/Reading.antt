@@ -64,7 +64,7 @@ unfolding line_at
 at-end s c h = simp (le-leb (length s) c.at h)
 
 module _ (s : List ℕ) (c : Cursor) (e : ℕ) (h : c.at < length s) (q : e ≡ c.at + printable_run (drop c.at s)) where
-  line-from : line_from s c.at e (lines_before c + 1) ≡ line_at s c
+  pub line-from : line_from s c.at e (lines_before c + 1) ≡ line_at s c
   unfolding line_at
   line-from = simp (lt-leb (length s) c.at h) (rw q)
 
@@ -103,7 +103,45 @@ module _ (s : List ℕ) (a q e : ℕ) (name : q ≡ a + name_run (drop a s)) (en
       let g : e - a ≡ printable_run (drop a s) = omega (arith, entry-run) in
       rw g (ap (λ (m : ℕ). a + m) (name-run (drop a s)).1 ∙ sym name)
 
--- ---- the form of the line from the position to e
+-- ---- the form of a line from a to e
+
+module _ (s : List ℕ) (a e n : ℕ) (h : a < e) (k : e ≤ length s) where
+  len : length (part s a e) ≡ e - a
+  len = simp (length-take, length-drop) (omega arith)
+
+  first : get_or (part s a e) 0 0 ≡ get_or s a 0
+  first = get_or-take (e - a) (drop a s) 0 0 (omega arith) ∙ simp (get_or-drop, add-zero)
+
+  last : get_or (part s a e) (length (part s a e) - 1) 0 ≡ get_or s (e - 1) 0
+  last =
+      rw len (get_or-take (e - a) (drop a s) (e - a - 1) 0 (omega arith) ∙ get_or-drop a s (e - a - 1) 0 ∙ ap (λ (m : ℕ). get_or s m 0) (omega arith))
+
+  ends : a + length (part s a e) ≡ e
+  ends = omega (arith, len)
+
+  after : a + (length (part s a e) + 2) ≡ e + 2
+  after = omega (arith, len)
+
+  pub heading-form : get_or s a 0 ≡ 91 → get_or s (e - 1) 0 ≡ 93 → Heading a e (record { at = e + 2; line = n }) ≡ line_form (part s a e) a n
+  unfolding line_form
+  heading-form p q = simp (first, last, eq-eqb _ _ p, eq-eqb _ _ q, ends, after)
+
+  pub open-form : get_or s a 0 ≡ 91 → (get_or s (e - 1) 0 ≡ 93 → ⊥) → Bad n ≡ line_form (part s a e) a n
+  unfolding line_form
+  open-form p q = simp (first, last, eq-eqb _ _ p, ne_eqb _ _ q)
+
+  module _ (p : get_or s a 0 ≡ 91 → ⊥) (f : ℕ) (q : a + before 61 (part s a e) ≡ f) where
+    pub no-equals-form : f ≡ e → Bad n ≡ line_form (part s a e) a n
+    unfolding line_form
+    no-equals-form r = simp (first, ne_eqb _ _ p, le-ltb (before 61 (part s a e)) (length (part s a e)) (omega (arith, len)))
+
+    pub entry-form : (f ≡ e → ⊥) → Entry a f e (record { at = e + 2; line = n }) ≡ line_form (part s a e) a n
+    unfolding line_form
+    entry-form r =
+        let u = prefix_len-le-length (λ b. not (eqb b 61)) (part s a e) in
+        simp (first, ne_eqb _ _ p, lt-ltb (before 61 (part s a e)) (length (part s a e)) (omega (arith, len, u)), ends, after, q)
+
+-- ---- and of the one from the position to e
 
 module _ (s : List ℕ) (c : Cursor) (e : ℕ) (h : c.at < length s) (run : e ≡ c.at + printable_run (drop c.at s)) (i : is_line s c.at e ≡ true) where
   abbrev a : ℕ
@@ -115,40 +153,21 @@ module _ (s : List ℕ) (c : Cursor) (e : ℕ) (h : c.at < length s) (run : e �
   long : a < e
   long = (line-is s a e i).some
 
-  len : length (part s a e) ≡ e - a
-  len = simp (length-take, length-drop) (omega (arith, line-is s a e i))
-
-  first : get_or (part s a e) 0 0 ≡ get_or s a 0
-  first = get_or-take (e - a) (drop a s) 0 0 (omega (arith, long)) ∙ simp (get_or-drop, add-zero)
-
-  last : get_or (part s a e) (length (part s a e) - 1) 0 ≡ get_or s (e - 1) 0
-  last =
-      rw len (get_or-take (e - a) (drop a s) (e - a - 1) 0 (omega (arith, long)) ∙ get_or-drop a s (e - a - 1) 0 ∙ ap (λ (m : ℕ). get_or s m 0) (omega (arith, long)))
-
-  ends : a + length (part s a e) ≡ e
-  ends = omega (arith, len, long)
-
-  after : a + (length (part s a e) + 2) ≡ e + 2
-  after = omega (arith, len, long)
+  within : e ≤ length s
+  within = omega (arith, line-is s a e i)
 
   pub heading-line : get_or s a 0 ≡ 91 → get_or s (e - 1) 0 ≡ 93 → Heading a e (record { at = e + 2; line = n }) ≡ line_at s c
-  unfolding line_form
-  heading-line p q = simp (first, last, eq-eqb _ _ p, eq-eqb _ _ q, ends, after) at (good-line s c e h run i)
+  heading-line p q = heading-form s a e n long within p q ∙ good-line s c e h run i
 
   pub open-line : get_or s a 0 ≡ 91 → (get_or s (e - 1) 0 ≡ 93 → ⊥) → Bad n ≡ line_at s c
-  unfolding line_form
-  open-line p q = simp (first, last, eq-eqb _ _ p, ne_eqb _ _ q) at (good-line s c e h run i)
+  open-line p q = open-form s a e n long within p q ∙ good-line s c e h run i
 
   module _ (p : get_or s a 0 ≡ 91 → ⊥) (f : ℕ) (q : a + before 61 (part s a e) ≡ f) where
     pub no-equals-line : f ≡ e → Bad n ≡ line_at s c
-    unfolding line_form
-    no-equals-line r = simp (first, ne_eqb _ _ p, le-ltb (before 61 (part s a e)) (length (part s a e)) (omega (arith, len, long))) at (good-line s c e h run i)
+    no-equals-line r = no-equals-form s a e n long within p f q r ∙ good-line s c e h run i
 
     pub entry-line : (f ≡ e → ⊥) → Entry a f e (record { at = e + 2; line = n }) ≡ line_at s c
-    unfolding line_form
-    entry-line r =
-        let u = prefix_len-le-length (λ b. not (eqb b 61)) (part s a e) in
-        simp (first, ne_eqb _ _ p, lt-ltb (before 61 (part s a e)) (length (part s a e)) (omega (arith, len, long, u)), ends, after, q) at (good-line s c e h run i)
+    entry-line r = entry-form s a e n long within p f q r ∙ good-line s c e h run i
 
 pub ruleset line_tests = (ended-is, le-leb, lt-leb, eq-eqb, ne_eqb)
 

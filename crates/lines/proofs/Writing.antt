@@ -1,18 +1,29 @@
 -- Laws of writing: writes one after the other are one write. Assumes nothing.
-use Prim.Native.Nat.{ℕ, ◌+◌, ◌-◌, ◌≤◌}
-use native.Mathlib.Nat.{zero-add}
+use Prim.Native.Nat.{ℕ, suc, ◌+◌, ◌-◌, ◌<◌, ◌≤◌}
+use native.Mathlib.Nat.{le_refl, zero-add}
 use native.Mathlib.Omega.{arith}
+use native.Mathlib.Numerals.{add-one}
 use mathlib.Core.Path.{◌≡◌, refl, sym, ap, subst, ◌∙◌}
 use mathlib.Core.List.{List, [], ◌∷◌, ◌++◌, append_assoc, append-nil}
-use lib.ListN.{length, take, drop, length-append, length-drop, drop_of_length-le}
-use lib.Seq.{take_at, drop_at, drop-drop}
+use lib.ListN.{length, get_or, set, take, drop, length-append, length-drop, drop_of_length-le}
+use lib.Seq.{paste, paste-suc, take_at, drop_at, drop-drop, take_all}
 use borrow.Rule.Slice.PartMut.{mid_of, put_mid}
 use Rattle.std.proofs.lemmas.List.{take_rest}
 use Rattle.lines.specs.Line.{Line, heading, entry, line_end, written_line, written_length}
 use Rattle.lines.specs.Writing.{put, Wrote}
 
+-- a loop's turn at the beginning: the next byte of s is written
+pub paste-next : (d s : List ℕ) (i : ℕ) → i < length s → i < length d → set (paste d 0 s i) i (get_or s i 0) ≡ paste d 0 s (i + 1)
+paste-next d s i h l =
+    rw add-one (subst (λ k. set (paste d 0 s i) k (get_or s i 0) ≡ paste d 0 s (suc i)) (zero-add i) (paste-suc d 0 s i 0 (omega arith) h))
+
+-- the loop's end: all of s is written
+pub put-paste : (d : List ℕ) (a : ℕ) (s : List ℕ) (n : ℕ) → n ≡ length s → paste d a s n ≡ put d a s
+unfolding put
+put-paste d a s n e = rw (e, take_all (length s) s (le_refl (length s)))
+
 -- bytes written at the beginning, and what is left behind them
-at-start : {d s e : List ℕ} {r : ℕ} → Wrote d 0 s e r → (r ≡ length s) × (e ≡ s ++ drop (length s) d)
+pub at-start : {d s e : List ℕ} {r : ℕ} → Wrote d 0 s e r → (r ≡ length s) × (e ≡ s ++ drop (length s) d)
 unfolding put
 at-start {d} {s} p = (omega (arith, p.place), p.list ∙ rw zero-add refl)
 

@@ -296,13 +296,14 @@ pub fn equal(a: &[u8], b: &[u8]) -> bool
     compare(a, b).equal
 }
 
-// The bytes of `part` at the beginning of `out`; how many.
-#[tactic(auto, unfolding(crate::specs::Writing::put))]
-fn write(out: &mut [u8], part: &[u8]) -> usize
+// The bytes of `part` at the beginning of `out`; how many. A loop and no `copy_from_slice`, which would have C programs bring a `memmove`.
+pub fn write(out: &mut [u8], part: &[u8]) -> usize
     requires { length part.now ≤ length out.old }
     ensures { Wrote out.old 0 part.now out.new result }
 {
-    out[..part.len()].copy_from_slice(part);
+    for i in 0..part.len() {
+        out[i] = part[i];
+    }
     part.len()
 }
 

@@ -59,7 +59,7 @@ fn copy_name(file: u32, section: usize, name: &[u8], output: &mut [u8]) -> Resul
             line: 0,
         });
     }
-    output[..size].copy_from_slice(name);
+    lines::write(output, name);
     Ok(Named {
         length: size as u32,
         section: section as u32,

@@ -168,3 +168,13 @@ assigned ks l c e = rw (filled_none ks, append-nil) at (assign-sound ks l (repli
 
 pub assigns : (ks : List Row) (l : List Item) (c : Found) → Distinct ks → length c ≡ length ks → Perm l (filled ks c) → assign ks (replicate (length ks) none) l ≡ some c
 assigns ks l c p n d = assign-perm ks (Permᴰ.symm d) (replicate (length ks) none) c (assign-filled ks c p n)
+
+-- filling keeps the rows' number
+pub assign-length : (ks : List Row) (l : List Item) (a c : Found) → assign ks a l ≡ some c → length c ≡ length a
+unfolding assign
+assign-length ks [] a c e = ap length (some_inj e)
+  where
+    some_inj : some a ≡ some c → c ≡ a
+    some_inj e = cc
+assign-length ks (p ∷ l) a c e =
+    assign-length ks l (set a (row_number p.0 ks) (some p.1)) c (assign-inv ks a p l c e).1 ∙ length-set a (row_number p.0 ks) (some p.1)

@@ -59,6 +59,16 @@ pub fn set_triple(places: &mut [u32], k: usize, start: u32, size: u32, line: u32
     places[at + 2] = line;
 }
 
+// The value that pair k names, which lies within the text. It is the text's alone: the places may change under it.
+pub fn value_of<'a>(text: &'a [u8], places: &[u32], k: usize) -> &'a [u8]
+    requires { (place_size * (k + 1) ≤ length places.now) × (start_of places.now k + length_of places.now k ≤ length text.now) }
+    ensures { result.now ≡ value_of text.now places.now k }
+{
+    let start = start_of(places, k) as usize;
+    let end = start + length_of(places, k) as usize;
+    &text[start..end]
+}
+
 // A text with the places of its values.
 #[derive(Debug, Clone, Copy)]
 pub struct PlacedText<'a> {
@@ -80,9 +90,7 @@ impl<'a> PlacedText<'a> {
         requires { (place_size * (k + 1) ≤ length self.places.now) × (start_of self.places.now k + length_of self.places.now k ≤ length self.text.now) }
         ensures { result.now ≡ value_of self.entry.text.now self.entry.places.now k }
     {
-        let start = start_of(self.places, k) as usize;
-        let end = start + self.length(k) as usize;
-        &self.text[start..end]
+        value_of(self.text, self.places, k)
     }
 }
 

@@ -35,6 +35,34 @@ module _ (wrong : ℕ → Bool) (number : ℕ) (line : ℕ → ℕ) where
   wrong-none zero r h = refl
   wrong-none (suc n) r h = rw (h r (omega arith) (omega arith)) (wrong-none n (r + 1) (λ (j : ℕ) (p : r + 1 ≤ j) (q : j < r + 1 + n). h j (omega arith) (omega arith)))
 
+  -- rows one part after the other
+  pub wrong-over : (n m r : ℕ) → first n r ≡ passes → first (n + m) r ≡ first m (r + n)
+  unfolding first_wrong
+  wrong-over zero m r e =
+      let p : 0 + m ≡ m = omega arith in
+      let q : r + 0 ≡ r = omega arith in
+      rw (p, q)
+  wrong-over (suc n) m r e =
+      let p : suc n + m ≡ suc (n + m) = omega arith in
+      rw p (go (wrong r) e (wrong-over n m (r + 1)))
+    where
+      go : (t : Bool) → cond t (fails number (line r)) (first n (r + 1)) ≡ passes → (first n (r + 1) ≡ passes → first (n + m) (r + 1) ≡ first m (r + 1 + n))
+          → cond t (fails number (line r)) (first (n + m) (r + 1)) ≡ first m (r + suc n)
+      go true e ih = clash (cc)
+      go false e ih = ih e ∙ ap (λ (x : ℕ). first m x) (omega arith)
+
+  pub wrong-early : (n m r k l : ℕ) → first n r ≡ fails k l → first (n + m) r ≡ fails k l
+  unfolding first_wrong
+  wrong-early zero m r k l e = clash (cc)
+  wrong-early (suc n) m r k l e =
+      let p : suc n + m ≡ suc (n + m) = omega arith in
+      rw p (go (wrong r) e (wrong-early n m (r + 1) k l))
+    where
+      go : (t : Bool) → cond t (fails number (line r)) (first n (r + 1)) ≡ fails k l → (first n (r + 1) ≡ fails k l → first (n + m) (r + 1) ≡ fails k l)
+          → cond t (fails number (line r)) (first (n + m) (r + 1)) ≡ fails k l
+      go true e ih = e
+      go false e ih = ih e
+
   -- a loop's turn, from r to e
   module _ (r e : ℕ) where
     pub wrong-next : r < e → wrong r ≡ false → first (e - r) r ≡ first (e - (r + 1)) (r + 1)

@@ -132,6 +132,9 @@ not_free l r h = ap (λ (x : ℕ). eqb x 0) (get_or-eq_default l 1 h)
 pub free-is : (l : List ℕ) (r : ℕ) → r < length l → get_or l r 0 ≡ 0 → is_free l r ≡ true
 free-is l r h e = eq-eqb (get_or l r 1) 0 (get_or_default l r 1 0 h ∙ e)
 
+pub taken_is : (l : List ℕ) (r : ℕ) → r < length l → ¬ (get_or l r 0 ≡ 0) → is_free l r ≡ false
+taken_is l r h n = ne_eqb (get_or l r 1) 0 (λ e. n (get_or_default l r 0 1 h ∙ e))
+
 -- a section whose heading has a row is one of the table's
 pub in_table : (t : List Section) (c : ℕ) → rows_before t c < row_count t → c < length t
 in_table t c l = by-test (ltb c (length t)) (ltb-true c (length t)) (λ e. absurd (omega (arith, rows_all t (ltb-false c (length t) e))))

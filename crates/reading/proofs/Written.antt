@@ -1,19 +1,24 @@
--- Values that are kept, and their lines in table order, which fit them. Assumes nothing.
+-- Values that are kept, and their lines in table order, which fit them, so that a written text is read back. Assumes nothing.
 use Prim.Native.Nat.{ℕ, zero, suc, ◌≤◌, ◌<◌}
 use mathlib.Core.Path.{◌≡◌, refl, ap, sym, ◌∙◌}
 use mathlib.Core.Bool.{true}
 use mathlib.Core.List.Permᴰ
-use mathlib.Core.List.{List, [], ◌∷◌, ◌++◌}
+use mathlib.Core.List.{List, [], ◌∷◌, ◌++◌, map}
 use native.Mathlib.Omega.{arith}
 use Rattle.std.proofs.lemmas.List.{nil_from_length}
 use lib.ListN.{length, get_or, take, drop, length-append, length-drop, length-map, take-append-drop}
 use lib.Seq.{length-take-le}
 use Rattle.kinds.specs.Value.{kind_kept}
+use Rattle.places.specs.Places.{Pair, value_at}
 use Rattle.tables.specs.Section.{Entry, Section, entries_of}
 use Rattle.tables.specs.Row.{no_entry, names}
 use Rattle.orders.specs.AnyOrder.{Value, Values, zip, lines_of, Each, done, next}
 use Rattle.reading.specs.Fitting.{joined, name_table, FitsText, EachKept}
+use Rattle.reading.specs.Reading.{read, read_text}
+use Rattle.reading.specs.Tables.{distinct_rows, clean_table}
+use Rattle.reading.specs.Theorem.{IsText}
 use Rattle.reading.specs.Writing.{groups_of, write_text}
+use Rattle.reading.proofs.Theorem.{complete}
 
 parts_of : List Section → List Value → Values
 parts_of [] vs = []
@@ -73,3 +78,12 @@ written t vs n =
       in-any-order = record { groups = groups_of t vs; each = each-written t vs n; order = groups_of t vs; any_order = Permᴰ.refl (groups_of t vs); are = refl };
       text-is = refl;
     }
+
+-- of every table: what is written in table order from kept values is their text, and is read back
+module _ (t : List Section) (least : ℕ) (apart : distinct_rows t ≡ true) (clean : clean_table t ≡ true) (c : ℕ) (vs : List Value)
+    (enough : least ≤ c) (most : c ≤ length t) (kept : EachKept (entries_of (take c t)) vs) where
+  pub written_is : IsText t least c vs (write_text (take c t) vs)
+  written_is = record { enough = enough; most = most; fits = written (take c t) vs (kept-length (entries_of (take c t)) vs kept); kept = kept }
+
+  pub read_back : (ps : List Pair) × (ls : List ℕ) × (read_text t least (write_text (take c t) vs) ≡ read c ps ls) × (map (value_at (write_text (take c t) vs)) ps ≡ vs)
+  read_back = complete t least (write_text (take c t) vs) apart clean c vs written_is

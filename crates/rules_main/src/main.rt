@@ -452,20 +452,29 @@ fn file_at(title: &[u8], place: usize) -> u32 {
     }
 }
 
-fn show_case(out: &mut impl Write, title: &[u8], first: &[u8], second: &[u8]) -> io::Result<()> {
+// By the due entries or the rules of a file beside AC2. The places stand here, so that no other case fills them; nor is it
+// inlined, so that no other case makes room for them.
+#[inline(never)]
+fn show_beside(out: &mut impl Write, title: &[u8], booking: &[u8], text: &[u8]) -> io::Result<()> {
     let mut places = [0u32; LEAST_PLACES];
     if title.starts_with(b"due") {
         let file = file_at(title, 4);
-        match read_beside(out, file, first, second, &mut places)? {
+        match read_beside(out, file, booking, text, &mut places)? {
             Some(case) => show_due(out, case),
             None => Ok(()),
         }
-    } else if title.starts_with(b"rules") {
+    } else {
         let file = file_at(title, 6);
-        match read_beside(out, file, first, second, &mut places)? {
+        match read_beside(out, file, booking, text, &mut places)? {
             Some(case) => show_rules(out, case),
             None => Ok(()),
         }
+    }
+}
+
+fn show_case(out: &mut impl Write, title: &[u8], first: &[u8], second: &[u8]) -> io::Result<()> {
+    if title.starts_with(b"due") || title.starts_with(b"rules") {
+        show_beside(out, title, first, second)
     } else if title.starts_with(b"stem") {
         show_stem(out, first)
     } else if title.starts_with(b"given") {

@@ -1,16 +1,15 @@
 -- Bytes are cut into fields at each 17 hex exactly as fields are joined by it. Assumes nothing.
-use Prim.Native.Nat.{ℕ, suc, ◌+◌, ◌-◌, ◌≤◌, ◌<◌}
+use Prim.Native.Nat.{ℕ, zero, suc, ◌+◌, ◌-◌, ◌≤◌, ◌<◌}
 use native.Mathlib.Numerals.{add-one, one-add}
 use native.Mathlib.Omega.{arith}
-use native.Mathlib.Nat.{add-sub_cancel_left}
+use native.Mathlib.Nat.{add-sub_cancel_left, sub-zero}
 use mathlib.Core.Path.{◌≡◌, refl, ap, ap₂, sym, ◌∙◌}
 use mathlib.Core.Bool.{true, not, ◌&&◌}
 use mathlib.Core.List.{List, [], ◌∷◌, ◌++◌}
 use lib.Dec.{leb, eqb}
 use lib.ListN.{length, get_or, take, drop, length-drop}
-use lib.Seq.{drop-drop, take_all, take_at, drop_at, take-take}
+use lib.Seq.{drop-drop, take_all, take_at, drop_at, take-take, take-nil}
 use borrow.Author.Tests.{leb-true, eqb-true, ne_eqb, not-true}
-use Rattle.std.proofs.lemmas.List.{drop-take}
 use Rattle.std.proofs.lemmas.List.Sums.{split_at_first, passes_at_first}
 use Rattle.lines.specs.Bytes.{part, is_printable, all_printable, without, before}
 use Rattle.kinds.specs.Digits.{all_digits}
@@ -24,8 +23,18 @@ use Rattle.kinds.proofs.Values.{digits-printable}
 
 -- ---- parts of the bytes before a place
 
+pub drop-take : (a m : ℕ) (t : List ℕ) → drop a (take m t) ≡ take (m - a) (drop a t)
+drop-take zero m t = rw (sub-zero m) refl
+drop-take (suc a) zero t =
+    let z : 0 - suc a ≡ 0 = omega arith in
+    rw z refl
+drop-take (suc a) (suc m) [] = sym (take-nil (suc m - suc a))
+drop-take (suc a) (suc m) (x ∷ t) =
+    let d : suc m - suc a ≡ m - a = omega arith in
+    drop-take a m t ∙ ap (λ (k : ℕ). take k (drop a t)) (sym d)
+
 pub drop-before : (a m : ℕ) (t : List ℕ) → a ≤ m → drop a (take m t) ≡ take (m - a) (drop a t)
-drop-before a m t h = let k : a + (m - a) ≡ m = omega arith in rw k at (drop-take a (m - a) t)
+drop-before a m t h = drop-take a m t
 
 part_of : (m a e : ℕ) (t : List ℕ) → a ≤ e → e ≤ m → part (take m t) a e ≡ part t a e
 part_of m a e t h l = rw (drop-before a m t (omega arith)) (take-take (e - a) (m - a) (drop a t) (omega arith))

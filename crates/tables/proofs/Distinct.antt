@@ -8,7 +8,7 @@ use lib.Dec.{leb, ltb}
 use lib.ListN.{length, get_or, length-map}
 use borrow.Author.Tests.{leb-true, ltb-true, ltb-false}
 use Rattle.lines.specs.Bytes.{same_bytes}
-use Rattle.lines.proofs.Bytes.{same-is}
+use Rattle.lines.proofs.Bytes.{same-is, same_refl}
 use Rattle.lines.proofs.Bools.{and_left, and_right}
 use Rattle.kinds.specs.Value.{word_index}
 use Rattle.kinds.proofs.Laws.{by-test}
@@ -43,6 +43,10 @@ index_is s (x ∷ xs) d (suc k) l e = on (same_bytes s x) refl (index_is s xs (a
         absurd (omega (arith, h, index-le s xs k (omega arith) e))
     on false q i = ap suc i
 
+-- where nothing stands twice, each is found at its own place
+pub found_at : (ns : List (List ℕ)) (i : ℕ) → distinct ns ≡ true → i < length ns → index_of (get_or ns i []) ns ≡ i
+found_at ns i d h = index_is (get_or ns i []) ns d i h (same_refl (get_or ns i []))
+
 pub heading-found : (n : ℕ) (s : List ℕ) (k : ℕ) → k < length (table_of n) → same_bytes s (heading_at (table_of n) k) ≡ true → section_of (table_of n) s ≡ k
 unfolding table_of distinct
 heading-found n s k l e =
@@ -61,7 +65,8 @@ index-found s (x ∷ xs) l = on (same_bytes s x) refl (index-found s xs) l
     on true q h l = q
     on false q h l = h (omega arith)
 
-index-most : (s : List ℕ) (xs : List (List ℕ)) → index_of s xs ≤ length xs
+-- a name is looked up to the end of a list at most
+pub index-most : (s : List ℕ) (xs : List (List ℕ)) → index_of s xs ≤ length xs
 unfolding word_index
 index-most s [] = omega arith
 index-most s (x ∷ xs) = on (same_bytes s x) (index-most s xs)

@@ -48,19 +48,24 @@ use Rattle.tables.specs.File.{
   axles_from,
   axle_entries,
 }
-use Rattle.tables.specs.Row.{names, name_in, entries_in, index_of, entry_in, row_count, row_at}
-use Rattle.tables.specs.Groups.{testers, gas_entries, group, group_of, StandsAt, lent_by, IsPlaceOf}
+use Rattle.tables.specs.Row.{names, name_in, entries_in, index_of, entry_in, row_count, row_at, most_rows}
+use Rattle.tables.specs.declared.lookup.Group.{Group}
+use Rattle.tables.specs.Groups.{testers, gas_entries, group, group_of, StandsAt, lent_by, Lent, IsPlaceOf}
 use Rattle.tables.specs.LookUps.{looked_up}
 use Rattle.tables.specs.declared.SectionPlace.{SectionPlace}
 use Rattle.tables.specs.declared.lookup.LookUp.{LookUp}
 use Rattle.std.specs.Prelude.{Option, Some, None}
 use Rattle.std.proofs.lemmas.List.{drop-map, take-map}
-use Rattle.tables.proofs.Files.{of-file, of_others}
+use Rattle.tables.proofs.Files.{of-file, of-any, of_others}
 use Rattle.tables.proofs.Rows.{row_in}
 use Rattle.tables.proofs.Listed.{lacks, finds}
 use Rattle.tables.proofs.Sections.{at-file, entries_none, drift-entries, suspension-entries}
 
 -- ---- a section in its group
+
+-- what a group lends at a place is the name there
+pub row-name : {ns : List (List ℕ)} (g : Group) → Lent ns g → (k : ℕ) → get_or (lent_by g) k [] ≡ get_or ns k []
+row-name g l k = ap (λ ns. get_or ns k []) l
 
 module _ {n c s : ℕ} (h : StandsAt n c s) where
   -- the names of a section
@@ -193,3 +198,23 @@ pub other-group : (n : ℕ) → (n ≡ 2 → ⊥) → (n ≡ 3 → ⊥) → (n �
 unfolding group group_of
 other-group n h2 h3 h4 h5 h7 =
     of_others new_booking group n (λ e. refl) (λ e. absurd (h2 e)) (λ e. absurd (h3 e)) (λ e. absurd (h4 e)) (λ e. absurd (h5 e)) (λ e. absurd (h7 e))
+
+-- ---- a group has fewer names than a file has rows
+
+few-of : (f : File) → length (group f) ≤ most_rows
+unfolding group testers gas_entries new_booking old_booking tester protocol measurement sixteen drift_axle suspension_axle analyser counter speed_test all_key_dates
+    all_key_bodies analysis fuel_analysis opacimeter opacity_test opacity_keys opacity_analysis
+few-of ac2 = omega arith
+few-of acc = omega arith
+few-of drift = omega arith
+few-of suspension = omega arith
+few-of gas = omega arith
+few-of opacity = omega arith
+
+few-else : length new_booking ≤ most_rows
+unfolding new_booking
+few-else = omega arith
+
+pub group-few : (n : ℕ) → length (group_of n) ≤ most_rows
+unfolding group_of
+group-few n = of-any new_booking group (λ g. length g ≤ most_rows) few-else few-of n

@@ -4,7 +4,7 @@ use Prim.Native.String.{String}
 use native.Mathlib.Omega.{arith}
 use native.Mathlib.Nat.{add-zero, add-suc, suc-add, suc-mul, le_of_suc-le-suc}
 use mathlib.Core.Path.{◌≡◌, ap, sym, ◌∙◌}
-use mathlib.Core.List.{List, [], ◌∷◌, map}
+use mathlib.Core.List.{List, [], ◌∷◌, ◌++◌, map}
 use lib.ListN.{length, get_or, take, length-map, get_or-map, get_or-eq_default}
 use lib.Seq.{take_all}
 use lib.Dec.{eqb}
@@ -91,10 +91,22 @@ module _ {s : ℕ} (l : 1 ≤ s) (m : s < 10) where
   unfolding sections fixed_sections axle_sections axle_entries
   drift-entries = ap (λ (x : Section). x.entries) (axle-section "[DerivaAsse_" drift_axle (section_with "[Deriva]" sixteen) 9 s l (le_of_suc-le-suc m))
 
+  pub drift-heading : heading_at (all_sections drift) s ≡ bytes "[DerivaAsse_" ++ ((48 + s) ∷ bytes "]")
+  unfolding sections fixed_sections axle_sections axle_entries
+  drift-heading =
+      heading-of (all_sections drift) s
+      ∙ ap (λ (x : Section). x.heading) (axle-section "[DerivaAsse_" drift_axle (section_with "[Deriva]" sixteen) 9 s l (le_of_suc-le-suc m))
+
   pub suspension-entries : entries_in (all_sections suspension) s ≡ suspension_axle
   unfolding sections fixed_sections axle_sections axle_entries
   suspension-entries =
       ap (λ (x : Section). x.entries) (axle-section "[SospensioniAsse_" suspension_axle (section_with "[Sospensioni]" sixteen) 9 s l (le_of_suc-le-suc m))
+
+  pub suspension-heading : heading_at (all_sections suspension) s ≡ bytes "[SospensioniAsse_" ++ ((48 + s) ∷ bytes "]")
+  unfolding sections fixed_sections axle_sections axle_entries
+  suspension-heading =
+      heading-of (all_sections suspension) s
+      ∙ ap (λ (x : Section). x.heading) (axle-section "[SospensioniAsse_" suspension_axle (section_with "[Sospensioni]" sixteen) 9 s l (le_of_suc-le-suc m))
 
   pub drift-rows : rows_before (all_sections drift) s ≡ 17 + (s - 1) * 2
   unfolding sections fixed_sections axle_sections axle_entries sixteen drift_axle tester protocol measurement

@@ -198,7 +198,7 @@ pub fn write_entries(
 }
 
 // A section's lines, its heading and then its entries, at the beginning of `output`; their length.
-fn write_section(
+pub fn write_section(
     values: PlacedText<'_>,
     file: u32,
     section: usize,
