@@ -6,9 +6,10 @@ use native.Mathlib.Numerals.{add-one}
 use mathlib.Core.Path.{◌≡◌, refl, sym, ap, subst, ◌∙◌}
 use mathlib.Core.List.{List, [], ◌∷◌, ◌++◌, append_assoc, append-nil}
 use lib.ListN.{length, get_or, set, take, drop, length-append, length-drop, drop_of_length-le}
-use lib.Seq.{paste, paste-suc, take_at, drop_at, drop-drop, take_all}
+use lib.Seq.{paste, paste-suc, take-add, take-take, take_at, drop_at, drop-drop, take_all}
 use borrow.Rule.Slice.PartMut.{mid_of, put_mid}
-use Rattle.std.proofs.lemmas.List.{take_rest}
+use Rattle.std.proofs.lemmas.List.{take_rest, take-append-le, length-take-le}
+use Rattle.std.proofs.lemmas.Slice.{drop-append-drop}
 use Rattle.lines.specs.Line.{Line, heading, entry, line_end, written_line, written_length}
 use Rattle.lines.specs.Writing.{put, Wrote}
 
@@ -16,6 +17,29 @@ use Rattle.lines.specs.Writing.{put, Wrote}
 pub paste-next : (d s : List ℕ) (i : ℕ) → i < length s → i < length d → set (paste d 0 s i) i (get_or s i 0) ≡ paste d 0 s (i + 1)
 paste-next d s i h l =
     rw add-one (subst (λ k. set (paste d 0 s i) k (get_or s i 0) ≡ paste d 0 s (suc i)) (zero-add i) (paste-suc d 0 s i 0 (omega arith) h))
+
+-- eight bytes from place m on, where the first k are written: those up to m + 8 are
+pub paste-eight : (d s : List ℕ) (m k : ℕ) → m ≤ k → k ≤ m + 8 → k ≤ length s → m + 8 ≤ length s → put (paste d 0 s k) m (take 8 (drop m s)) ≡ paste d 0 s (m + 8)
+unfolding put
+paste-eight d s m k a b l h =
+    ap (λ x. put x m (take 8 (drop m s))) (from k)
+    ∙ rw (n, front, back) (ap (λ x. x ++ drop (m + 8) d) (sym (take-add m 8 s)))
+    ∙ sym (from (m + 8))
+  where
+    from : (j : ℕ) → paste d 0 s j ≡ take j s ++ drop j d
+    from j = ap (λ x. take j s ++ drop x d) (zero-add j)
+
+    q : length (take k s) ≡ k
+    q = length-take-le k s l
+
+    n : length (take 8 (drop m s)) ≡ 8
+    n = length-take-le 8 (drop m s) (omega (arith, length-drop m s))
+
+    front : take m (take k s ++ drop k d) ≡ take m s
+    front = take-append-le m (take k s) (drop k d) (omega (arith, q)) ∙ take-take m k s a
+
+    back : drop (m + 8) (take k s ++ drop k d) ≡ drop (m + 8) d
+    back = drop-append-drop k d (take k s) (m + 8) b q
 
 -- the loop's end: all of s is written
 pub put-paste : (d : List ℕ) (a : ℕ) (s : List ℕ) (n : ℕ) → n ≡ length s → paste d a s n ≡ put d a s

@@ -9,7 +9,7 @@ ghost use Rattle.lines.specs.Words.{word_at, stops_at};
 ghost use Rattle.lines.specs.Comparison.{pieces, steps_over, comparison};
 ghost use Rattle.lines.specs.Line.{heading, entry, written_line, written_length};
 ghost use Rattle.lines.specs.Reading.{start, is_line, line_at};
-ghost use Rattle.lines.specs.Writing.{Wrote};
+ghost use Rattle.lines.specs.Writing.{put, Wrote};
 
 // The reading position: the place of the next byte, and the number of lines before it.
 #[derive(Debug, Clone, Copy, PartialEq, Eq)]
@@ -296,15 +296,42 @@ pub fn equal(a: &[u8], b: &[u8]) -> bool
     compare(a, b).equal
 }
 
-// The bytes of `part` at the beginning of `out`; how many. A loop and no `copy_from_slice`, which would have C programs bring a `memmove`.
-pub fn write(out: &mut [u8], part: &[u8]) -> usize
+// The eight bytes of `part` from `at` on, at the same place of `out`. Through an array, of which the compiler makes one load and one
+// store: two parts of any length it copies by a call of `memmove`, which a C program would have to bring.
+#[tactic(auto, unfolding(crate::specs::Writing::put))]
+fn write_eight(out: &mut [u8], part: &[u8], at: usize)
+    requires { (at + 8 ≤ length part.now) × (length part.now ≤ length out.old) }
+    ensures { out.new ≡ put out.old at (take 8 (drop at part.now)) }
+{
+    let eight = <[u8; 8]>::try_from(&part[at..at + 8]).unwrap();
+    out[at..at + 8].copy_from_slice(&eight);
+}
+
+// The bytes of `part` at the beginning of `out`, one by one.
+fn write_few(out: &mut [u8], part: &[u8])
     requires { length part.now ≤ length out.old }
-    ensures { Wrote out.old 0 part.now out.new result }
+    ensures { out.new ≡ put out.old 0 part.now }
 {
     for i in 0..part.len() {
         out[i] = part[i];
     }
-    part.len()
+}
+
+// The bytes of `part` at the beginning of `out`; how many. Eight at a time; the last eight are written last, over some that are there.
+pub fn write(out: &mut [u8], part: &[u8]) -> usize
+    requires { length part.now ≤ length out.old }
+    ensures { Wrote out.old 0 part.now out.new result }
+{
+    let size = part.len();
+    if size < 8 {
+        write_few(out, part);
+        return size;
+    }
+    for k in 0..size / 8 {
+        write_eight(out, part, k * 8);
+    }
+    write_eight(out, part, size - 8);
+    size
 }
 
 // The line of a heading at the beginning of `out`; its length.

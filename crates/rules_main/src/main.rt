@@ -452,9 +452,7 @@ fn file_at(title: &[u8], place: usize) -> u32 {
     }
 }
 
-// By the due entries or the rules of a file beside AC2. The places stand here, so that no other case fills them; nor is it
-// inlined, so that no other case makes room for them.
-#[inline(never)]
+// By the due entries or the rules of a file beside AC2. The places stand here, so that no other case fills them.
 fn show_beside(out: &mut impl Write, title: &[u8], booking: &[u8], text: &[u8]) -> io::Result<()> {
     let mut places = [0u32; LEAST_PLACES];
     if title.starts_with(b"due") {
@@ -472,19 +470,32 @@ fn show_beside(out: &mut impl Write, title: &[u8], booking: &[u8], text: &[u8]) 
     }
 }
 
-fn show_case(out: &mut impl Write, title: &[u8], first: &[u8], second: &[u8]) -> io::Result<()> {
+// The cases for which files are read. Not inlined, so that the others make no room for places.
+#[inline(never)]
+fn show_read_case(
+    out: &mut impl Write,
+    title: &[u8],
+    first: &[u8],
+    second: &[u8],
+) -> io::Result<()> {
     if title.starts_with(b"due") || title.starts_with(b"rules") {
         show_beside(out, title, first, second)
-    } else if title.starts_with(b"stem") {
-        show_stem(out, first)
     } else if title.starts_with(b"given") {
         show_given(out, first, second)
     } else if title.starts_with(b"answer") {
         show_answer(out, first, second)
+    } else {
+        Ok(())
+    }
+}
+
+fn show_case(out: &mut impl Write, title: &[u8], first: &[u8], second: &[u8]) -> io::Result<()> {
+    if title.starts_with(b"stem") {
+        show_stem(out, first)
     } else if title.starts_with(b"days") {
         show_days(out, first)
     } else {
-        Ok(())
+        show_read_case(out, title, first, second)
     }
 }
 
