@@ -452,7 +452,7 @@ fn file_at(title: &[u8], place: usize) -> u32 {
     }
 }
 
-// By the due entries or the rules of a file beside AC2. The places stand here, so that no other case fills them.
+// Judges by the due entries or the rules of a file beside AC2. The places of both stand here, so that no other case fills these.
 fn show_beside(out: &mut impl Write, title: &[u8], booking: &[u8], text: &[u8]) -> io::Result<()> {
     let mut places = [0u32; LEAST_PLACES];
     if title.starts_with(b"due") {
